@@ -5,10 +5,8 @@ from __future__ import annotations
 from typing import Iterator
 from xml.sax.saxutils import escape
 
-from wanekupo.shifts import Shift, share, summed
-from wanekupo.watching import STATES
-
-COLOURS = ["#c6dbef", "#4292c6", "#08306b", "#a1d99b", "#238b45", "#fd8d3c", "#7f2704"]
+from wanekupo.shifts import Shift, summed
+from wanekupo.yields import STATES, fill, patterns, share
 
 
 def as_svg(shift: Shift) -> str:
@@ -18,7 +16,8 @@ def as_svg(shift: Shift) -> str:
     left = max([0, *(-sum(n for n in row.values() if n < 0) for row in shift.rows.values())])
     scale, height, bottom = 690 / (left + right), 46, 72 + 46 * len(shift.rows)
     axis = 8 + left * scale
-    parts = [f'<text x="8" y="20">{shift.start} to {shift.end}</text>', *_legend()]
+    looks = f"<defs>{''.join(patterns())}</defs>"
+    parts = [looks, f'<text x="8" y="20">{shift.start} to {shift.end}</text>', *_legend()]
     for place, (key, row) in enumerate(shift.rows.items()):
         y = 72 + place * height
         parts.append(f'<text x="8" y="{y + 12}">{escape(" ".join(key).strip())}: {_changes(row)}</text>')
@@ -34,9 +33,9 @@ def as_svg(shift: Shift) -> str:
 
 
 def _legend() -> Iterator[str]:
-    for place, (state, colour) in enumerate(zip(STATES, COLOURS)):
+    for place, state in enumerate(STATES):
         x = 8 + place * 100
-        yield f'<rect x="{x}" y="32" width="12" height="12" fill="{colour}" stroke="#333"/>'
+        yield f'<rect x="{x}" y="32" width="12" height="12" fill="{fill(state)}" stroke="#333"/>'
         yield f'<text x="{x + 16}" y="43">{state}</text>'
     said = "In this order from the line outwards: what came (+) right of it, what went (-) left of it."
     yield f'<text x="8" y="62">{said}</text><text x="792" y="62" text-anchor="end">yield</text>'
@@ -53,10 +52,10 @@ def _per_cent(sums: dict[str, int]) -> str:
 def _bars(row: dict[str, int], axis: float, y: int, scale: float) -> Iterator[str]:
     """A row's bars, each behind the one before on its side."""
     ends = {1: axis, -1: axis}
-    for state, colour in zip(STATES, COLOURS):
+    for state in STATES:
         side, width = (1 if row[state] > 0 else -1), abs(row[state]) * scale
         if width:
             x = ends[1] if side > 0 else ends[-1] - width
             ends[side] += side * width
             place = f'x="{x:g}" y="{y}" width="{width:g}" height="18"'
-            yield f'<rect {place} fill="{colour}" stroke="#333"><title>{state} {row[state]:+d}</title></rect>'
+            yield f'<rect {place} fill="{fill(state)}" stroke="#333"><title>{state} {row[state]:+d}</title></rect>'

@@ -15,6 +15,7 @@ from wanekupo.errors import NoReports, NotOneWatch
 from wanekupo.moments import file_of, moment_of, name_of, tested_period, text_of
 from wanekupo.texts import csv_lines, formulas_in, shown
 from wanekupo.watching import STATES
+from wanekupo.yields import share
 
 # The counts of a report, by customer and order.
 Counts = dict[tuple[str, str], dict[str, int]]
@@ -112,12 +113,6 @@ def far_off(name: str, moment: datetime, at: str, gap: timedelta) -> str:
 def summed(row: dict[str, int]) -> dict[str, int]:
     """What no device takes back, so that it is true of each shift: begun, shipped and given up."""
     return {"begun": sum(row.values()), "shipped": row["shipped"], "given_up": row["quarantined"] + row["scrapped"]}
-
-
-def share(row: dict[str, int]) -> str:
-    """Of the devices that were finished, how many were shipped, in hundredths."""
-    done = row["shipped"] + row["given_up"]
-    return f"{100 * row['shipped'] / done:.1f}" if done else ""
 
 
 def table(shift: Shift) -> list[list[str]]:

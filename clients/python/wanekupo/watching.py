@@ -18,8 +18,7 @@ from wanekupo.errors import NotOneWatch, StationError
 from wanekupo.files import fcntl, opened_plain, synced_folder
 from wanekupo.moments import file_of, text_of
 from wanekupo.texts import csv_lines, csv_rows, formulas_in, shown
-
-STATES = ["registered", "planned", "settled", "identified", "shipped", "quarantined", "scrapped"]
+from wanekupo.yields import STATES
 
 # What stands before a report's own columns: when it was asked for, how many rows it has, and whose it is.
 OWN = ["time", "rows", "customer"]

@@ -1,0 +1,63 @@
+"""The command `audit`: a stopped store's ledgers against the journals of its stations, over a period."""
+
+from __future__ import annotations
+
+import argparse
+from pathlib import Path
+from typing import Iterable
+
+from wanekupo.books import stored
+from wanekupo.books.audit import audit_of
+from wanekupo.books.audit_page import as_html, as_text, found_table
+from wanekupo.books.printed import write
+from wanekupo.books.shift import period_of
+from wanekupo.books.steps import Book, books_of
+from wanekupo.books.store import Store
+from wanekupo.command_row import Command
+from wanekupo.config import Settings
+from wanekupo.moments import tested_period
+from wanekupo.printing import Formulas, say
+from wanekupo.shift_report import add_period
+from wanekupo.signing import digest_of_file
+
+DONE, FOUND = 0, 1
+
+MORE = """. STORE is a copy that the program has opened, taken before the journals were gathered, and --to is at or
+before that moment. Each entry of a ledger is held to the line of a journal of its seat, and the other way round. Serial
+numbers, keys and addresses have to be there once. Status 1 where something is found."""
+
+
+def _add_arguments(parser: argparse.ArgumentParser) -> None:
+    parser.add_argument("store", metavar="STORE", help="a copy of a stopped store, with its log beside it")
+    parser.add_argument("journals", nargs="+", metavar="JOURNAL", help="a journal, or a folder with journals")
+    add_period(parser)
+    parser.add_argument("--html", metavar="FILE", help="write a page, to be read and printed")
+    parser.add_argument("--csv", metavar="FILE", help="write what is found as comma-separated values")
+
+
+def _read(store: Path, books: Iterable[Book]) -> list[tuple[str, int, str]]:
+    """Each file that was read, with its length and its SHA-256."""
+    files = [store, store.with_name(f"{store.name}-wal"), *(Path(it) for book in books for it in book.files)]
+    return [(str(file), file.stat().st_size, digest_of_file(file)) for file in files if file.exists()]
+
+
+def _audit(_: Settings, args: argparse.Namespace) -> int:
+    tested_period(args.from_time, args.to_time)
+    path = Path(args.store)
+    with Store(path) as store:
+        books = stored.books_of(store)
+    journals = books_of(args.journals)
+    audit = audit_of(books, journals, period_of(args.from_time, args.to_time))
+    if args.html:
+        write(Path(args.html), as_html(audit, _read(path, journals)))
+    if args.csv:
+        table = found_table(audit)
+        Formulas().warn_of(table.columns, table.texts())
+        write(Path(args.csv), table.as_csv())
+    say(as_text(audit))
+    return FOUND if audit.found else DONE
+
+
+COMMANDS = [
+    Command("audit", "hold a store's ledgers to the journals of its stations", _add_arguments, _audit, MORE),
+]

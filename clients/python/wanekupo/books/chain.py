@@ -1,0 +1,143 @@
+"""A chain of seals in a folder: today's digest is over yesterday's (docs/reference/files.md#seals).
+
+Each seal has a file of rows, a line of its own that is signed, and the reply of a time-stamp service where there is
+one. The file `chain` has all lines, and is replaced whole, last of all: what a crash leaves beside it is written anew.
+"""
+
+from __future__ import annotations
+
+import contextlib
+import hashlib
+import os
+import re
+from dataclasses import dataclass
+from pathlib import Path
+from typing import Iterator, Optional
+
+from wanekupo.books.stamp import Service
+from wanekupo.errors import StationError
+from wanekupo.files import PRIVATE, locked, opened_lock, replace_bytes, tested_folder
+from wanekupo.signing import Signer
+
+# What the first seal has in the place of the one before it.
+NONE = 64 * "0"
+LINE = re.compile(r"(\d{6,}) (\S{20}) (\S{1,64}) (\d+) ([0-9a-f]{64}) ([0-9a-f]{64})")
+READABLE = 0o644
+
+
+class BadChain(StationError):
+    """A chain of seals that isn't whole."""
+
+
+@dataclass(frozen=True)
+class Seal:
+    """A line of a chain: its number, when it was made, whose books these are, how many rows, and the two digests."""
+
+    number: int
+    at: str
+    whose: str
+    rows: int
+    text: str
+    seal: str
+
+    def line(self) -> str:
+        return f"{self.number:06} {self.at} {self.whose} {self.rows} {self.text} {self.seal}"
+
+
+def sealed(last: str, number: int, at: str, whose: str, rows: int, text: bytes) -> Seal:
+    """The seal over the one before and a text."""
+    digest = hashlib.sha256(text).hexdigest()
+    head = f"{number:06} {at} {whose} {rows} {digest}"
+    return Seal(number, at, whose, rows, digest, hashlib.sha256(f"{last} {head}\n".encode()).hexdigest())
+
+
+def seal_of(line: str, where: str) -> Seal:
+    found = LINE.fullmatch(line)
+    if not found:
+        raise BadChain(f"{where} is no line of a chain", "Look at it in a copy: nothing was changed.")
+    number, at, whose, rows, text, seal = found.groups()
+    return Seal(int(number), at, whose, int(rows), text, seal)
+
+
+class Chain:
+    """The seals of a folder."""
+
+    def __init__(self, folder: Path):
+        self.folder = folder
+        if not folder.is_dir():
+            told = "Make it first: the seals of one customer, or of a plant, stay there."
+            raise BadChain(f"{folder} is no folder", told)
+
+    def rows_file(self, number: int) -> Path:
+        return self.folder / f"{number:06}.rows"
+
+    def seal_file(self, number: int) -> Path:
+        return self.folder / f"{number:06}.seal"
+
+    def stamp_file(self, number: int) -> Path:
+        return self.folder / f"{number:06}.tsr"
+
+    def seals(self) -> list[Seal]:
+        """The seals, where each is over the one before."""
+        try:
+            text = (self.folder / "chain").read_text(encoding="ascii", errors="replace")
+        except FileNotFoundError:
+            return []
+        found, last = [], NONE
+        if text and not text.endswith("\n"):
+            raise BadChain(f"the last line of {self.folder / 'chain'} is cut", "Look at it in a copy.")
+        for place, line in enumerate(text.splitlines(), 1):
+            seal = seal_of(line, f"line {place} of {self.folder / 'chain'}")
+            head = line.rpartition(" ")[0]
+            if seal.number != place or seal.seal != hashlib.sha256(f"{last} {head}\n".encode()).hexdigest():
+                told = "A line was changed, taken away or put in: compare with the signed file of each seal."
+                raise BadChain(f"line {place} of {self.folder / 'chain'} isn't over the line in front of it", told)
+            found.append(seal)
+            last = seal.seal
+        return found
+
+    def seals_of(self, whose: str) -> list[Seal]:
+        """The same, where they are of these books."""
+        found = self.seals()
+        if found and found[-1].whose != whose:
+            told = "Look at the name. Give each customer, and the plant, a folder of its own."
+            raise BadChain(f"{self.folder} has seals of {found[-1].whose}, and this one is of {whose}", told)
+        return found
+
+    @contextlib.contextmanager
+    def held(self) -> Iterator[None]:
+        """Keeps a second program away from the folder."""
+        tested_folder(self.folder)
+        lock = opened_lock(f"{self.folder / 'chain'}.lock")
+        try:
+            try:
+                locked(lock)
+            except OSError as error:
+                raise BadChain(f"another program adds to {self.folder}", "Wait for it.") from error
+            yield
+        finally:
+            os.close(lock)
+
+    def add(self, text: bytes, at: str, whose: str, signer: Optional[Signer], service: Optional[Service]) -> Seal:
+        """Adds a seal over a text. Until the chain has it nothing was done."""
+        before = self.seals_of(whose)
+        last = before[-1].seal if before else NONE
+        seal = sealed(last, len(before) + 1, at, whose, text.count(b"\n"), text)
+        try:
+            self._write(seal, text, signer, service)
+        except BaseException:
+            for file in self.folder.glob(f"{seal.number:06}.*"):
+                file.unlink()
+            raise
+        lines = "".join(f"{it.line()}\n" for it in [*before, seal])
+        replace_bytes(self.folder / "chain", lines.encode(), READABLE)
+        return seal
+
+    def _write(self, seal: Seal, text: bytes, signer: Optional[Signer], service: Optional[Service]) -> None:
+        """Writes a seal's own files."""
+        replace_bytes(self.rows_file(seal.number), text, PRIVATE)
+        replace_bytes(self.seal_file(seal.number), f"{seal.line()}\n".encode(), READABLE)
+        if signer:
+            signer.sign(self.seal_file(seal.number))
+        if service:
+            replace_bytes(self.stamp_file(seal.number), service.stamped(seal.seal), READABLE)

@@ -1,0 +1,219 @@
+"""A folder of seals, tested whole: its chain, the files beside it, and each two seals that follow each other.
+
+What was done is counted, so that nobody takes a test that had nothing to test for one that found nothing.
+"""
+
+from __future__ import annotations
+
+import gzip
+import hashlib
+import re
+import zlib
+from dataclasses import dataclass, field
+from pathlib import Path
+from typing import Iterator, Optional
+
+from wanekupo.books.chain import BadChain, Chain, Seal
+from wanekupo.books.compare import Text, contradictions, differences
+from wanekupo.books.stamp import Service, verified
+from wanekupo.errors import BadSettings
+from wanekupo.sentences import sentence_of
+from wanekupo.signing import CMS, MINISIG, BadSignature, beside, verify
+
+GZIP = b"\x1f\x8b"
+COMPRESSED = ".gz"
+
+# The files of a chain, and those of a seal behind its number.
+OF_CHAIN = ("chain", "chain.lock")
+OF_SEAL = re.compile(rf"(\d{{6,}})\.(rows|rows\{COMPRESSED}|seal|seal\{MINISIG}|seal\{CMS}|tsr)(\.new)?")
+
+
+@dataclass(frozen=True)
+class Trusted:
+    """Whose signatures and time stamps are to be there, where it is said."""
+
+    minisign: Optional[Path] = None
+    cms: Optional[Path] = None
+    service: Optional[Service] = None
+
+
+@dataclass
+class Tested:
+    """What was found, what is told beside it, and how much was tested."""
+
+    found: list[str] = field(default_factory=list)
+    notes: list[str] = field(default_factory=list)
+    seals: int = 0
+    pairs: int = 0
+    signatures: int = 0
+    stamps: int = 0
+    missing: int = 0
+
+    def done(self) -> str:
+        counts = [_counted(self.seals, "seal"), f"{_counted(self.pairs, 'pair')} compared"]
+        counts += [f"{_counted(self.signatures, 'signature')} and {_counted(self.stamps, 'stamp')} held"]
+        return f"{', '.join(counts)}, rows of {self.missing} missing."
+
+
+def _counted(number: int, what: str) -> str:
+    return f"{number} {what}" if number == 1 else f"{number} {what}s"
+
+
+def rows_of(data: bytes, name: Path) -> Text:
+    """The rows of a file of a seal, which may be compressed. A file in which no line is a row is another one."""
+    text = _text_of(data)
+    if text.bad and not text.rows:
+        raise BadSettings(f"{name} is no file of rows", "Name NUMBER.rows of a seal, or the copy of a store.")
+    return text
+
+
+def _text_of(data: bytes, known: Optional[Text] = None) -> Text:
+    lines = _plain(data).decode("ascii", "backslashreplace").split("\n")
+    return Text.of(lines if lines[-1] else lines[:-1], known)
+
+
+def _plain(data: bytes) -> bytes:
+    """The bytes of a file of rows. What is compressed and damaged stays as it is."""
+    if not data.startswith(GZIP):
+        return data
+    try:
+        return gzip.decompress(data)
+    except (OSError, EOFError, zlib.error):
+        return data
+
+
+def sentences_of(before: Text, after: Text) -> list[str]:
+    """What the later of two texts can't be, in sentences."""
+    found = sorted(dict.fromkeys(differences(before, after)), key=lambda it: (it.kind, it.key, it.told))
+    return [it.sentence() for it in found]
+
+
+def tested(chain: Chain, trusted: Trusted) -> Tested:
+    """Tests a folder that has a chain. One without is an error, as nothing can be tested there."""
+    made, names = Tested(), sorted(it.name for it in chain.folder.iterdir())
+    try:
+        seals = chain.seals()
+    except BadChain as error:
+        made.found.append(sentence_of(error))
+        return made
+    if not seals:
+        told = "Name the folder of the seals. Where there are files of seals their chain was taken away: look who did."
+        raise BadChain(f"{chain.folder} has no chain, so nothing was tested", told)
+    made.seals = len(seals)
+    made.found += [f"{it}." for it in _lone_faults(chain, seals)]
+    _test_names(chain, names, made)
+    _test_signatures(chain, seals, trusted, made)
+    _test_stamps(chain, seals, trusted.service, made)
+    _test_rows(chain, seals, made)
+    return made
+
+
+# Files by their names.
+
+
+def _lone_faults(chain: Chain, seals: list[Seal]) -> Iterator[str]:
+    for seal in seals:
+        file = chain.seal_file(seal.number)
+        if not file.exists():
+            yield f"{file} isn't there"
+        elif file.read_bytes() != f"{seal.line()}\n".encode():
+            yield f"{file} isn't the line of the chain"
+
+
+def _test_names(chain: Chain, names: list[str], made: Tested) -> None:
+    """Files of seals that the chain doesn't have, and files that are none of a seal."""
+    others = []
+    for name in names:
+        its = OF_SEAL.fullmatch(name)
+        if its and not 0 < int(its[1]) <= made.seals:
+            told = "the chain was cut, or a seal was stopped, which the next one replaces"
+            made.found.append(f"{chain.folder / name} is of a seal that the chain doesn't have: {told}.")
+        elif (not its or its[3]) and name not in OF_CHAIN:
+            others.append(name)
+    if others:
+        made.notes.append(f"Not tested, as no seal has such files: {', '.join(others)}.")
+
+
+# Signatures and time stamps.
+
+
+def _test_signatures(chain: Chain, seals: list[Seal], trusted: Trusted, made: Tested) -> None:
+    ending = CMS if trusted.cms else MINISIG
+    files = [chain.seal_file(it.number) for it in seals]
+    if not trusted.minisign and not trusted.cms:
+        count = sum(beside(it, MINISIG).exists() or beside(it, CMS).exists() for it in files)
+        if count:
+            made.notes.append(f"Not tested: the signatures of {_counted(count, 'seal')}. Give --minisign or --cms.")
+        return
+    for file in _begun(files, [beside(it, ending).exists() for it in files], "signature", made):
+        if not file.exists():
+            continue
+        try:
+            verify(file, trusted.minisign, trusted.cms)
+            made.signatures += 1
+        except BadSignature as error:
+            made.found.append(f"{error}.")
+
+
+def _test_stamps(chain: Chain, seals: list[Seal], service: Optional[Service], made: Tested) -> None:
+    stamps = {chain.seal_file(it.number): (chain.stamp_file(it.number), it.seal) for it in seals}
+    is_there = [stamp.exists() for stamp, _ in stamps.values()]
+    if not service:
+        if any(is_there):
+            made.notes.append(f"Not tested: the time stamps of {_counted(sum(is_there), 'seal')}. Give --tsa-ca.")
+        return
+    for file in _begun(list(stamps), is_there, "time stamp", made):
+        stamp, digest = stamps[file]
+        if verified(stamp, digest, service):
+            made.stamps += 1
+        else:
+            made.found.append(f"{stamp} is no time stamp of {file} by the service.")
+
+
+def _begun(files: list[Path], is_there: list[bool], what: str, made: Tested) -> list[Path]:
+    """The seals that have one. Those in front of the first are told in one line, as later seals are over them; one that
+    is missing behind the first is found."""
+    if True not in is_there:
+        made.found.append(f"No seal has a {what}.")
+        return []
+    first = is_there.index(True)
+    if first:
+        made.notes.append(f"{_counted(first, 'seal')} in front of {files[first]} had no {what} yet.")
+    for file, there in list(zip(files, is_there))[first:]:
+        if not there:
+            made.found.append(f"{file} has no {what}.")
+    return [file for file, there in zip(files, is_there) if there]
+
+
+# Rows.
+
+
+def _test_rows(chain: Chain, seals: list[Seal], made: Tested) -> None:
+    """Holds the rows of each seal to its digest, and those that are as they were sealed to the ones before."""
+    before: Optional[Text] = None
+    last = ""
+    for seal in seals:
+        files = [it for it in _row_files(chain, seal) if it.exists()]
+        if not files:
+            made.missing += 1
+            continue
+        data = [it.read_bytes() for it in files]
+        changed = [it for it, its in zip(files, data) if hashlib.sha256(_plain(its)).hexdigest() != seal.text]
+        made.found += [f"{it} was changed since it was sealed." for it in changed]
+        if changed:
+            continue
+        text = _text_of(data[0], before)
+        made.found += [f"{files[0]}: {it}." for it in text.bad]
+        if before is None:
+            made.found += sorted(it.sentence() for it in dict.fromkeys(contradictions(text)))
+        else:
+            made.found += [f"{last} to {seal.number:06}: {it}" for it in sentences_of(before, text)]
+            made.pairs += 1
+        before, last = text, f"{seal.number:06}"
+    if seals and made.missing == len(seals):
+        made.found.append(f"{chain.folder} has the rows of no seal, so no row was compared.")
+
+
+def _row_files(chain: Chain, seal: Seal) -> list[Path]:
+    file = chain.rows_file(seal.number)
+    return [file, beside(file, COMPRESSED)]

@@ -1,0 +1,66 @@
+"""What the columns of fuses of a store mean, by the map of a device (docs/reference/files.md#the-store)."""
+
+from __future__ import annotations
+
+import tomllib
+from dataclasses import dataclass
+from typing import Any
+
+from wanekupo.errors import StationError
+
+# A key in a column: whether it is known, and the SHA-256 of its bytes.
+KEY_BYTES = 33
+
+
+class BadMap(StationError):
+    """A map of the store that this program can't read."""
+
+
+@dataclass(frozen=True)
+class Layout:
+    """The words of a map's blocks, and its key fields in their order, each with its block."""
+
+    blocks: tuple[int, ...]
+    keys: tuple[tuple[str, int], ...]
+
+    def bits_length(self) -> int:
+        return 4 * sum(self.blocks)
+
+    def bits(self, column: bytes) -> list[dict[str, Any]]:
+        """Each word outside key fields that isn't zero, as a reply has it."""
+        hidden, found, place = {block for _, block in self.keys}, [], 0
+        for block, words in enumerate(self.blocks):
+            for word in range(words):
+                mask = int.from_bytes(column[place : place + 4].ljust(4, b"\0"), "little")
+                place += 4
+                if mask and block not in hidden:
+                    found.append({"block": block, "mask": f"{mask:08x}", "word": word})
+        return found
+
+    def known_keys(self, column: bytes) -> dict[str, str]:
+        """The SHA-256 of each key that is known, by its field."""
+        parts = [column[place : place + KEY_BYTES] for place in range(0, KEY_BYTES * len(self.keys), KEY_BYTES)]
+        return {
+            field: part[1:].ljust(32, b"\0").hex() for (field, _), part in zip(self.keys, parts) if part[:1] == b"\1"
+        }
+
+    def pending(self, column: bytes) -> dict[str, Any]:
+        """What is still to be burnt, as a reply has it."""
+        length = self.bits_length()
+        first, second, keys = column[:length], column[length : 2 * length], column[2 * length :]
+        return {
+            "batch1": {"bits": self.bits(first), "keys": self.known_keys(keys)},
+            "batch2": {"bits": self.bits(second), "keys": {}},
+        }
+
+
+def layout_of(text: str) -> Layout:
+    """The layout of a map's text. The server reads TOML 1.1, and this program 1.0."""
+    try:
+        table = tomllib.loads(text)
+        blocks = tuple(int(block["words"]) for block in table["block"])
+        keys = tuple((str(it["name"]), int(it["block"])) for it in table["field"] if it.get("key"))
+    except (ValueError, KeyError, TypeError, AttributeError) as error:
+        told = "Write the map in the words of TOML 1.0 in the next order; for this one compare seals over HTTP."
+        raise BadMap(f"a fuse map of the store can't be read here: {error}", told) from error
+    return Layout(blocks, keys)

@@ -1,0 +1,75 @@
+"""Time stamps by a service (RFC 3161), which Debian's `openssl ts` asks for and verifies."""
+
+from __future__ import annotations
+
+import subprocess
+import tempfile
+import urllib.error
+import urllib.request
+from dataclasses import dataclass
+from pathlib import Path
+from typing import Optional
+
+from wanekupo.errors import BadSettings, NoReply, NotTheServer
+
+KIND = "application/timestamp-query"
+SECONDS, LONGEST = 60, 1 << 20
+AGAIN = "Nothing was added to the chain: give the same command again, or leave --tsa out."
+
+
+@dataclass(frozen=True)
+class Service:
+    """Where it is, and the certificates by which its replies are verified. `between` are those that it leaves out."""
+
+    url: str
+    trusted: Path
+    between: Optional[Path] = None
+
+    def stamped(self, digest: str) -> bytes:
+        """The service's reply over a digest, which was verified."""
+        query = _openssl("-query", "-digest", digest, "-sha256", "-cert")
+        with tempfile.TemporaryDirectory() as folder:
+            (Path(folder) / "query").write_bytes(query)
+            reply = Path(folder) / "reply"
+            reply.write_bytes(self._asked(query))
+            if not self.is_verified(reply, "-queryfile", str(Path(folder) / "query")):
+                told = f"Look at its address and at {self.trusted}. {AGAIN}"
+                raise NotTheServer(f"what {self.url} answered is no time stamp of this seal", told)
+            return reply.read_bytes()
+
+    def _asked(self, query: bytes) -> bytes:
+        if not self.url.startswith(("http://", "https://")):
+            told = "It begins with http:// or https://."
+            raise BadSettings(f"{self.url} is no address of a time-stamp service", told)
+        asked = urllib.request.Request(self.url, query, {"Content-Type": KIND})
+        try:
+            with urllib.request.urlopen(asked, timeout=SECONDS) as reply:
+                return reply.read(LONGEST)
+        except (OSError, urllib.error.URLError, ValueError) as error:
+            reason = getattr(error, "reason", error)
+            told = (reason.strerror if isinstance(reason, OSError) else "") or reason
+            raise NoReply(f"no time stamp came from {self.url}: {told}", AGAIN) from error
+
+    def is_verified(self, reply: Path, *words: str) -> bool:
+        between = ["-untrusted", str(self.between)] if self.between else []
+        words = ("-verify", *words, "-in", str(reply), "-CAfile", str(self.trusted), *between)
+        try:
+            _openssl(*words)
+        except NotTheServer:
+            return False
+        return True
+
+
+def verified(reply: Path, digest: str, service: Service) -> bool:
+    """Whether a kept reply is a time stamp of a digest by the service."""
+    return reply.exists() and service.is_verified(reply, "-digest", digest)
+
+
+def _openssl(*words: str) -> bytes:
+    try:
+        done = subprocess.run(["openssl", "ts", *words], capture_output=True, check=False)
+    except FileNotFoundError:
+        raise BadSettings("there is no command openssl", "Install Debian's openssl.") from None
+    if done.returncode:
+        raise NotTheServer("openssl ts didn't take it")
+    return done.stdout

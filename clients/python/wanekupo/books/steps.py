@@ -1,0 +1,246 @@
+"""What journals say, read by who judges them: each request with its place, its times and its reply, and what is wrong.
+
+`wanekupo.journal` reads the journals of a restore, and stops at the first line that isn't right. Here such a line is
+something that was found: it is named, and what stands around it counts.
+"""
+
+from __future__ import annotations
+
+import json
+import re
+from dataclasses import dataclass, field
+from pathlib import Path
+from typing import Any, Iterable, Iterator, Optional, Union
+
+from wanekupo.journal import Name, journals_of, request_digest
+from wanekupo.moments import moment_of
+
+# By how many seconds a station's clock may be set back without a word, as a time service does it.
+SET_BACK = 60
+
+# How many faulty lines of a journal are told by who doesn't judge it.
+MOST_TOLD = 5
+
+MOMENT = re.compile(r"\d{4}-\d\d-\d\dT\d\d:\d\d:\d\dZ")
+
+# The paths of the steps of a device, with the events that they are in its ledger.
+EVENTS = {
+    "/v1/device": "registered",
+    "/v1/plan": "planned",
+    "/v1/readback": "read",
+    "/v1/identity": "identified",
+    "/v1/ship": "shipped",
+    "/v1/scrap": "scrapped",
+}
+
+
+@dataclass
+class Step:
+    """A request of a journal with the place of its line, when it was asked and answered, and what the reply was.
+    Without a status its reply never came. `reason` is why a chip was scrapped, where the station knew it."""
+
+    file: str
+    line: int
+    at: str
+    path: str
+    asked: dict[str, Any]
+    digest: str
+    seat: str
+    operator: str
+    answered: str = ""
+    status: Optional[int] = None
+    reply: dict[str, Any] = field(default_factory=dict)
+    reason: str = ""
+
+    @property
+    def number(self) -> int:
+        return self.asked["nr"]
+
+    @property
+    def chip(self) -> str:
+        return str(self.asked.get("chip", ""))
+
+    @property
+    def event(self) -> str:
+        """The event of a device's ledger that this is; nothing where it is no step of a device."""
+        return EVENTS.get(self.path, "")
+
+    @property
+    def note(self) -> str:
+        """The note that the ledger has of it."""
+        member = {"read": "outcome", "identified": "serial"}.get(self.event, "")
+        return str(self.reply.get(member, "")) if member else ""
+
+    def is_done(self) -> bool:
+        return self.status == 200
+
+    def is_stop(self) -> bool:
+        """Whether the server refused it as 11 or 12: the seat was out of step."""
+        return self.status == 409 and self.reply.get("no") in (11, 12)
+
+    def place(self) -> str:
+        return f"line {self.line} of {self.file}"
+
+
+@dataclass(frozen=True)
+class Resynchronized:
+    """A person had the seat go on with a number; `behind` is how many requests came before."""
+
+    file: str
+    line: int
+    at: str
+    number: int
+    behind: int
+
+
+@dataclass(frozen=True)
+class Fault:
+    """What is wrong with a journal, and in which line."""
+
+    file: str
+    line: int
+    at: str
+    told: str
+
+
+@dataclass
+class Book:
+    """A seat's journal: its files, its requests in their order, what is wrong with it, and who it is of. `seat` is
+    empty where no line has a name."""
+
+    files: list[str]
+    steps: list[Step] = field(default_factory=list)
+    resynchronized: list[Resynchronized] = field(default_factory=list)
+    faults: list[Fault] = field(default_factory=list)
+    times: list[str] = field(default_factory=list)
+    seat: str = ""
+
+    def name(self) -> str:
+        """The seat's name, or where no line has one that of the file."""
+        return self.seat or Path(self.files[0]).name
+
+
+Line = dict[str, Any]
+
+
+def _lines_of(file: Path, faults: list[Fault]) -> Iterator[tuple[int, Line]]:
+    """The lines of a file by their numbers. A last one without its line feed was cut by a crash: it says nothing."""
+    whole, feed, _ = file.read_bytes().rpartition(b"\n")
+    last = ""
+    for number, line in enumerate(whole.split(b"\n") if feed else [], 1):
+        try:
+            found = json.loads(line)
+        except (ValueError, RecursionError):
+            found = None
+        told = _form_of(found)
+        if told:
+            faults.append(Fault(str(file), number, last, told))
+        else:
+            last = found["at"]
+            yield number, found
+
+
+def _form_of(line: Any) -> str:
+    """What is wrong with the form of a line; nothing where it is one of a journal."""
+    if not isinstance(line, dict) or not isinstance(line.get("at"), str) or not MOMENT.fullmatch(line["at"]):
+        return "is no line of a journal"
+    if any(not isinstance(line.get(name, ""), str) for name in ("seat", "operator", "path", "digest", "reason")):
+        return "has a member of another form"
+    if "asked" in line:
+        asked = line["asked"]
+        is_one = isinstance(asked, dict) and type(asked.get("nr")) is int and isinstance(asked.get("chip", ""), str)
+        return "" if is_one and "path" in line else "is no request of a journal"
+    if "status" in line:
+        is_one = type(line.get("nr")) is int and type(line["status"]) is int and isinstance(line.get("reply"), dict)
+        return "" if is_one else "is no reply of a journal"
+    return "" if type(line.get("resynchronized")) is int else "is no line of a journal"
+
+
+def _tested_digest(file: str, number: int, line: Line) -> Optional[Fault]:
+    """A request whose digest isn't that of what it asks was changed behind the station's back."""
+    try:
+        found = request_digest(line["path"], line["asked"])
+    except (ValueError, UnicodeEncodeError):
+        found = ""
+    if line.get("digest") == found:
+        return None
+    told = "was changed: its digest isn't that of what it asks" if "digest" in line else "has no digest"
+    return Fault(file, number, line["at"], told)
+
+
+def _tested_clock(book: Book, file: str, number: int, at: str) -> None:
+    """Tells where a station's clock went back: what is counted by times isn't sure there."""
+    if book.times and at < book.times[-1]:
+        seconds = (moment_of(book.times[-1]) - moment_of(at)).total_seconds()
+        if seconds > SET_BACK:
+            told = f"is {seconds:.0f} seconds before the line in front of it, by the station's clock"
+            book.faults.append(Fault(file, number, at, told))
+
+
+def _take(book: Book, file: str, number: int, line: Line) -> None:
+    """Adds a line to a journal's requests."""
+    _tested_clock(book, file, number, line["at"])
+    book.times.append(line["at"])
+    seat = line.get("seat", "")
+    if seat and book.seat and seat != book.seat:
+        book.faults.append(Fault(file, number, line["at"], f"is of the seat {seat}, among lines of {book.seat}"))
+    book.seat = book.seat or seat
+    last = book.steps[-1] if book.steps else None
+    if "asked" in line:
+        fault = _tested_digest(file, number, line)
+        if fault:
+            book.faults.append(fault)
+        is_again = last and last.status is None and (last.path, last.asked) == (line["path"], line["asked"])
+        if not is_again:
+            names = seat or book.seat, line.get("operator", "")
+            step = Step(file, number, line["at"], line["path"], line["asked"], line.get("digest", ""), *names)
+            step.reason = line.get("reason", "")
+            book.steps.append(step)
+    elif "status" in line:
+        if last is None or last.number != line["nr"] or last.status is not None:
+            told = f"answers number {line['nr']}, which isn't asked in front of it: a line is missing"
+            book.faults.append(Fault(file, number, line["at"], told))
+        else:
+            last.answered, last.status, last.reply = line["at"], line["status"], line["reply"]
+    else:
+        it = Resynchronized(file, number, line["at"], line["resynchronized"], len(book.steps))
+        book.resynchronized.append(it)
+
+
+def book_of(files: Iterable[Path]) -> Book:
+    """A journal of one seat, in the order of its files."""
+    paths = list(files)
+    book = Book([str(it) for it in paths])
+    for path in paths:
+        for number, line in _lines_of(path, book.faults):
+            _take(book, str(path), number, line)
+    return book
+
+
+def books_of(names: Iterable[Name]) -> list[Book]:
+    """The journals that files and folders are."""
+    return [book_of(files) for files in journals_of(names)]
+
+
+@dataclass(frozen=True)
+class Named:
+    """A word of the command line: a path, and in front of it the name of the customer, where there is one."""
+
+    customer: str
+    path: Path
+
+
+def named(word: Union[str, Path]) -> Named:
+    """`acme=journals/` is the customer acme's; a path that is there as it stands has no name."""
+    name, equals, path = str(word).partition("=")
+    if not equals or Path(word).exists() or "/" in name:
+        return Named("", Path(word))
+    return Named(name, Path(path))
+
+
+def told_faults(book: Book) -> Iterator[str]:
+    """What is wrong with a journal, for who doesn't judge it: the first lines, and how many more."""
+    for fault in book.faults[:MOST_TOLD]:
+        yield f"line {fault.line} of {fault.file} {fault.told}"
+    if len(book.faults) > MOST_TOLD:
+        yield f"{len(book.faults) - MOST_TOLD} more lines of {book.files[0]}: wanekupo audit names them"

@@ -1,0 +1,122 @@
+"""The command `seal`: a digest of all books over yesterday's, signed, and what two of them show of each other."""
+
+from __future__ import annotations
+
+import argparse
+from datetime import datetime, timezone
+from pathlib import Path
+from typing import Optional
+
+from wanekupo.books import folder, shown, stored
+from wanekupo.books.chain import Chain
+from wanekupo.books.compare import Text
+from wanekupo.books.lines import KEY, text_of
+from wanekupo.books.stamp import Service
+from wanekupo.books.store import Store, is_store
+from wanekupo.command_row import Command
+from wanekupo.config import Settings, looking_station_of
+from wanekupo.errors import BadSettings
+from wanekupo.moments import text_of as moment_text
+from wanekupo.printing import Progress, say
+from wanekupo.signing import signer_of
+from wanekupo.texts import shown as shown_text
+
+DONE, FOUND = 0, 1
+
+# Whose books a copy of a store has: all customers'.
+PLANT = "@all"
+
+MORE = """. Without --store these are one customer's orders, devices, records and ledgers, by a token that looks. Each
+seal is a line of FOLDER/chain, over the line before and over the day's rows. With --verify nothing is sealed: of two
+files of rows, or copies of a store, it says what the later one can't be; of a folder, whether its chain is whole, and
+the same of each two of its seals."""
+
+
+def _add_arguments(parser: argparse.ArgumentParser) -> None:
+    parser.add_argument("places", nargs="+", metavar="FOLDER", help="where the seals are; with --verify also A B")
+    parser.add_argument("--customer", default="", metavar="NAME", help="whose token it is: the name stands in each row")
+    parser.add_argument("--store", metavar="FILE", help="a copy of a stopped store, in place of a token")
+    parser.add_argument("--verify", action="store_true", help="compare, and change nothing")
+    group = parser.add_argument_group("a signature, and a time stamp")
+    said = "sign the seal by minisign, with this secret key; with --verify the public key"
+    group.add_argument("--minisign", metavar="KEY", help=said)
+    group.add_argument("--cms", metavar="CERT", help="sign it by openssl cms; with --verify the signer's certificate")
+    group.add_argument("--cms-key", metavar="KEY", help="the certificate's key: a file, or pkcs11:.. of a token")
+    group.add_argument("--tsa", metavar="URL", help="have the seal time-stamped by this service (RFC 3161)")
+    group.add_argument("--tsa-ca", metavar="FILE", help="the certificates by which its stamps are verified")
+    group.add_argument("--tsa-chain", metavar="FILE", help="the certificates between, which a stamp leaves out")
+
+
+def _service_of(args: argparse.Namespace) -> Optional[Service]:
+    if args.tsa is None and args.tsa_ca is None:
+        return None
+    if args.tsa_ca is None or args.tsa is None and not args.verify:
+        raise BadSettings("a time stamp lacks a word", "Give --tsa URL with --tsa-ca FILE; to verify the latter alone.")
+    return Service(args.tsa or "", Path(args.tsa_ca), Path(args.tsa_chain) if args.tsa_chain else None)
+
+
+def stored_lines(file: Path) -> list[str]:
+    """The lines of a copy of a store."""
+    with Store(file) as store:
+        return stored.lines_of(stored.books_of(store))
+
+
+def _seal(settings: Settings, args: argparse.Namespace) -> int:
+    if args.verify:
+        return _verify(args)
+    if len(args.places) != 1 or bool(args.store) == bool(args.customer):
+        told = "Give FOLDER, and --customer NAME with a token, or --store FILE."
+        raise BadSettings("it isn't said whose books are sealed", told)
+    if args.customer and not KEY.fullmatch(args.customer):
+        raise BadSettings(f"{args.customer!r} is no customer's name", "Write it as the plant does: ask there.")
+    chain, signer, service = Chain(Path(args.places[0])), signer_of(args), _service_of(args)
+    with chain.held():
+        chain.seals_of(args.customer or PLANT)
+        at = moment_text(datetime.now(timezone.utc))
+        if args.store:
+            lines = stored_lines(Path(args.store))
+        else:
+            with looking_station_of(settings) as station, Progress("devices") as told_of:
+                lines = shown.lines_of(station, args.customer, told_of)
+        seal = chain.add(text_of(lines), at, args.customer or PLANT, signer, service)
+    say(seal.line() + "\n")
+    return DONE
+
+
+# Comparing.
+
+
+def rows_of(file: Path) -> Text:
+    """The rows of a file of a seal, or of a copy of a store."""
+    return Text.of(sorted(stored_lines(file))) if is_store(file) else folder.rows_of(file.read_bytes(), file)
+
+
+def _verify(args: argparse.Namespace) -> int:
+    places = [Path(it) for it in args.places]
+    if len(places) == 2:
+        return _told(_between(*places))
+    if len(places) != 1 or not places[0].is_dir():
+        raise BadSettings("nothing is named that can be compared", "Give A B, two files of rows, or a FOLDER of seals.")
+    if args.minisign and args.cms:
+        raise BadSettings("both --minisign and --cms are given", "Give the one by which these seals were signed.")
+    minisign, cms = (Path(it) if it else None for it in (args.minisign, args.cms))
+    made = folder.tested(Chain(places[0]), folder.Trusted(minisign, cms, _service_of(args)))
+    return _told(made.found, *made.notes, made.done())
+
+
+def _between(before: Path, after: Path) -> list[str]:
+    """What is wrong with two files that somebody names, and between them."""
+    texts = {file: rows_of(file) for file in (before, after)}
+    bad = [f"{file}: {it}." for file, text in texts.items() for it in text.bad]
+    return bad + folder.sentences_of(texts[before], texts[after])
+
+
+def _told(found: list[str], *more: str) -> int:
+    counted = f"{len(found)} found." if found else "Nothing found."
+    say("".join(f"{shown_text(it)}\n" for it in (*found, counted, *more)))
+    return FOUND if found else DONE
+
+
+COMMANDS = [
+    Command("seal", "seal all books, or compare two seals", _add_arguments, _seal, MORE),
+]
