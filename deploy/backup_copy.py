@@ -1,0 +1,172 @@
+"""A copy of a store that is one: it is made as the store's user, opened by the program, counted, and compared.
+
+Only the program opens a copy first, with --existing: it takes no tables but its own, and runs nothing that a file says.
+Then sqlite3 counts, in its safe mode, in which it runs no command and writes no file.
+"""
+
+import hashlib
+import json
+import os
+import pwd
+import shutil
+import subprocess
+import tempfile
+import time
+from pathlib import Path
+
+FILES = ("books.db", "books.db-wal")
+ABOUT = "about.json"
+
+# What is compared, a line each.
+COUNTED = """
+SELECT 'orders', count(*) FROM orders;
+SELECT 'devices', count(*) FROM device;
+SELECT 'records', count(*) FROM given;
+SELECT 'seat', name, last FROM seat ORDER BY name;"""
+
+
+class BackupError(Exception):
+    """Why there is no backup, in a line."""
+
+
+def said_of(error: BaseException) -> str:
+    """What went wrong, in words: of a call to the machine the file and the cause."""
+    if isinstance(error, OSError) and error.strerror:
+        return ": ".join(str(it) for it in (error.filename, error.strerror) if it)
+    return str(error) or type(error).__name__
+
+
+def now() -> str:
+    return time.strftime("%Y-%m-%dT%H:%M:%SZ", time.gmtime())
+
+
+def name_of_user(user: int) -> str:
+    try:
+        return pwd.getpwuid(user).pw_name
+    except KeyError:
+        return str(user)
+
+
+def safely(*words: str) -> subprocess.CompletedProcess[str]:
+    """sqlite3 in its safe mode."""
+    command = ["sqlite3", "-safe", "-readonly", *words]
+    return subprocess.run(command, stdin=subprocess.DEVNULL, capture_output=True, text=True, check=False)
+
+
+def is_served(db: Path) -> bool:
+    """Whether a server has the store. Its lock is met before the log is looked at; readonly_shm has sqlite3 make no
+    file. It is asked for a number of the file's head: no table is read, and no view is looked at."""
+    named = str(db).replace("%", "%25").replace("?", "%3f").replace("#", "%23")
+    done = safely(f"file:{named}?mode=ro&readonly_shm=1", "PRAGMA schema_version")
+    return "locked" in done.stdout + done.stderr
+
+
+def counts_of(db: Path, store: str) -> list[str]:
+    """The numbers of a copy that are compared."""
+    done = safely("-bail", str(db), COUNTED)
+    if done.returncode:
+        raise BackupError(f"sqlite3 can't read the copy of {store}: {done.stderr.strip()}")
+    db.with_name(db.name + "-shm").unlink(missing_ok=True)
+    return done.stdout.replace("|", " ").splitlines()
+
+
+def digest_of(path: Path) -> str:
+    with open(path, "rb") as file:
+        return hashlib.file_digest(file, "sha256").hexdigest()
+
+
+def _synced(path: Path) -> None:
+    handle = os.open(path, os.O_RDONLY)
+    try:
+        os.fsync(handle)
+    finally:
+        os.close(handle)
+
+
+def put_whole(path: Path, text: str) -> None:
+    """Puts a text in a file's place, whole or not at all."""
+    new = path.with_name(path.name + ".new")
+    new.unlink(missing_ok=True)
+    with open(os.open(new, os.O_WRONLY | os.O_CREAT | os.O_EXCL, 0o600), "w", encoding="utf-8") as file:
+        file.write(text)
+        file.flush()
+        os.fsync(file.fileno())
+    os.replace(new, path)
+    _synced(path.parent)
+
+
+def look_at(store: str) -> Path:
+    """The store's file itself, where a backup of it may be made: its log stands beside it, and not beside a link."""
+    db = Path(os.path.realpath(store))
+    if not db.exists():
+        raise BackupError(f"{store}: no store")
+    owner, log = db.stat().st_uid, Path(f"{db}-wal")
+    if owner != os.geteuid():
+        name = name_of_user(owner)
+        raise BackupError(f"{store} is the store of {name}: run this as that user (runuser -u {name} -- backup ..)")
+    if not log.is_file() or not log.stat().st_size:
+        raise BackupError(f"{store}-wal is missing or empty, and {store} alone may be older than the store was")
+    if log.is_symlink() or log.stat().st_dev != db.stat().st_dev:
+        raise BackupError(f"{store}-wal is on another volume than {store}: no copy of both is of one moment")
+    return db
+
+
+def opened_by(program: str, site: str, db: Path) -> bool:
+    """Whether the program opens a copy, as which it joins its two files."""
+    words = [program, "replay", "--site", site, "--db", str(db), "--existing"]
+    return subprocess.run(words, stdin=subprocess.DEVNULL, check=False).returncode == 0
+
+
+def _tried(program: str, site: str, folder: Path, store: str) -> list[str]:
+    """The numbers of the copy, which have to be the same once the program has opened a copy of it."""
+    with tempfile.TemporaryDirectory(prefix="trial.", dir=folder) as trial:
+        for name in FILES:
+            shutil.copyfile(folder / name, Path(trial, name))
+        if not opened_by(program, site, Path(trial, FILES[0])):
+            raise BackupError("the program refuses the copy")
+        before, after = counts_of(folder / FILES[0], store), counts_of(Path(trial, FILES[0]), store)
+    if before != after:
+        raise BackupError(f"the copy has other rows once the program has opened it: {before} before, {after} after")
+    return after
+
+
+def about_of(program: str, folder: Path, counts: list[str], taken: str) -> str:
+    """What a backup says of itself."""
+    said = subprocess.run([program, "--version"], stdin=subprocess.DEVNULL, capture_output=True, text=True, check=False)
+    names = [*FILES, "site.toml"]
+    told = {
+        "at": now(),
+        "program": said.stdout.strip(),
+        "program_sha256": digest_of(Path(program)),
+        "of": taken or "a stopped server",
+        "sha256": {name: digest_of(folder / name) for name in names},
+        "bytes": sum((folder / name).stat().st_size for name in names),
+        "counts": counts,
+    }
+    return json.dumps(told, indent=1) + "\n"
+
+
+def copy_store(program: str, site: str, store: str, folder: Path, taken: str = "") -> list[str]:
+    """Makes the backup in a folder that wasn't there, and gives its numbers. Where anything fails it is gone again."""
+    db = look_at(store)
+    if is_served(db):
+        raise BackupError(f"{store} is locked: stop its server")
+    try:
+        folder.mkdir(mode=0o700)
+    except OSError as error:
+        told = f"{folder}: make the backup in a folder that wasn't there ({error.strerror})"
+        raise BackupError(told) from error
+    try:
+        for source, name in ((db, FILES[0]), (Path(f"{db}-wal"), FILES[1]), (Path(site), "site.toml")):
+            shutil.copyfile(source, folder / name)
+            _synced(folder / name)
+        counts = _tried(program, site, folder, store)
+        put_whole(folder / ABOUT, about_of(program, folder, counts, taken))
+        for name in FILES:
+            if digest_of(Path(f"{db}{name[len(FILES[0]):]}")) != digest_of(folder / name):
+                raise BackupError(f"{store}{name[len(FILES[0]):]} isn't as it was copied any more: stop its server")
+        _synced(folder)
+        return counts
+    except BaseException:
+        shutil.rmtree(folder, ignore_errors=True)
+        raise

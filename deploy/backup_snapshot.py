@@ -1,0 +1,219 @@
+"""Snapshots of the volume that has a store: made, mounted read-only, and gone again, whatever happens in between.
+
+A snapshot has one name, and one place where it is mounted. So a run that was killed, or a machine that was started
+anew, leaves at most one, which the next run knows, says and removes before it makes its own.
+
+What it has of a store is what a crash at that moment would have left, as both files are on one volume.
+"""
+
+import contextlib
+import json
+import os
+import subprocess
+import time
+from collections.abc import Callable, Iterator
+from pathlib import Path
+
+from backup_copy import BackupError
+
+NAME = "station_backup"
+PLACE = Path("/run/station-backup")
+SAFE = "nodev,nosuid,noexec"
+TRIES = 50
+
+
+def ran(*words: str) -> str:
+    """What a command prints; where it fails, its last line is the error."""
+    quiet = {**os.environ, "LVM_SUPPRESS_FD_WARNINGS": "1"}
+    try:
+        done = subprocess.run(words, stdin=subprocess.DEVNULL, capture_output=True, text=True, check=False, env=quiet)
+    except OSError as error:
+        raise BackupError(f"{words[0]}: {error.strerror}") from error
+    if done.returncode:
+        said = (done.stderr or done.stdout).strip().splitlines() or [f"status {done.returncode}"]
+        raise BackupError(f"{' '.join(words[:2])}: {said[-1].strip()}")
+    return done.stdout
+
+
+def does(*words: str) -> bool:
+    """Whether a command does it."""
+    try:
+        ran(*words)
+        return True
+    except BackupError:
+        return False
+
+
+def mounted_at(folder: Path) -> dict[str, str]:
+    """The file system that has a folder."""
+    words = ("findmnt", "--json", "--nofsroot", "--output", "SOURCE,FSTYPE,FSROOT,TARGET", "--target", str(folder))
+    return json.loads(ran(*words))["filesystems"][0]
+
+
+def unmounted(folder: Path) -> bool:
+    """Unmounts what is mounted at a folder, and says whether anything was."""
+    was = False
+    for _ in range(TRIES):
+        if not os.path.ismount(folder):
+            return was
+        was = True
+        if not does("umount", str(folder)):
+            time.sleep(0.1)  # who still reads there ends
+    raise BackupError(f"{folder} stays mounted: somebody is in there")
+
+
+class Volume:
+    """The volume of a store's folder. `removed` takes the snapshot away, and gives its name where there was one."""
+
+    def __init__(self, db: Path, size: str):
+        self.db, self.size, self.at, self.top = db, size, PLACE / "mnt", PLACE / "top"
+
+    def made(self) -> Path:
+        """Makes the snapshot, and gives the store's file in it."""
+        raise NotImplementedError
+
+    def removed(self) -> str:
+        raise NotImplementedError
+
+    def fault(self) -> str:
+        """What is wrong with the snapshot, or nothing."""
+        return ""
+
+
+class Lvm(Volume):
+    """A logical volume. A thick snapshot has room for so many changes, and is invalid where there are more."""
+
+    def __init__(self, db: Path, size: str):
+        super().__init__(db, size)
+        self.mount = mounted_at(db.parent)
+        found = self._looked("vg_name,lv_name,lv_attr", self.mount["source"])
+        if not found:
+            raise BackupError(f"{db.parent} is on {self.mount['source']}, which is no logical volume")
+        self.group, self.volume, attributes = found["vg_name"], found["lv_name"], found["lv_attr"]
+        self.is_thin, self.name = attributes.startswith("V"), f"{self.group}/{NAME}"
+
+    @staticmethod
+    def _looked(what: str, name: str) -> dict[str, str]:
+        """What LVM says of a volume; nothing where there is none."""
+        try:
+            told = json.loads(ran("lvs", "--reportformat", "json", "--options", what, name))
+        except BackupError:
+            return {}
+        return told["report"][0]["lv"][0]
+
+    def made(self) -> Path:
+        words = ["lvcreate", "--quiet", "--yes", "--snapshot", "--name", NAME, "--addtag", NAME]
+        if self.is_thin:
+            words += ["--setactivationskip", "n"]
+        else:
+            words += ["--size", self.size] if self.size else ["--extents", "20%ORIGIN"]
+        ran(*words, f"{self.group}/{self.volume}")
+        kind = self.mount["fstype"]
+        options = f"ro,{SAFE}" + (",nouuid" if kind == "xfs" else "")
+        ran("mount", "-t", kind, "-o", options, f"/dev/{self.name}", str(self.at))
+        below = self.db.relative_to(self.mount["target"])
+        return self.at / self.mount["fsroot"].strip("/") / below
+
+    def removed(self) -> str:
+        was_mounted = unmounted(self.at)
+        found = self._looked("origin,lv_tags", self.name)
+        if not found:
+            return str(self.at) if was_mounted else ""
+        if found["origin"] != self.volume or NAME not in found["lv_tags"].split(","):
+            raise BackupError(f"{self.name} is no snapshot of a backup's: rename it, as a backup needs that name")
+        ran("lvremove", "--quiet", "--yes", "--force", self.name)
+        return f"the snapshot {self.name}"
+
+    def fault(self) -> str:
+        found = self._looked("lv_attr,data_percent", self.name)
+        if not found or found["lv_attr"][4] in "IS" or (found["data_percent"] or "0").startswith("100"):
+            return f"the snapshot {self.name} is full, and so invalid: give it more room (--snapshot-size)"
+        return ""
+
+
+class Btrfs(Volume):
+    """A subvolume. The snapshot is made at the top of its file system, which is mounted for that alone."""
+
+    def __init__(self, db: Path, size: str):
+        super().__init__(db, size)
+        mount = mounted_at(db.parent)
+        if mount["fstype"] != "btrfs":
+            raise BackupError(f"{db.parent} is on {mount['fstype']}, and not on btrfs")
+        self.source, self.subvolume = mount["source"], db.parent
+        while self.subvolume.stat().st_ino != 256:  # the number of a subvolume's own folder
+            above = self.subvolume.parent
+            if above == self.subvolume or above.stat().st_dev != self.subvolume.stat().st_dev:
+                raise BackupError(f"{self.subvolume} is a part of a subvolume: mount the whole of it")
+            self.subvolume = above
+
+    def _at_the_top(self, call: Callable[[Path], None]) -> None:
+        ran("mount", "-t", "btrfs", "-o", f"subvolid=5,{SAFE}", self.source, str(self.top))
+        try:
+            call(self.top / NAME)
+        finally:
+            unmounted(self.top)
+
+    def made(self) -> Path:
+        def make(at: Path) -> None:
+            ran("btrfs", "subvolume", "snapshot", "-r", str(self.subvolume), str(at))
+
+        self._at_the_top(make)
+        ran("mount", "-t", "btrfs", "-o", f"ro,subvol=/{NAME},{SAFE}", self.source, str(self.at))
+        return self.at / self.db.relative_to(self.subvolume)
+
+    def removed(self) -> str:
+        was = [str(it) for it in (self.at, self.top) if unmounted(it)]
+
+        def remove(at: Path) -> None:
+            if at.exists():
+                ran("btrfs", "subvolume", "delete", "--commit-after", str(at))
+                was.append(f"the snapshot {NAME} on {self.source}")
+
+        self._at_the_top(remove)
+        return was[-1] if was else ""
+
+
+class Zfs(Volume):
+    """A dataset, whose snapshots are mounted read-only by ZFS itself, below the folder .zfs."""
+
+    def __init__(self, db: Path, size: str):
+        super().__init__(db, size)
+        dataset, _, mounted = ran("zfs", "list", "-H", "-o", "name,mountpoint", str(db.parent)).strip().partition("\t")
+        self.name, self.mounted = f"{dataset}@{NAME}", Path(mounted)
+
+    def made(self) -> Path:
+        ran("zfs", "snapshot", self.name)
+        return self.mounted / ".zfs/snapshot" / NAME / self.db.relative_to(self.mounted)
+
+    def removed(self) -> str:
+        if not does("zfs", "list", "-H", "-t", "snapshot", "-o", "name", self.name):
+            return ""
+        ran("zfs", "destroy", self.name)
+        return f"the snapshot {self.name}"
+
+
+KINDS: dict[str, Callable[[Path, str], Volume]] = {"lvm": Lvm, "btrfs": Btrfs, "zfs": Zfs}
+
+
+def volume_of(kind: str, db: Path, size: str) -> Volume:
+    """The volume of a store, and the places where its snapshot is mounted, which the store's user may pass through."""
+    for folder in (PLACE, PLACE / "mnt", PLACE / "top"):
+        folder.mkdir(exist_ok=True)
+    os.chmod(PLACE, 0o711)
+    return KINDS[kind](db, size)
+
+
+@contextlib.contextmanager
+def snapshot(volume: Volume) -> Iterator[Path]:
+    """The store's file in a snapshot, which is gone behind it. Where the snapshot isn't whole at the end, what was read
+    of it is nothing."""
+    try:
+        db = volume.made()
+        try:
+            yield db
+        except BackupError as error:
+            raise BackupError(volume.fault() or str(error)) from error
+        if fault := volume.fault():
+            raise BackupError(fault)
+    finally:
+        volume.removed()

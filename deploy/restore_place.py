@@ -1,0 +1,229 @@
+"""Where a store is put back: the lock of what was there, the folder in which the restored one is made, its server.
+
+Beside the place of the store, so that a name is all that changes at the end:
+
+    lost-2026-11-29T071500Z       what was there
+    restoring.json                which of the next steps a run has begun
+    restoring                     the store that is being restored; a run that begins makes it anew
+    restored-2026-11-29T071502Z   that folder behind a restore: its lists and the journals of its own requests
+
+Until the end no file has the store's name, so no server can serve what is half restored. The log takes its name first:
+without the other file it is none that a start with --existing takes.
+"""
+
+import contextlib
+import fcntl
+import json
+import os
+import shutil
+import socket
+import subprocess
+import time
+from collections.abc import Iterator
+from pathlib import Path
+from typing import Any
+
+from backup_copy import FILES, digest_of, put_whole
+from restore_plan import RestoreError
+
+HOST = "127.0.0.1"
+FORM = "%Y-%m-%dT%H%M%SZ"
+
+
+def sync_folder(folder: Path) -> None:
+    handle = os.open(folder, os.O_RDONLY | os.O_DIRECTORY)
+    try:
+        os.fsync(handle)
+    finally:
+        os.close(handle)
+
+
+def sync_file(path: Path) -> None:
+    handle = os.open(path, os.O_RDONLY)
+    try:
+        os.fsync(handle)
+    finally:
+        os.close(handle)
+
+
+def holders_of(db: Path) -> list[int]:
+    """The processes that have the store open, also where its files were removed under them."""
+    found = set()
+    for link in Path("/proc").glob("[0-9]*/fd/*"):
+        with contextlib.suppress(OSError):
+            if os.readlink(link) in (str(db), f"{db} (deleted)"):
+                found.add(int(link.parts[2]))
+    return sorted(found - {os.getpid()})
+
+
+def is_open(port: int) -> bool:
+    with contextlib.suppress(OSError):
+        socket.create_connection((HOST, port), 1).close()
+        return True
+    return False
+
+
+def free_name(folder: Path, kind: str) -> Path:
+    """A folder's name of this moment that isn't there yet."""
+    while (path := folder / f"{kind}-{time.strftime(FORM, time.gmtime())}").exists():
+        time.sleep(0.1)
+    return path
+
+
+class Place:
+    """The place of a store, which may have no file."""
+
+    def __init__(self, db: str):
+        self.db = Path(os.path.realpath(db))
+        self.folder = self.db.parent
+        self.work = self.folder / "restoring"
+        self.begun = self.folder / "restoring.json"
+        self.made = self.work / FILES[0]
+
+    def own_files(self) -> list[Path]:
+        return [self.db, Path(f"{self.db}-wal")]
+
+    # Whose it is now.
+
+    def refuse_server(self, port: int) -> None:
+        """A server may have the store by its lock, by files that are gone, or by another path."""
+        if held := holders_of(self.db):
+            told = f"the process {held[0]} has {self.db}"
+        elif is_open(port):
+            told = f"somebody listens on port {port}"
+        else:
+            return
+        raise RestoreError(f"{told}: stop the server, or have it stopped by --stop station. Nothing was moved")
+
+    @contextlib.contextmanager
+    def locked(self) -> Iterator[None]:
+        """Has the lock that a server takes, where the store's file is there: it and a server never both have it."""
+        if not self.db.exists():
+            yield
+            return
+        with open(self.db, "r+b") as store:
+            try:
+                fcntl.lockf(store, fcntl.LOCK_EX | fcntl.LOCK_NB)
+            except OSError:
+                raise RestoreError(f"a server has {self.db}: stop it. Nothing was moved") from None
+            yield
+
+    @contextlib.contextmanager
+    def alone(self) -> Iterator[None]:
+        """One restore at a time."""
+        handle = os.open(self.folder / "restore.lock", os.O_RDWR | os.O_CREAT | os.O_NOFOLLOW, 0o600)
+        try:
+            try:
+                fcntl.flock(handle, fcntl.LOCK_EX | fcntl.LOCK_NB)
+            except BlockingIOError:
+                raise RestoreError(f"another restore is at work in {self.folder}") from None
+            yield
+        finally:
+            os.close(handle)
+
+    # What a run leaves to the next.
+
+    def state(self) -> dict[str, Any]:
+        try:
+            return json.loads(self.begun.read_text(encoding="utf-8"))
+        except FileNotFoundError:
+            return {}
+
+    def keep(self, **changes: Any) -> None:
+        put_whole(self.begun, json.dumps({**self.state(), **changes}) + "\n")
+
+    # The files.
+
+    def begin(self, backup: Path) -> None:
+        """The backup's files in the folder of this restore, under other names than the store's."""
+        if self.work.exists():
+            shutil.rmtree(self.work)
+        self.work.mkdir(mode=0o700)
+        for name in FILES:
+            shutil.copyfile(backup / name, self.work / name)
+        sync_folder(self.work)
+
+    def put_aside(self) -> None:
+        """Moves what was there away, the store's file first: without it no server starts."""
+        there = [it for it in self.own_files() if it.exists()]
+        if not there:
+            return
+        before = self.state().get("lost")
+        lost = self.folder / before if before else None
+        if not lost or any((lost / it.name).exists() for it in there):
+            lost = free_name(self.folder, "lost")
+            self.keep(lost=lost.name)
+        lost.mkdir(mode=0o700, exist_ok=True)
+        for path in there:
+            os.rename(path, lost / path.name)
+            sync_folder(self.folder)
+
+    def lost(self) -> Path | None:
+        """What was there, where both files of it are."""
+        name = self.state().get("lost")
+        files = [self.folder / name / it.name for it in self.own_files()] if name else []
+        return files[0] if files and all(it.exists() for it in files) else None
+
+    def put_in_place(self) -> Path:
+        """The restored store gets its name: the log first. It may be stopped in between, and called again."""
+        pairs = [(self.work / name, path) for name, path in zip(reversed(FILES), reversed(self.own_files()))]
+        for made, path in pairs:
+            if made.exists() and path.exists():
+                raise RestoreError(f"{path} is there again: it isn't touched, and {made} stays where it is")
+            if made.exists():
+                sync_file(made)
+        self.keep(placing=True)
+        for made, path in pairs:
+            if made.exists():
+                os.rename(made, path)
+                sync_folder(self.folder)
+        done = free_name(self.folder, "restored")
+        if self.work.exists():
+            os.rename(self.work, done)
+        self.begun.unlink()
+        sync_folder(self.folder)
+        return done
+
+
+# The program over the restored store.
+
+
+def opened(program: str, site: Path, db: Path) -> bool:
+    words = [program, "replay", "--site", str(site), "--db", str(db), "--existing"]
+    return subprocess.run(words, stdin=subprocess.DEVNULL, check=False).returncode == 0
+
+
+def check_backup(backup: Path) -> dict[str, Any]:
+    """What a backup says of itself, where its files are those that it names; nothing of one by an earlier program."""
+    for name in FILES:
+        if not (backup / name).is_file() or not (backup / name).stat().st_size:
+            raise RestoreError(f"{backup} has no {name}, or an empty one: it is no backup")
+    try:
+        about = json.loads((backup / "about.json").read_text(encoding="utf-8"))
+    except FileNotFoundError:
+        return {}
+    for name in FILES:
+        if digest_of(backup / name) != about["sha256"][name]:
+            raise RestoreError(f"{backup / name} isn't as it was made: take another backup")
+    return about
+
+
+@contextlib.contextmanager
+def served(program: str, site: Path, db: Path) -> Iterator[str]:
+    """The address of a server over a store, on a port of this machine that nobody knows. It dies with this process."""
+    with socket.socket() as listener:
+        listener.bind((HOST, 0))
+        port = listener.getsockname()[1]
+    words = ["setpriv", "--pdeathsig", "KILL", program, "serve", "--site", str(site), "--db", str(db), "--existing"]
+    server = subprocess.Popen(
+        [*words, "--port", str(port), "--connections", "1000000"],
+        stdin=subprocess.DEVNULL, stdout=subprocess.PIPE, text=True,
+    )  # fmt: skip
+    try:
+        assert server.stdout
+        if server.stdout.readline() != f"listening on {HOST}:{port}\n":
+            raise RestoreError(f"the program doesn't serve {db}")
+        yield f"http://{HOST}:{port}"
+    finally:
+        server.kill()
+        server.wait()
