@@ -1,0 +1,121 @@
+"""What journals say, for metrics: which chips were lost and why, and which seats stopped.
+
+Journals are read on from where the last run ended, so that a run costs what is new in them. What a run knows is kept:
+of each file how many bytes were read, of each seat its counts. So the counts never fall, also where a journal is moved
+away.
+"""
+
+from __future__ import annotations
+
+import json
+import os
+from pathlib import Path
+from typing import Any, Iterator, Optional
+
+from wanekupo.errors import BadJournal, UnsafeFile
+from wanekupo.exposition import Samples
+from wanekupo.files import opened_plain
+from wanekupo.journal import LONGEST_LINE, OF_A_DAY, SUFFIX
+from wanekupo.moments import moment_of
+
+REASONS = ("lost", "stray", "key")
+OUT_OF_STEP = (11, 12)
+
+# How many seats have metrics of their own; a site has 64 of each of 64 customers. The others are counted as one.
+MOST_SEATS = 500
+OTHERS = "others"
+
+
+def seat_named(file: Path) -> str:
+    """The seat of a journal whose lines don't name it, by the file's name."""
+    day = OF_A_DAY.fullmatch(file.name)
+    return (day[1].rstrip("-") if day else file.name.removesuffix(SUFFIX)) or file.parent.name
+
+
+class Counts:
+    """What is known of the journals, in the part of the kept file that is theirs."""
+
+    def __init__(self, kept: dict[str, Any]):
+        self.read: dict[str, int] = kept.setdefault("read", {})
+        self.seats: dict[str, dict[str, Any]] = kept.setdefault("seats", {})
+
+    def seat(self, name: str) -> dict[str, Any]:
+        known = name if name in self.seats or len(self.seats) < MOST_SEATS else OTHERS
+        new = {"lost": {}, "is_out": False, "asked": None, "at": ""}
+        return self.seats.setdefault(known, new)
+
+    def take(self, line: dict[str, Any], otherwise: str) -> None:
+        """A line. One that is older than what is known of its seat only counts, as where an old journal comes late."""
+        at, seat = str(line["at"]), self.seat(str(line.get("seat", otherwise)))
+        reply = line.get("reply")
+        if isinstance(reply, dict) and reply.get("outcome") in REASONS:
+            seat["lost"][reply["outcome"]] = seat["lost"].get(reply["outcome"], 0) + 1
+        if at < seat["at"]:
+            return
+        seat["at"] = at
+        if "asked" in line:
+            seat["asked"] = seat["asked"] or at
+        else:
+            seat["asked"] = None
+            seat["is_out"] = isinstance(reply, dict) and reply.get("no") in OUT_OF_STEP
+
+    def forget(self, files: list[Path]) -> None:
+        """Files that are gone are forgotten, and what they said isn't."""
+        there = set(map(str, files))
+        for file in [file for file in self.read if file not in there]:
+            del self.read[file]
+
+
+def _new_lines(file: Path, start: int) -> Iterator[tuple[dict[str, Any], int]]:
+    """The whole lines of a file from a byte on, each with the byte behind it. A file that is shorter is another one,
+    and is read from its beginning. No link is followed: others write where journals come to."""
+    with open(opened_plain(file, os.O_RDONLY), "rb") as source:
+        start = start if os.fstat(source.fileno()).st_size >= start else 0
+        source.seek(start)
+        while data := source.readline(LONGEST_LINE):
+            if not data.endswith(b"\n") and len(data) < LONGEST_LINE:
+                return
+            line = json.loads(data)
+            if not isinstance(line, dict) or "at" not in line:
+                raise ValueError("no line of a journal")
+            start += len(data)
+            yield line, start
+
+
+def read_on(counts: Counts, file: Path) -> Optional[BadJournal]:
+    """Reads what is new in a journal, and gives what is wrong with it."""
+    end = counts.read.setdefault(str(file), 0)
+    try:
+        for line, end in _new_lines(file, end):
+            counts.take(line, seat_named(file))
+            counts.read[str(file)] = end
+    except (ValueError, TypeError, AttributeError, RecursionError):
+        told = f"the line behind byte {end} of {file} is no line of a journal"
+        return BadJournal(told, "Look at it in a copy: the rest of that file isn't counted.")
+    except (OSError, UnsafeFile) as error:
+        return BadJournal(f"{file} can't be read: {error}", "Look whose it is.")
+    return None
+
+
+def add_journals(samples: Samples, kept: dict[str, Any], folders: list[Path]) -> None:
+    """The counts of all journals in folders and in the folders in them. Where one can't be read the others count."""
+    counts = Counts(kept)
+    files = [file for folder in folders for file in sorted(folder.rglob(f"*{SUFFIX}"))]
+    if not files:
+        raise BadJournal(f"no journal in {', '.join(map(str, folders))}", "Look where the stations' journals come to.")
+    counts.forget(files)
+    faults = [fault for file in files if (fault := read_on(counts, file))]
+    for name, seat in counts.seats.items():
+        _add_seat(samples, name, seat)
+    if faults:
+        raise faults[0]
+
+
+def _add_seat(samples: Samples, name: str, seat: dict[str, Any]) -> None:
+    for reason in REASONS:
+        samples.add("wanekupo_lost_chips_total", seat["lost"].get(reason, 0), seat=name, reason=reason)
+    samples.add("wanekupo_seat_out_of_step", seat["is_out"], seat=name)
+    if seat["asked"]:
+        samples.add("wanekupo_seat_unanswered_timestamp_seconds", moment_of(seat["asked"]).timestamp(), seat=name)
+    if seat["at"]:
+        samples.add("wanekupo_seat_last_line_timestamp_seconds", moment_of(seat["at"]).timestamp(), seat=name)
