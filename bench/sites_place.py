@@ -1,0 +1,207 @@
+"""A house with a store, its site, a backup of last night and a service, in a folder; and runs of deploy/site over it.
+
+The service is a script in a session of its own, as a real one is no child of who asks for it. A run may be killed right
+before its Nth deed that others see (a file that is opened to be written, renamed, removed, a program that is started),
+in the tool or in a program of Python that it started: `sitecustomize` counts them by Python's audit events.
+"""
+
+import hashlib
+import json
+import os
+import shutil
+import signal
+import socket
+import subprocess
+from dataclasses import dataclass
+from pathlib import Path
+
+from chip import ROOT, SITE, Failed
+
+TOOL = ROOT / "deploy/site"
+
+SERVICE = r"""#!/bin/bash
+# {start,stop,restarts}: one at a time, and in a session of its own.
+here=$(dirname "$(realpath "$0")")
+if [ -z "$INSIDE" ]; then INSIDE=yes exec setsid -w flock -o "$here/service.lock" "$0" "$@"; fi
+words=(--site "$here/site.toml" --db "$here/store/books.db" --existing)
+is_up() { [ -s "$here/pid" ] && kill -0 "$(cat "$here/pid")" 2> /dev/null; }
+case $1 in
+    start)
+        echo >> "$here/starts"
+        is_up && exit 0
+        if [ -e "$here/broken" ]; then echo 5 > "$here/restarts"; exit 0; fi
+        $AS "$PROGRAM" serve "${words[@]}" --port "$PORT" --connections 100000 > "$here/served" 2>&1 < /dev/null &
+        echo $! > "$here/pid"
+        for _ in $(seq 100); do grep -qs listening "$here/served" && break; sleep 0.02; done ;;
+    stop)
+        echo >> "$here/stops"
+        is_up || exit 0
+        kill "$(cat "$here/pid")"
+        while is_up; do sleep 0.01; done
+        $AS "$PROGRAM" replay "${words[@]}" < /dev/null ;;
+    restarts) cat "$here/restarts" ;;
+esac
+"""
+
+COUNTER = r"""
+import os, signal, sys
+_at, _count = int(os.environ["KILL_AT"]), os.open(os.environ["KILL_COUNT"], os.O_WRONLY | os.O_APPEND)
+_started = os.open(os.environ["KILL_COUNT"] + ".words", os.O_WRONLY | os.O_APPEND)
+_WRITES = os.O_WRONLY | os.O_RDWR | os.O_CREAT
+_DEEDS = {"os.rename", "os.remove", "os.mkdir", "os.rmdir", "os.chmod", "os.chown", "subprocess.Popen"}
+
+def _counted(event, args):
+    if event == "open":
+        if not isinstance(args[2], int) or not args[2] & _WRITES or str(args[0]).endswith(".pyc"):
+            return
+    elif event not in _DEEDS:
+        return
+    if event == "subprocess.Popen":
+        os.write(_started, (repr(args[1]) + "\n").encode())
+    os.write(_count, b"x")
+    if os.fstat(_count).st_size == _at:
+        os.killpg(0, signal.SIGKILL)
+
+sys.addaudithook(_counted)
+"""
+
+
+@dataclass
+class Run:
+    """How a run of the tool ended, and what it said."""
+
+    status: int
+    said: str
+    deeds: int = 0
+
+
+class House:
+    """A folder with all that the tool needs; the server may run."""
+
+    def __init__(self, program: Path, folder: Path):
+        self.program, self.folder, self.port = program, folder, free_port()
+        self.site, self.tokens = folder / "site.toml", folder / "tokens.conf"
+        self.backups, self.given, self.db = folder / "backups", folder / "given", folder / "store/books.db"
+        self.other_words: dict[str, object] = {}
+        self.owner = ""
+
+    def build(self) -> None:
+        """A store that is made, and a backup of it."""
+        self.folder.mkdir()
+        self.site.write_bytes(SITE.read_bytes())
+        self.site.chmod(0o640)
+        for made in (self.backups, self.given, self.db.parent):
+            made.mkdir()
+        (self.folder / "restarts").write_text("0\n")
+        service = self.folder / "service"
+        service.write_text(SERVICE)
+        service.chmod(0o755)
+        made = [self.program, "replay", "--site", self.site, "--db", self.db]
+        subprocess.run(made, stdin=subprocess.DEVNULL, check=True)
+        words = ["--program", self.program, "--site", self.site, "--db", self.db]
+        subprocess.run([ROOT / "deploy/backup", *words, self.backups / "night"], capture_output=True, check=True)
+
+    def copy(self, folder: Path) -> "House":
+        """Another house like this one; no server runs in either."""
+        shutil.copytree(self.folder, folder)
+        return House(self.program, folder)
+
+    def environment(self) -> dict[str, str]:
+        owner = f"setpriv --reuid {self.owner} --clear-groups --" if self.owner else ""
+        return os.environ | {"PROGRAM": str(self.program), "PORT": str(self.port), "AS": owner}
+
+    def service(self, word: str) -> None:
+        subprocess.run([self.folder / "service", word], env=self.environment(), check=True)
+
+    def end(self) -> None:
+        """Stops the server, whatever was left."""
+        self.service("stop")
+
+    def common(self) -> list[str]:
+        """The words in front of each command."""
+        service = self.folder / "service"
+        words = {"--site": self.site, "--db": self.db, "--backups": self.backups, "--nginx": "",
+                 "--tokens": self.tokens, "--program": self.program, "--port": self.port,
+                 "--start": f"{service} start", "--stop": f"{service} stop", "--restarts": f"{service} restarts",
+                 "--wait": 20, "--token-words": "--no-reload"} | self.other_words  # fmt: skip
+        return [str(TOOL), *(f"{name}={value}" for name, value in words.items())]
+
+    def run(self, *words: str, kill_at: int = 0) -> Run:
+        """A run of the tool, which may be killed at a deed."""
+        count = self.folder / "count"
+        started = count.with_name("count.words")
+        count.write_bytes(b"")
+        started.touch()
+        (self.folder / "sitecustomize.py").write_text(COUNTER)
+        more = {"KILL_AT": str(kill_at or -1), "KILL_COUNT": str(count), "PYTHONPATH": str(self.folder)}
+        done = subprocess.run(
+            [*self.common(), *words], env=self.environment() | more, capture_output=True, text=True, timeout=120,
+            stdin=subprocess.DEVNULL, start_new_session=True, check=False,
+        )  # fmt: skip
+        return Run(done.returncode, done.stdout + done.stderr, count.stat().st_size)
+
+    def give_away(self, owner: str) -> None:
+        """Makes the store and its backups another user's, as whom the server runs then."""
+        self.owner = owner
+        for path in (self.backups, *self.backups.rglob("*"), self.db.parent, *self.db.parent.iterdir()):
+            shutil.chown(path, owner)
+        self.site.chmod(0o644)
+
+    def proxied(self) -> "subprocess.Popen[bytes]":
+        """nginx by deploy/nginx.conf in front, with other ports and paths."""
+        port, certificate = free_port(), self.folder / "cert.pem"
+        words = ["req", "-x509", "-newkey", "ec", "-pkeyopt", "ec_paramgen_curve:prime256v1", "-noenc", "-days", "2"]
+        words += ["-subj", "/CN=station.example", "-keyout", str(self.folder / "key.pem"), "-out", str(certificate)]
+        subprocess.run(["openssl", *words], capture_output=True, check=True)
+        text = (ROOT / "deploy/nginx.conf").read_text(encoding="utf-8")
+        for old, new in [("listen 8443", f"listen 127.0.0.1:{port}"), ("127.0.0.1:880;", f"127.0.0.1:{self.port};"),
+                         ("/etc/station/", f"{self.folder}/"), ("/var/lib/nginx/", f"{self.folder}/lib-"),
+                         ("/var/log/nginx/", f"{self.folder}/log-")]:  # fmt: skip
+            if old not in text:
+                raise Failed(f"deploy/nginx.conf has no {old}")
+            text = text.replace(old, new)
+        path, pid = self.folder / "nginx.conf", self.folder / "nginx.pid"
+        path.write_text(text)
+        made = [ROOT / "deploy/token", "--file", self.tokens, "--no-reload", "write"]
+        subprocess.run(made, capture_output=True, check=True)
+        nginx = f"nginx -c {path} -e {self.folder}/log -g 'pid {pid};'"
+        told = f'--test "{nginx} -t -q" --reload "{nginx} -s reload" --pid {pid}'
+        self.other_words = {"--nginx": f"https://127.0.0.1:{port}", "--certificate": certificate, "--token-words": told}
+        running = ["nginx", "-c", path, "-e", f"{self.folder}/log", "-g", f"pid {pid}; daemon off;"]
+        return subprocess.Popen([str(word) for word in running], stderr=subprocess.DEVNULL)
+
+    def records(self) -> tuple[dict[str, dict], list[dict]]:
+        """The seats and the outer tokens of the tokens' file."""
+        text = self.tokens.read_text() if self.tokens.exists() else ""
+        found = [json.loads(line[3:]) for line in text.splitlines() if line.startswith("#: ")]
+        return {it["seat"]: it for it in found if "number" not in it}, [it for it in found if "number" in it]
+
+    def asked(self, token: str) -> int:
+        """The server's status for who asks with a token."""
+        words = ["curl", "-s", "-o", os.devnull, "-w", "%{http_code}", "-m", "5", "--config", "-"]
+        config = f'url = "http://127.0.0.1:{self.port}/v1/order?name=none"\nheader = "Authorization: Bearer {token}"\n'
+        return int(subprocess.run(words, input=config, capture_output=True, text=True, check=False).stdout or 0)
+
+    def left(self) -> list[str]:
+        """What a run shouldn't leave: plans, new texts, halves of files and of backups."""
+        names = ["*.next.toml", "*.growth", "*.new", "backups/tried-by-site.*", "backups/*/trial.*"]
+        return sorted(str(path.relative_to(self.folder)) for name in names for path in self.folder.glob(name))
+
+
+def digest_of(token: str) -> str:
+    return hashlib.sha256(token.encode()).hexdigest()
+
+
+def expect(what: str, found: object, wanted: object) -> None:
+    if found != wanted:
+        raise Failed(f"{what}: {found!r}, and not {wanted!r}")
+
+
+def free_port() -> int:
+    with socket.socket() as one:
+        one.bind(("127.0.0.1", 0))
+        return one.getsockname()[1]
+
+
+def was_killed(run: Run) -> bool:
+    return run.status == -signal.SIGKILL
