@@ -97,10 +97,10 @@ class Shell:
 
     def deploy(self):
         """Puts the files of `deploy` there, with the ports of this run."""
-        os.mkdir(f"{self.folder.name}/deploy")
-        for path in sorted((ROOT / "deploy").iterdir()):
+        for path in sorted(it for it in (ROOT / "deploy").rglob("*") if it.is_file()):
             text = at_ports(path.read_text(encoding="utf-8"), PORT, self.port)
-            copy = Path(self.folder.name, "deploy", path.name)
+            copy = Path(self.folder.name, path.relative_to(ROOT))
+            copy.parent.mkdir(parents=True, exist_ok=True)
             copy.write_text(text, encoding="utf-8")
             shutil.copymode(path, copy)
 

@@ -11,7 +11,8 @@ import os
 import sys
 from typing import Optional, Sequence
 
-from wanekupo import __version__, asking, bench, looking, reports
+from wanekupo import __version__, asking, audit, bench, certificates, looking, manifest, metrics, reports, seal
+from wanekupo import shift_report, shipping
 from wanekupo.config import FILES, settings_of
 from wanekupo.errors import NoReply, NotTheServer, OutOfStep, Refused, TooLong
 from wanekupo.printing import warn
@@ -34,7 +35,18 @@ COMMANDS = [
     *looking.COMMANDS,
     *asking.COMMANDS,
     *reports.COMMANDS,
+    *manifest.COMMANDS,
+    *certificates.COMMANDS,
+    *shift_report.COMMANDS,
+    *seal.COMMANDS,
+    *audit.COMMANDS,
+    *metrics.COMMANDS,
+    *shipping.COMMANDS,
 ]
+
+# The commands that may have a request under way where they are stopped. The others only look: they begin anew.
+ASKING = frozenset({"run", "restore", *(row.name for row in asking.COMMANDS)})
+GOES_ON, AGAIN = "What was under way goes on with: wanekupo finish.", "Give the same command again."
 
 
 def _common() -> argparse.ArgumentParser:
@@ -95,7 +107,7 @@ def main(words: Optional[Sequence[str]] = None) -> int:
         os.dup2(os.open(os.devnull, os.O_WRONLY), sys.stdout.fileno())
         return DONE
     except KeyboardInterrupt:
-        warn("Stopped by hand. What was under way goes on with: wanekupo finish.")
+        warn(f"Stopped by hand. {GOES_ON if args.command in ASKING else AGAIN}")
         return INTERRUPTED
     except Exception as error:
         warn(sentence_of(error))

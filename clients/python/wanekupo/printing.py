@@ -47,12 +47,20 @@ class Progress:
     """How far long work is: a line on standard error, where that is a terminal."""
 
     def __init__(self, what: str):
-        self.what, self.is_shown = what, False
+        self.what, self.is_shown, self.width = what, False, 0
 
     def __call__(self, done: int, of: int) -> None:
+        self._show(f"{done} of {of}")
+
+    def waits(self, told: str) -> None:
+        """Tells what is waited for, until the first count takes its place."""
+        self._show(f"waiting for {told}")
+
+    def _show(self, told: str) -> None:
         if sys.stderr.isatty():
-            print(f"\r{self.what}: {done} of {of}", end="", file=sys.stderr, flush=True)
-            self.is_shown = True
+            line = f"{self.what}: {told}"
+            print(f"\r{line.ljust(self.width)}", end="", file=sys.stderr, flush=True)
+            self.is_shown, self.width = True, len(line)
 
     def __enter__(self) -> Progress:
         return self

@@ -73,6 +73,13 @@ OF_FILES: list[tuple[type[OSError], str, str]] = [
     (NotADirectoryError, "{} isn't in a folder", "Look at its name."),
 ]
 
+# The words that a sentence of this package begins with. Any other first word may be the name of a file or a command,
+# and stays as it was given.
+OPENERS = frozenset(
+    "a an another block devices each from it its line no nobody nothing number only order others some that the there "
+    "these this two wanekupo what without".split()
+)
+
 OURS = os.path.dirname(os.path.abspath(__file__))
 
 
@@ -98,10 +105,14 @@ def sentence_of(error: BaseException) -> str:
     return _sentences(shown(happened), shown(advice))
 
 
+def begun(happened: str) -> str:
+    """With a capital letter, but where the name of a file or a command begins it."""
+    return happened[:1].upper() + happened[1:] if happened.partition(" ")[0] in OPENERS else happened
+
+
 def _sentences(happened: str, advice: str) -> str:
-    """Both with a capital letter and a full stop, but where a name of a file begins them."""
-    begins = happened[:1].upper() + happened[1:] if happened.partition(" ")[0].isalpha() else happened
-    return " ".join(it for it in (begins.rstrip(".") + ".", advice) if it)
+    """Both with a full stop."""
+    return " ".join(it for it in (begun(happened).rstrip(".") + ".", advice) if it)
 
 
 def _stopped(stop: OutOfStep) -> str:
