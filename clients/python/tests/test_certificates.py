@@ -44,6 +44,41 @@ def made_ca(folder):
     need(folder, f"set -e\n{commands}")
     return folder
 
+# The configurations of another command: what each changes in the right one.
+CONFIGURATIONS = {
+    "right": ("x", "x"),
+    "own": ("critical,CA:false", "critical,CA:true"),
+    "usage": ("critical,digitalSignature", "critical,digitalSignature,keyAgreement"),
+    "mild": ("critical,digitalSignature", "digitalSignature"),
+    "without": ("keyid:always", "none"),
+    "more": ("[root]", "1.2.3.4 = critical,ASN1:NULL\n[root]"),
+}
+
+# The command that signs as it should.
+SIGN = (
+    'openssl ca -config right.cnf -batch -notext -startdate "$NOT_BEFORE" -enddate "$NOT_AFTER" '
+    '-subj "/serialNumber=$SERIAL" -in "$CSR"'
+)
+
+
+def commands_of(another):
+    """Commands that sign, and what is told of each that is wrong. `another` is the certificate of another device."""
+    return (
+        (SIGN, None),
+        ("echo hello", "has no certificate"),
+        (f"cat {another}", "it has another key than the record"),
+        (SIGN.replace("$NOT_AFTER", "20991231235959Z"), "it ends at 20991231235959Z, and the record at 9999"),
+        (SIGN.replace("$NOT_BEFORE", "20250101000000Z"), "it begins at 20250101000000Z, and the record at 2026"),
+        (SIGN.replace("$SERIAL", "A999"), "its subject has A999 as serialNumber"),
+        (SIGN.replace("right", "own"), "it is a CA's"),
+        (SIGN.replace("right", "usage"), "its keyUsage is another than digitalSignature alone"),
+        (SIGN.replace("right", "mild"), "its keyUsage is not critical"),
+        (SIGN.replace("right", "without"), "it has no authorityKeyIdentifier"),
+        (SIGN.replace("right", "more"), "critical"),
+        (SIGN + " -cert other.pem -keyfile other.key", "no chain leads to"),
+        ("exit 3", "ended with status 3"),
+    )
+
 
 @NEEDS_KEYS
 class Certificates(StationCase):
@@ -326,39 +361,14 @@ class Certificates(StationCase):
     def test_another_command(self):
         """What it gives is held to the record before it is kept; where it gave what can't be kept a person looks."""
         config = (self.ca / "ca.cnf").read_text(encoding="utf-8")
-        for name, old, new in (
-            ("right", "x", "x"),
-            ("own", "critical,CA:false", "critical,CA:true"),
-            ("usage", "critical,digitalSignature", "critical,digitalSignature,keyAgreement"),
-            ("mild", "critical,digitalSignature", "digitalSignature"),
-            ("without", "keyid:always", "none"),
-            ("more", "[root]", "1.2.3.4 = critical,ASN1:NULL\n[root]"),
-        ):
+        for name, (old, changed) in CONFIGURATIONS.items():
             self.assertIn(old, config)
-            (self.ca / f"{name}.cnf").write_text(config.replace(old, new), encoding="utf-8")
+            (self.ca / f"{name}.cnf").write_text(config.replace(old, changed), encoding="utf-8")
         need(self.ca, "openssl req -x509 -newkey ed25519 -noenc -subj /CN=other -keyout other.key -out other.pem")
         other = self.device("o2")
         self.counted(1, 0, 0)
-        sign = (
-            'openssl ca -config right.cnf -batch -notext -startdate "$NOT_BEFORE" -enddate "$NOT_AFTER" '
-            '-subj "/serialNumber=$SERIAL" -in "$CSR"'
-        )
         script = self.folder / "sign"
-        for line, told in (
-            (sign, None),
-            ("echo hello", "has no certificate"),
-            (f"cat {self.spool}/{other}.pem", "it has another key than the record"),
-            (sign.replace("$NOT_AFTER", "20991231235959Z"), "it ends at 20991231235959Z, and the record at 9999"),
-            (sign.replace("$NOT_BEFORE", "20250101000000Z"), "it begins at 20250101000000Z, and the record at 2026"),
-            (sign.replace("$SERIAL", "A999"), "its subject has A999 as serialNumber"),
-            (sign.replace("right", "own"), "it is a CA's"),
-            (sign.replace("right", "usage"), "its keyUsage is another than digitalSignature alone"),
-            (sign.replace("right", "mild"), "its keyUsage is not critical"),
-            (sign.replace("right", "without"), "it has no authorityKeyIdentifier"),
-            (sign.replace("right", "more"), "critical"),
-            (sign + " -cert other.pem -keyfile other.key", "no chain leads to"),
-            ("exit 3", "ended with status 3"),
-        ):
+        for line, told in commands_of(self.spool / f"{other}.pem"):
             with self.subTest(line):
                 serial = self.device()
                 script.write_text(f"#!/bin/sh\n{line}\n", encoding="ascii")

@@ -28,6 +28,10 @@ FIRST = {"name": "o2", "issuer": "acme-ca", "prefix": "A", "width": 3, "first": 
 SECOND = FIRST | {"name": "-1", "prefix": "-B", "first": 1, "quantity": 9, "macs": 0}
 
 
+# What a part knows the token of these tests by.
+TOKEN = hashlib.sha256(b"abc").hexdigest().encode()
+
+
 class Forging(Proxy):
     """Changes replies on their way: each pattern's first find in a reply becomes what is beside it."""
 
@@ -156,9 +160,7 @@ class Manifest(StationCase):
         self.assertFalse(part.exists())
         digest = hashlib.sha256(whole_list).hexdigest()
         self.assertEqual((self.folder / "lot.csv.sha256").read_text(), f"{digest}  lot.csv\n")
-        rows = [json.dumps(it).encode() for it in ({name: row[name] for name in COLUMNS} for row in self.rows())]
-        token = hashlib.sha256(b"abc").hexdigest()
-        head = json.dumps({"token": token, "url": proxy.url}).encode()
+        head, rows = self.part_of(proxy)
         other = rows[0].replace(b'"-B001"', b'"-B003"')
         key = b'"key_sha256": "'
         digit = rows[1].partition(key)[2][:1]
@@ -172,7 +174,7 @@ class Manifest(StationCase):
             ("without digests", [head, *rows], 4),
             ("another serial number", [head, line_of(other), *good[1:]], 1),
             ("another state", [head, *(line_of(it.replace(b"identified", b"shipped")) for it in rows)], 0),
-            ("another's", [head.replace(token.encode(), 64 * b"0"), *good], 4),
+            ("another's", [head.replace(TOKEN, 64 * b"0"), *good], 4),
             ("no form", [head, line_of(rows[0].replace(b"acme-ca", b"=1")), *good[1:]], 4),
         ):
             with self.subTest(name):
@@ -182,7 +184,13 @@ class Manifest(StationCase):
                 status, _, err = self.manifest("--all", "--out", file, url=proxy.url)
                 self.assertEqual((status, file.read_bytes() == whole_list, part.exists()), (0, True, False), err)
                 self.assertEqual(sum(b"/v1/identity" in it for it in proxy.asked), asked)
-        part.write_bytes(b"\n".join([head, good[2], good[1][:150]]))
+
+    def test_it_is_cut_again(self):
+        """What came stays; a link in the part's place is refused."""
+        proxy, file, part = self.proxy(kind=Forging), self.folder / "lot.csv", self.folder / "lot.csv.part"
+        head, rows = self.part_of(proxy)
+        part.write_bytes(b"\n".join([head, line_of(rows[2]), line_of(rows[1])[:150]]))
+        part.chmod(0o600)
         proxy.changes = [(rb'(240ac4000003","issuer":"acme-ca","key_sha256":)"..', rb'\1"zz')]
         with mock.patch.object(wanekupo.lots, "AT_A_TIME", 1):
             self.assertEqual(self.manifest("--all", "--out", file, url=proxy.url)[0], 3)
@@ -191,6 +199,11 @@ class Manifest(StationCase):
         part.symlink_to(self.folder / "look")
         status, _, err = self.manifest("--all", "--out", file)
         self.assertEqual((status, "is a link" in err), (2, True), err)
+
+    def part_of(self, proxy):
+        """The first line of a part over a proxy, and the rows of the whole list."""
+        head = json.dumps({"token": TOKEN.decode(), "url": proxy.url}).encode()
+        return head, [json.dumps({name: row[name] for name in COLUMNS}).encode() for row in self.rows()]
 
     def kept(self, part):
         """The serial numbers of a part's lines."""
