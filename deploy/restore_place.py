@@ -25,17 +25,10 @@ from typing import Any
 
 from backup_copy import FILES, digest_of, put_whole
 from restore_plan import RestoreError
+from token_file import sync_folder
 
 HOST = "127.0.0.1"
 FORM = "%Y-%m-%dT%H%M%SZ"
-
-
-def sync_folder(folder: Path) -> None:
-    handle = os.open(folder, os.O_RDONLY | os.O_DIRECTORY)
-    try:
-        os.fsync(handle)
-    finally:
-        os.close(handle)
 
 
 def sync_file(path: Path) -> None:
