@@ -12,7 +12,7 @@ import sys
 from typing import Optional, Sequence
 
 from wanekupo import __version__, asking, audit, bench, certificates, looking, manifest, metrics, reports, seal
-from wanekupo import shift_report, shipping
+from wanekupo import shift_report, shipping, witness
 from wanekupo.config import FILES, settings_of
 from wanekupo.errors import NoReply, NotTheServer, OutOfStep, Refused, TooLong
 from wanekupo.printing import warn
@@ -42,6 +42,7 @@ COMMANDS = [
     *audit.COMMANDS,
     *metrics.COMMANDS,
     *shipping.COMMANDS,
+    *witness.COMMANDS,
 ]
 
 # The commands that may have a request under way where they are stopped. The others only look: they begin anew.

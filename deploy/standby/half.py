@@ -1,0 +1,230 @@
+"""One of two machines that have the store: its settings, what DRBD says of its half, and whether the other is off.
+
+A *half* is the disk of one machine. DRBD keeps both equal while they are connected. `takeover`, `stepdown`,
+`other-is-off` and `fence-peer` share this; docs/how-to/standby.md says what they are for. Python 3.11, standard library
+alone.
+"""
+
+from __future__ import annotations
+
+import os
+import re
+import shlex
+import subprocess
+import sys
+import time
+import tomllib
+from dataclasses import dataclass, fields
+from pathlib import Path
+from typing import NoReturn
+
+SETTINGS = Path("/etc/station/standby.toml")
+# What this machine says of itself until it is switched off. Nobody but root writes there.
+RUN = Path("/run/station-standby")
+# How long a command of a plant's may take, and one that starts or stops the server.
+COMMAND_SECONDS, SERVER_SECONDS = 60, 900
+
+TABLE = Path("/proc/drbd")
+# What DRBD calls the states of a machine that doesn't speak with the other one.
+ALONE = (
+    "StandAlone",
+    "Disconnecting",
+    "Unconnected",
+    "Timeout",
+    "BrokenPipe",
+    "NetworkFailure",
+    "ProtocolError",
+    "TearDown",
+    "WFConnection",
+    "WFReportParams",
+)
+
+
+FROZEN = (
+    "Mend the cable, and it goes on. Or cut the other machine's power for certain, and type `other-is-off` here. Where "
+    "the other machine has taken the store over, cut the power of this one, and switch it on again: it follows."
+)
+
+
+class Refused(Exception):
+    """Why something isn't done, and what to do then: whole sentences."""
+
+
+@dataclass(frozen=True)
+class Settings:
+    """The settings of /etc/station/standby.toml."""
+
+    resource: str = "station"
+    device: str = "/dev/drbd0"
+    folder: str = "/var/lib/station"
+    site: str = "/etc/station/site.toml"
+    program: str = "station"
+    user: str = "station"
+    scratch: str = "/var/tmp"
+    scratch_bytes: int = 1 << 30
+    start: str = "systemctl start station"
+    stop: str = "systemctl stop station"
+    take_address: str = "true"
+    leave_address: str = "true"
+    fence: str = ""
+    witnesses: tuple[str, ...] = ()
+
+
+def read_settings(file: Path = SETTINGS) -> Settings:
+    """The settings, where nobody but root can have written them: they name commands that root runs."""
+    try:
+        found = os.stat(file)
+        text = file.read_bytes().decode()
+        values = tomllib.loads(text)
+    except FileNotFoundError:
+        return Settings()
+    except (UnicodeDecodeError, tomllib.TOMLDecodeError) as error:
+        raise Refused(f"{file} is no TOML: {error}.") from None
+    if found.st_uid != 0 or found.st_mode & 0o022:
+        raise Refused(f"Others than root can write {file}, whose commands root runs: chown root, and chmod go-w.")
+    kinds = {field.name: type(field.default) for field in fields(Settings)}
+    for name, value in values.items():
+        if name not in kinds:
+            raise Refused(f"{file} has {name}, which is no setting.")
+        if kinds[name] is tuple and isinstance(value, list) and all(isinstance(it, str) for it in value):
+            values[name] = tuple(value)
+        elif not isinstance(value, kinds[name]) or isinstance(value, bool):
+            raise Refused(f"{name} in {file} has another form than the settings' own.")
+    return Settings(**values)
+
+
+def run(words: list[str], seconds: float = COMMAND_SECONDS, **more: object) -> subprocess.CompletedProcess[str]:
+    """A command with what it prints. Where it takes too long it is a failure as any other."""
+    try:
+        return subprocess.run(words, capture_output=True, text=True, timeout=seconds, stdin=subprocess.DEVNULL, **more)
+    except (subprocess.TimeoutExpired, OSError) as error:
+        return subprocess.CompletedProcess(words, 1, "", str(error))
+
+
+def done(words: list[str], seconds: float = COMMAND_SECONDS) -> str:
+    """What a command prints that has to do what it says."""
+    ended = run(words, seconds)
+    if ended.returncode:
+        said = (ended.stderr or ended.stdout).strip().replace("\n", "; ")
+        raise Refused(f"`{shlex.join(words)}` ended with status {ended.returncode}: {said}")
+    return ended.stdout.strip()
+
+
+def tell(line: str) -> None:
+    print(line, flush=True)
+
+
+def ended(name: str, call: object) -> NoReturn:
+    """Ends a script with its call's status, and with the sentences of a refusal where it is refused."""
+    if os.geteuid() != 0:
+        print(f"{name}: Only root can do that.", file=sys.stderr)
+        sys.exit(1)
+    try:
+        sys.exit(call())  # type: ignore[operator]
+    except Refused as refused:
+        print(f"{name}: refused: {refused}", file=sys.stderr)
+        sys.exit(1)
+
+
+@dataclass(frozen=True)
+class State:
+    """What DRBD says: how the two are connected, this machine's role and the other's, what their disks are, and whether
+    this machine's writes are frozen."""
+
+    connection: str
+    role: str
+    other_role: str
+    disk: str
+    other_disk: str
+    is_frozen: bool
+
+    def is_connected(self) -> bool:
+        return self.connection not in ALONE
+
+    def __str__(self) -> str:
+        frozen = ", frozen" if self.is_frozen else ""
+        return f"{self.connection} {self.role}/{self.other_role} {self.disk}/{self.other_disk}{frozen}"
+
+
+class Half:
+    """This machine's half."""
+
+    def __init__(self, settings: Settings):
+        self.settings, self.resource = settings, settings.resource
+        self.folder = Path(settings.folder)
+
+    def asked(self, what: str) -> str:
+        return done(["drbdadm", what, self.resource])
+
+    def state(self) -> State:
+        """What DRBD says now, by the kernel's own table, which DRBD 8.4 has."""
+        minor = self.settings.device.removeprefix("/dev/drbd")
+        form = rf"^ *{minor}: cs:(\S+) ro:(\S+)/(\S+) ds:(\S+)/(\S+) \S+ (\S)"
+        table = TABLE.read_text(encoding="ascii") if TABLE.exists() else ""
+        if found := re.search(form, table, re.MULTILINE):
+            return State(*found.groups()[:5], is_frozen=found[6] == "s")
+        raise Refused(f"DRBD has no {self.settings.device} here: `drbdadm up {self.resource}`.")
+
+    def disk(self) -> str:
+        return self.asked("sh-ll-dev")
+
+    def other_name(self) -> str:
+        """The other machine's name, by the resource's own file."""
+        found = re.findall(r"^    on (\S+) \{", self.asked("dump"), re.MULTILINE)
+        names = [name for name in found if name != os.uname().nodename]
+        if len(names) != 1:
+            raise Refused(f"The resource {self.resource} has {len(names)} other machines, and not one.")
+        return names[0]
+
+    def is_mounted(self) -> bool:
+        return os.path.ismount(self.folder)
+
+    def mount(self) -> None:
+        done(["mount", "-o", "nodev,nosuid,noexec", self.settings.device, str(self.folder)])
+
+    def unmount(self) -> None:
+        done(["umount", str(self.folder)])
+
+    def command(self, what: str, seconds: float = COMMAND_SECONDS) -> str:
+        """One of the settings' commands."""
+        return done(shlex.split(getattr(self.settings, what)), seconds)
+
+
+# Whether the other machine is off.
+
+
+def word_file() -> Path:
+    """The file by which a person's word, or the plant's command, reaches the handler. Who restarts has none."""
+    RUN.mkdir(mode=0o700, exist_ok=True)
+    found = os.stat(RUN)
+    if found.st_uid != 0 or found.st_mode & 0o022:
+        raise Refused(f"Others than root can write {RUN}.")
+    return RUN / "other-is-off"
+
+
+def give_word() -> None:
+    word_file().write_text("off\n", encoding="ascii")
+
+
+def take_word() -> bool:
+    """Whether the word was given. It is used up by that."""
+    try:
+        word_file().unlink()
+        return True
+    except FileNotFoundError:
+        return False
+
+
+def fenced_by_command(settings: Settings) -> bool:
+    """Whether the plant's own command has switched the other machine off."""
+    return bool(settings.fence) and run(shlex.split(settings.fence)).returncode == 0
+
+
+def waited_for(is_there: object, seconds: float) -> bool:
+    """Whether something comes true in time, looked at each second."""
+    end = time.monotonic() + seconds
+    while not is_there():  # type: ignore[operator]
+        if time.monotonic() > end:
+            return False
+        time.sleep(1)
+    return True
