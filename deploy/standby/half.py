@@ -15,6 +15,7 @@ import sys
 import time
 import tomllib
 from dataclasses import dataclass, fields
+from datetime import datetime, timezone
 from pathlib import Path
 from typing import NoReturn
 
@@ -23,6 +24,8 @@ SETTINGS = Path("/etc/station/standby.toml")
 RUN = Path("/run/station-standby")
 # How long a command of a plant's may take, and one that starts or stops the server.
 COMMAND_SECONDS, SERVER_SECONDS = 60, 900
+# How long a word counts that nobody has heard.
+WORD_SECONDS = 120
 
 TABLE = Path("/proc/drbd")
 # What DRBD calls the states of a machine that doesn't speak with the other one.
@@ -193,13 +196,30 @@ class Half:
 # Whether the other machine is off.
 
 
-def word_file() -> Path:
-    """The file by which a person's word, or the plant's command, reaches the handler. Who restarts has none."""
+def run_file(name: str) -> Path:
+    """A file of what this machine says of itself. Who restarts has none."""
     RUN.mkdir(mode=0o700, exist_ok=True)
     found = os.stat(RUN)
     if found.st_uid != 0 or found.st_mode & 0o022:
         raise Refused(f"Others than root can write {RUN}.")
-    return RUN / "other-is-off"
+    return RUN / name
+
+
+def word_file() -> Path:
+    """The file by which a person's word, or the plant's command, reaches the handler."""
+    return run_file("other-is-off")
+
+
+def alone_since() -> datetime:
+    """Since when the other machine is known to be off: the first `takeover` that found it so has written that down."""
+    file = run_file("alone-since")
+    if not file.exists():
+        file.write_text(datetime.now(timezone.utc).isoformat(timespec="seconds"), encoding="ascii")
+    return datetime.fromisoformat(file.read_text(encoding="ascii"))
+
+
+def forget_alone() -> None:
+    run_file("alone-since").unlink(missing_ok=True)
 
 
 def give_word() -> None:
@@ -207,10 +227,11 @@ def give_word() -> None:
 
 
 def take_word() -> bool:
-    """Whether the word was given. It is used up by that."""
+    """Whether the word was given, and just now: one that was left is of another day. It is used up by that."""
     try:
+        age = time.time() - word_file().stat().st_mtime
         word_file().unlink()
-        return True
+        return 0 <= age < WORD_SECONDS
     except FileNotFoundError:
         return False
 

@@ -16,27 +16,30 @@ from pathlib import Path
 from half import Refused, run
 from look import numbers_of
 
-# A witness is of the moment of its making. One from before the cable was cut says nothing of what came then.
-OLDEST = timedelta(minutes=15)
 MADE = re.compile(r"^at (\d{4}-\d\d-\d\dT\d\d:\d\d:\d\dZ)$", re.MULTILINE)
+# How far ahead the clock of a station's PC may be.
+AHEAD = timedelta(minutes=1)
 
 
-def tested(text: str, name: str) -> dict[str, int]:
-    """A witness's numbers, where it is one and is of now."""
+def tested(text: str, name: str, since: datetime | None) -> dict[str, int]:
+    """A witness's numbers, where it is one, and was made when the other machine was off: one from before says nothing
+    of what that machine answered then."""
     made = MADE.search(text)
     if not made:
         raise Refused(f"{name} has no line as `at 2026-11-29T09:00:00Z`, so nobody knows of when it is.")
-    age = datetime.now(timezone.utc) - datetime.fromisoformat(made[1])
-    if abs(age) > OLDEST:
-        told = "Make it anew by `wanekupo witness`, and compare both clocks."
-        raise Refused(f"{name} was made at {made[1]}, which is {int(age.total_seconds() / 60)} minutes ago. {told}")
+    moment = datetime.fromisoformat(made[1])
+    if since and moment < since:
+        told = f"the other machine is off since {since:%Y-%m-%dT%H:%M:%SZ} by this machine's clock"
+        raise Refused(f"{name} was made at {made[1]}, and {told}: make it anew by `wanekupo witness`.")
+    if moment > datetime.now(timezone.utc) + AHEAD:
+        raise Refused(f"{name} was made at {made[1]}, which is to come by this machine's clock: set both clocks.")
     found = numbers_of(text)
     if not found:
         raise Refused(f"{name} has no line as `seat a1 17`.")
     return found
 
 
-def gathered(files: Iterable[str], commands: Iterable[str]) -> dict[str, int]:
+def gathered(files: Iterable[str], commands: Iterable[str], since: datetime | None) -> dict[str, int]:
     """The numbers of all witnesses together, the highest of each seat. One that can't be had is none."""
     found: dict[str, int] = {}
     texts = [(name, sys.stdin.read() if name == "-" else read(name)) for name in files]
@@ -47,7 +50,7 @@ def gathered(files: Iterable[str], commands: Iterable[str]) -> dict[str, int]:
             raise Refused(f"The witness `{command}` ended with status {ended.returncode}: {said}")
         texts.append((f"`{command}`", ended.stdout))
     for name, text in texts:
-        for seat, number in tested(text, name).items():
+        for seat, number in tested(text, name, since).items():
             found[seat] = max(found.get(seat, 0), number)
     return found
 
