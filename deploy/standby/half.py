@@ -14,10 +14,11 @@ import subprocess
 import sys
 import time
 import tomllib
+from collections.abc import Callable
 from dataclasses import dataclass, fields
 from datetime import datetime, timezone
 from pathlib import Path
-from typing import NoReturn
+from typing import Any, NoReturn
 
 SETTINGS = Path("/etc/station/standby.toml")
 # What this machine says of itself until it is switched off. Nobody but root writes there.
@@ -96,7 +97,7 @@ def read_settings(file: Path = SETTINGS) -> Settings:
     return Settings(**values)
 
 
-def run(words: list[str], seconds: float = COMMAND_SECONDS, **more: object) -> subprocess.CompletedProcess[str]:
+def run(words: list[str], seconds: float = COMMAND_SECONDS, **more: Any) -> subprocess.CompletedProcess[str]:
     """A command with what it prints. Where it takes too long it is a failure as any other."""
     try:
         return subprocess.run(words, capture_output=True, text=True, timeout=seconds, stdin=subprocess.DEVNULL, **more)
@@ -117,13 +118,13 @@ def tell(line: str) -> None:
     print(line, flush=True)
 
 
-def ended(name: str, call: object) -> NoReturn:
+def ended(name: str, call: Callable[[], int]) -> NoReturn:
     """Ends a script with its call's status, and with the sentences of a refusal where it is refused."""
     if os.geteuid() != 0:
         print(f"{name}: Only root can do that.", file=sys.stderr)
         sys.exit(1)
     try:
-        sys.exit(call())  # type: ignore[operator]
+        sys.exit(call())
     except Refused as refused:
         print(f"{name}: refused: {refused}", file=sys.stderr)
         sys.exit(1)
@@ -241,10 +242,10 @@ def fenced_by_command(settings: Settings) -> bool:
     return bool(settings.fence) and run(shlex.split(settings.fence)).returncode == 0
 
 
-def waited_for(is_there: object, seconds: float) -> bool:
+def waited_for(is_there: Callable[[], bool], seconds: float) -> bool:
     """Whether something comes true in time, looked at each second."""
     end = time.monotonic() + seconds
-    while not is_there():  # type: ignore[operator]
+    while not is_there():
         if time.monotonic() > end:
             return False
         time.sleep(1)

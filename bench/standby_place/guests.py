@@ -1,0 +1,153 @@
+"""A machine of its own under qemu: it is switched on, its power is cut, it hangs and wakes up, and commands are typed
+at its serial line."""
+
+import contextlib
+import os
+import re
+import secrets
+import select
+import signal
+import subprocess
+import time
+from pathlib import Path
+
+# A guest has one slow processor, beside whatever else this machine does, and ends by itself where the script is killed.
+FRONT = ["nice", "-n", str(max(0, 15 - os.nice(0))), "timeout", "--signal=KILL", "7200"]
+MEMORY = 320
+# Longer than a guest takes to say that it is up on a busy machine.
+BOOT = 400
+
+
+class SilentGuest(Exception):
+    """A guest that doesn't answer at its serial line in time."""
+
+
+class Guest:
+    """One machine: its name, its address on the cable to the other one, its disk, and the port of this machine behind
+    which its nginx is."""
+
+    def __init__(self, name: str, place: str, disk: Path, port: int, cable: tuple[int, int], image: tuple[Path, Path]):
+        self.name, self.place, self.disk, self.port = name, place, disk, port
+        self.cable, (self.kernel, self.first) = cable, image
+        self.process: subprocess.Popen[bytes] | None = None
+        self.heard = b""
+        self.started = 0.0
+
+    def words(self) -> list[str]:
+        """The command line of qemu. Both networks are of loopback: the one has a forwarded port and nothing else, the
+        other one is the cable."""
+        own, other = self.cable
+        net = f"user,id=out,restrict=on,hostfwd=tcp:127.0.0.1:{self.port}-10.0.2.15:8080"
+        pair = f"socket,id=pair,udp=127.0.0.1:{other},localaddr=127.0.0.1:{own}"
+        last = self.place.rpartition(".")[2]
+        said = f"console=ttyS0 quiet loglevel=1 panic=-1 nokaslr mitigations=off no_timer_check machine={self.name}"
+        return [
+            *FRONT, "qemu-system-x86_64", "-nodefaults", "-no-user-config", "-no-reboot",
+            "-machine", "pc,accel=tcg", "-cpu", "max", "-smp", "1", "-m", str(MEMORY), "-display", "none",
+            "-kernel", str(self.kernel), "-initrd", str(self.first), "-append", f"{said} place={self.place}",
+            "-chardev", "stdio,id=line,signal=off", "-serial", "chardev:line",
+            "-drive", f"file={self.disk},if=none,format=raw,id=half,cache=writeback",
+            "-device", "virtio-blk-pci,drive=half",
+            "-netdev", net, "-device", f"virtio-net-pci,netdev=out,romfile=,mac=52:54:00:00:00:{last:0>2}",
+            "-netdev", pair, "-device", f"virtio-net-pci,netdev=pair,romfile=,mac=52:54:00:00:01:{last:0>2}",
+        ]  # fmt: skip
+
+    def start(self) -> "Guest":
+        """Switches it on, and waits until it is up."""
+        self.heard, self.started = b"", time.monotonic()
+        pipe, both = subprocess.PIPE, subprocess.STDOUT
+        self.process = subprocess.Popen(self.words(), stdin=pipe, stdout=pipe, stderr=both, start_new_session=True)
+        assert self.process.stdout
+        os.set_blocking(self.process.stdout.fileno(), False)
+        self.hear(b"guest is up", BOOT)
+        status, said = self.run("true", 60)
+        if status:
+            raise SilentGuest(f"{self.name}: {said}")
+        return self
+
+    def is_on(self) -> bool:
+        return self.process is not None and self.process.poll() is None
+
+    def used(self) -> float:
+        """The seconds of this machine's processors that it took so far."""
+        ticks = 0
+        for path in Path("/proc").glob("[0-9]*/stat"):
+            with contextlib.suppress(OSError):
+                words = path.read_text(encoding="utf-8", errors="replace").rpartition(")")[2].split()
+                ticks += int(words[11]) + int(words[12]) if self.process and int(words[2]) == self.process.pid else 0
+        return ticks / os.sysconf("SC_CLK_TCK")
+
+    def signal(self, number: int) -> None:
+        if self.process and self.process.poll() is None:
+            os.killpg(self.process.pid, number)
+
+    def cut(self) -> None:
+        """Cuts its power: no more instruction is run, and nothing in its memory is left."""
+        self.signal(signal.SIGKILL)
+        if self.process:
+            self.process.wait()
+            for end in (self.process.stdin, self.process.stdout):
+                if end:
+                    end.close()
+        self.process = None
+
+    def hang(self) -> None:
+        self.signal(signal.SIGSTOP)
+
+    def wake(self) -> None:
+        self.signal(signal.SIGCONT)
+
+    # The serial line.
+
+    def hear(self, mark: bytes, seconds: float) -> bytes:
+        """What it says until the mark, and the mark's line."""
+        end = time.monotonic() + seconds
+        while True:
+            place = self.heard.find(mark)
+            line_end = self.heard.find(b"\n", place) if place >= 0 else -1
+            if line_end >= 0:
+                said, self.heard = self.heard[: line_end + 1], self.heard[line_end + 1 :]
+                return said
+            self.hear_some(mark, end)
+
+    def hear_some(self, mark: bytes, end: float) -> None:
+        assert self.process and self.process.stdout
+        left = end - time.monotonic()
+        ready = select.select([self.process.stdout], [], [], max(0, min(left, 1)))[0]
+        data = self.process.stdout.read() if ready else None
+        if data:
+            self.heard += data
+        elif left < 0 or data == b"" or self.process.poll() is not None:
+            tail = self.heard[-600:].decode(errors="replace")
+            raise SilentGuest(f"{self.name} doesn't say {mark.decode()}: {tail}")
+
+    def type(self, text: str) -> None:
+        assert self.process and self.process.stdin
+        self.process.stdin.write(text.encode())
+        self.process.stdin.flush()
+
+    def run(self, command: str, seconds: float = 60) -> tuple[int, str]:
+        """Types a command, and returns its status and what it printed on both outputs."""
+        mark = secrets.token_hex(8)
+        self.type(f"( {command}\n) < /dev/null 2>&1; echo \"{mark[:8]}\"\"{mark[8:]} $?\"\n")
+        said = self.hear(mark.encode(), seconds).decode(errors="replace").replace("\r", "")
+        found = re.search(rf"{mark} (\d+)\n", said)
+        assert found
+        return int(found[1]), said[: found.start()]
+
+    def ask(self, command: str, seconds: float = 60) -> str:
+        """The same of a command that has to do what it says."""
+        status, said = self.run(command, seconds)
+        if status:
+            raise SilentGuest(f"{self.name}: {command}: status {status}: {said.strip()[-600:]}")
+        return said.strip()
+
+    def put(self, text: str, place: str) -> None:
+        """Writes a text into a file of the guest, a few lines at a time: its serial line keeps no more."""
+        self.ask(f": > {place}")
+        lines = text.splitlines(keepends=True)
+        while lines:
+            part = ""
+            while lines and len(part) + len(lines[0]) < 2000:
+                part += lines.pop(0)
+            self.ask(f"cat >> {place} << 'END-OF-PART'\n{part}END-OF-PART")
