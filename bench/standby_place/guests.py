@@ -87,8 +87,9 @@ class Guest:
         if self.process:
             self.process.wait()
             for end in (self.process.stdin, self.process.stdout):
-                if end:
-                    end.close()
+                with contextlib.suppress(OSError):
+                    if end:
+                        end.close()
         self.process = None
 
     def hang(self) -> None:
@@ -123,8 +124,13 @@ class Guest:
 
     def type(self, text: str) -> None:
         assert self.process and self.process.stdin
-        self.process.stdin.write(text.encode())
-        self.process.stdin.flush()
+        try:
+            self.process.stdin.write(text.encode())
+            self.process.stdin.flush()
+        except OSError as error:
+            rest = self.process.stdout.read() if self.process.stdout else b""
+            tail = (self.heard + (rest or b""))[-3000:].decode(errors="replace")
+            raise SilentGuest(f"{self.name} has ended by itself: {tail}") from error
 
     def run(self, command: str, seconds: float = 60) -> tuple[int, str]:
         """Types a command, and returns its status and what it printed on both outputs."""

@@ -208,6 +208,7 @@ def both_alone(place: Place) -> None:
     place.pair.cable.cut()
     place.pair.wait_state(place.first, "^frozen", SEEN)
     numbers = place.numbers()
+    is_alone(place, place.second, moment)
     place.taken_over("cable, and the first frozen", moment, place.off())
     place.pair.wait_address_gone(place.first, SEEN)
     found = place.answers(place.first, numbers)
@@ -238,14 +239,16 @@ def joined_again(place: Place, newer: Guest, older: Guest) -> None:
 def both_alone_and_told(place: Place) -> None:
     """(d) with a first that was told, too: it has acknowledged what the second lacks, and the second is refused."""
     place.work()
+    moment = time.monotonic()
     place.pair.cable.cut()
     place.pair.wait_state(place.first, "^frozen", SEEN)
     place.tell(place.pair.ask_script(place.first, f"other-is-off {place.second.name}"))
     place.line.wait_for(BEHIND, ANSWERS)
+    is_alone(place, place.second, moment)
     place.refused("(d), told", place.second, place.off(), "This half is an older one")
     place.pair.cable.mend()
     place.pair.wait_joined()
-    place.cuts.append(Cut("cable, and the first told"))
+    place.cuts.append(Cut("cable, and the first told", seen=time.monotonic() - moment))
 
 
 def disk_fails(place: Place) -> None:
