@@ -29,7 +29,7 @@ MAKE_STORE = (
 )
 # DRBD's tool gives each of its steps five seconds, which a guest may not have beside other work.
 UP = "for try in 1 2 3 4 5; do drbdadm up station && break; drbdadm down station; sleep 2; done; drbdadm cstate station"
-DRBD = re.compile(r"^ 0: cs:(\S+) ro:(\S+) ds:(\S+) \S+ (\S+)", re.MULTILINE)
+DRBD = re.compile(r"^ 0: cs:(\S+) ro:(\S+) ds:(\S+) +(?:[ABC] +)?([rs]\S*)", re.MULTILINE)
 
 
 # What stands in the place of the resource's own words: a guest's disk, and times for a guest that is slow.

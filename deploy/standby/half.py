@@ -163,7 +163,8 @@ class Half:
     def state(self) -> State:
         """What DRBD says now, by the kernel's own table, which DRBD 8.4 has."""
         minor = self.settings.device.removeprefix("/dev/drbd")
-        form = rf"^ *{minor}: cs:(\S+) ro:(\S+)/(\S+) ds:(\S+)/(\S+) \S+ (\S)"
+        # Where DRBD doesn't look for the other machine there is no letter of a protocol behind the disks.
+        form = rf"^ *{minor}: cs:(\S+) ro:(\S+)/(\S+) ds:(\S+)/(\S+) +(?:[ABC] +)?([rs])"
         table = TABLE.read_text(encoding="ascii") if TABLE.exists() else ""
         if found := re.search(form, table, re.MULTILINE):
             return State(*found.groups()[:5], is_frozen=found[6] == "s")
