@@ -16,26 +16,42 @@ from pathlib import Path
 from half import Refused, run
 from look import numbers_of
 
-MADE = re.compile(r"^at (\d{4}-\d\d-\d\dT\d\d:\d\d:\d\dZ)$", re.MULTILINE)
+MADE = re.compile(r"at (\d{4}-\d\d-\d\dT\d\d:\d\d:\d\dZ)")
+SEAT = re.compile(r"seat [A-Za-z0-9._-]{1,32} [0-9]{1,16}")
 # How far ahead the clock of a station's PC may be.
 AHEAD = timedelta(minutes=1)
 
 
+def moments_of(lines: list[str], name: str) -> list[datetime]:
+    """When the parts of a witness were made: several PCs' may stand in one file, each with its own time."""
+    found = []
+    for line in lines:
+        if made := MADE.fullmatch(line):
+            try:
+                found.append(datetime.fromisoformat(made[1]))
+            except ValueError:
+                raise Refused(f"{name} has the line `{line}`, which is no time.") from None
+        elif not SEAT.fullmatch(line):
+            raise Refused(f"{name} has the line `{line}`, which is neither `at TIME` nor `seat NAME NUMBER`.")
+        elif not found:
+            raise Refused(f"{name} has no line as `at 2026-11-29T09:00:00Z` in front, so nobody knows of when it is.")
+    return found
+
+
 def tested(text: str, name: str, since: datetime | None) -> dict[str, int]:
-    """A witness's numbers, where it is one, and was made when the other machine was off: one from before says nothing
-    of what that machine answered then."""
-    made = MADE.search(text)
-    if not made:
-        raise Refused(f"{name} has no line as `at 2026-11-29T09:00:00Z`, so nobody knows of when it is.")
-    moment = datetime.fromisoformat(made[1])
-    if since and moment < since:
-        told = f"the other machine is off since {since:%Y-%m-%dT%H:%M:%SZ} by this machine's clock"
-        raise Refused(f"{name} was made at {made[1]}, and {told}: make it anew by `wanekupo witness`.")
-    if moment > datetime.now(timezone.utc) + AHEAD:
-        raise Refused(f"{name} was made at {made[1]}, which is to come by this machine's clock: set both clocks.")
-    found = numbers_of(text)
+    """A witness's numbers, where it is one, and all of it was made when the other machine was off: one from before says
+    nothing of what that machine answered then."""
+    lines = [line.strip() for line in text.splitlines() if line.strip()]
+    moments, found = moments_of(lines, name), numbers_of(text)
     if not found:
         raise Refused(f"{name} has no line as `seat a1 17`.")
+    oldest, newest = min(moments), max(moments)
+    if since and oldest < since:
+        made, told = f"{oldest:%Y-%m-%dT%H:%M:%SZ}", f"the other machine is off since {since:%Y-%m-%dT%H:%M:%SZ}"
+        raise Refused(f"{name} was made at {made}, and {told} by this machine's clock: make it anew.")
+    if newest > datetime.now(timezone.utc) + AHEAD:
+        made = f"{newest:%Y-%m-%dT%H:%M:%SZ}"
+        raise Refused(f"{name} was made at {made}, which is to come by this machine's clock: set both clocks.")
     return found
 
 
@@ -63,18 +79,29 @@ def read(name: str) -> str:
 
 
 def compare(store: dict[str, int], witness: dict[str, int]) -> None:
-    """Refuses a store that is behind the witness, and one with seats of which the witness says nothing."""
+    """Refuses a store that is behind the witness, and a witness that lacks seats or replies which the store has."""
     behind = [seat for seat in sorted(witness) if store.get(seat, 0) < witness[seat]]
     if behind:
         told = ", ".join(f"{seat} has {store.get(seat, 0)} here, and a reply to {witness[seat]}" for seat in behind)
         raise Refused(
             f"This half is an older one: {told}. Served, it would issue what was issued since once more. Switch the "
-            "other machine on again, which has the newer half. Where it is lost, restore the store by the page "
-            "`back-up-and-restore`."
+            "other machine on again, which has the newer half. Where it is lost, go on by the page `standby`, `Where "
+            "the newer half is lost`."
         )
+    by_hand = "For a seat whose journal nobody has any more write a line by hand, with the number that is here: "
     unseen = [seat for seat in sorted(store) if store[seat] and seat not in witness]
     if unseen:
+        told = ", ".join(f"`seat {seat} {store[seat]}`" for seat in unseen)
         raise Refused(
             f"No witness has the seats {', '.join(unseen)}, so nobody knows whether they are behind. Get the witness "
-            "of their stations. For a seat that nobody has any more write its line by hand: `seat NAME 0`."
+            f"of their stations. {by_hand}{told}."
+        )
+    # A station has one request under way at most: so a half that has two more than its journal isn't all there.
+    short = [seat for seat in sorted(store) if store[seat] > witness.get(seat, 0) + 1]
+    if short:
+        told = ", ".join(f"{seat} has {store[seat]} here, and a reply to {witness[seat]}" for seat in short)
+        lines = ", ".join(f"`seat {seat} {store[seat]}`" for seat in short)
+        raise Refused(
+            f"The witness lacks replies: {told}. So these journals aren't all there, or they are copies. Make it on "
+            f"the stations' own PCs. {by_hand}{lines}."
         )
