@@ -11,13 +11,15 @@ from __future__ import annotations
 import contextlib
 import os
 import re
+import shutil
 import tempfile
 from collections.abc import Iterator
 from pathlib import Path
 
 from half import Half, Refused, done, run
 
-NAME = "station-look"
+# The device of a look, its folder, and the file there that has the changed blocks.
+NAME, FOLDER, CHANGES = "station-look", "station-look-", "changes"
 SECONDS = 900
 MOUNTED = "nodev,nosuid,noexec"
 SEATS = "SELECT 'seat', name, last FROM seat ORDER BY name"
@@ -36,8 +38,9 @@ def looped(*words: str) -> Iterator[str]:
 @contextlib.contextmanager
 def snapshot(half: Half, folder: str) -> Iterator[str]:
     """A device that shows the half, and whose changes go into a file of the folder."""
-    disk, changes = half.disk(), Path(folder) / "changes"
+    disk, changes = half.disk(), Path(folder) / CHANGES
     with open(changes, "wb") as file:
+        os.fchmod(file.fileno(), 0o600)
         file.truncate(half.settings.scratch_bytes)
     # What an earlier look has read of the disk may be older than the disk is.
     done(["blockdev", "--flushbufs", disk])
@@ -52,13 +55,28 @@ def snapshot(half: Half, folder: str) -> Iterator[str]:
             run(["dmsetup", "mknodes"])
 
 
+def clear(half: Half) -> None:
+    """Takes away what a look has left that was killed. No other one is at work: `takeover` sees to that."""
+    found = Path(half.settings.scratch).glob(f"{FOLDER}*")
+    left = [it for it in found if it.is_dir() and not it.is_symlink() and it.lstat().st_uid == 0]
+    for folder in left:
+        run(["umount", str(folder / "shown")])
+    if run(["dmsetup", "info", NAME]).returncode == 0:
+        done(["dmsetup", "remove", "--retry", NAME])
+        run(["dmsetup", "mknodes"])
+    for place in (half.disk(), *(str(folder / CHANGES) for folder in left)):
+        for line in run(["losetup", "--associated", place]).stdout.splitlines():
+            run(["losetup", "--detach", line.partition(":")[0]])
+    for folder in left:
+        if not os.path.ismount(folder / "shown"):
+            shutil.rmtree(folder, ignore_errors=True)
+
+
 @contextlib.contextmanager
 def mounted(half: Half) -> Iterator[Path]:
     """The folder in which the half's files are shown."""
-    if run(["dmsetup", "info", NAME]).returncode == 0:
-        told = f"umount /dev/mapper/{NAME}; dmsetup remove {NAME}; losetup -D"
-        raise Refused(f"A look that was stopped has left {NAME}: `{told}`, and try again.")
-    with tempfile.TemporaryDirectory(dir=half.settings.scratch, prefix="station-look-") as folder:
+    clear(half)
+    with tempfile.TemporaryDirectory(dir=half.settings.scratch, prefix=FOLDER) as folder:
         os.chmod(folder, 0o711)
         shown = Path(folder) / "shown"
         shown.mkdir()
