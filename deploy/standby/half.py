@@ -7,26 +7,30 @@ alone.
 
 from __future__ import annotations
 
+import contextlib
+import fcntl
 import os
 import re
 import shlex
+import signal
 import subprocess
 import sys
 import time
 import tomllib
-from collections.abc import Callable
+from collections.abc import Callable, Iterator
 from dataclasses import dataclass, fields
-from datetime import datetime, timezone
+from datetime import datetime, timedelta, timezone
 from pathlib import Path
-from typing import Any, NoReturn
+from typing import Any, NoReturn, TextIO
 
 SETTINGS = Path("/etc/station/standby.toml")
 # What this machine says of itself until it is switched off. Nobody but root writes there.
 RUN = Path("/run/station-standby")
 # How long a command of a plant's may take, and one that starts or stops the server.
 COMMAND_SECONDS, SERVER_SECONDS = 60, 900
-# How long a word counts that nobody has heard.
+# How long a word counts that nobody has heard, and how long a witness may take to be gathered behind the word.
 WORD_SECONDS = 120
+GATHERED = timedelta(hours=2)
 
 TABLE = Path("/proc/drbd")
 # What DRBD calls the states of a machine that doesn't speak with the other one.
@@ -100,8 +104,9 @@ def read_settings(file: Path = SETTINGS) -> Settings:
 def run(words: list[str], seconds: float = COMMAND_SECONDS, **more: Any) -> subprocess.CompletedProcess[str]:
     """A command with what it prints. Where it takes too long it is a failure as any other."""
     try:
-        return subprocess.run(words, capture_output=True, text=True, timeout=seconds, stdin=subprocess.DEVNULL, **more)
-    except (subprocess.TimeoutExpired, OSError) as error:
+        form = {"encoding": "utf-8", "errors": "replace", "stdin": subprocess.DEVNULL}
+        return subprocess.run(words, capture_output=True, timeout=seconds, **form, **more)
+    except (subprocess.TimeoutExpired, OSError, LookupError) as error:
         return subprocess.CompletedProcess(words, 1, "", str(error))
 
 
@@ -114,20 +119,44 @@ def done(words: list[str], seconds: float = COMMAND_SECONDS) -> str:
     return ended.stdout.strip()
 
 
-def tell(line: str) -> None:
-    print(line, flush=True)
+def shown(text: str) -> str:
+    """A text without the control characters that a command of somebody's has printed."""
+    return "".join(letter if letter.isprintable() else "?" for letter in text)
+
+
+def tell(line: str, out: TextIO | None = None) -> None:
+    """Prints a line for the person who typed the script. Where nobody reads it any more the work goes on."""
+    with contextlib.suppress(OSError):
+        print(shown(line), file=out or sys.stdout, flush=True)
 
 
 def ended(name: str, call: Callable[[], int]) -> NoReturn:
-    """Ends a script with its call's status, and with the sentences of a refusal where it is refused."""
-    if os.geteuid() != 0:
-        print(f"{name}: Only root can do that.", file=sys.stderr)
-        sys.exit(1)
+    """Ends a script with its call's status, and with sentences where it is refused or stopped."""
+    status = 1
+    for number in (signal.SIGTERM, signal.SIGHUP):
+        signal.signal(number, signal.default_int_handler)
     try:
-        sys.exit(call())
+        if os.geteuid() != 0:
+            raise Refused("Only root can do that.")
+        status = call()
     except Refused as refused:
-        print(f"{name}: refused: {refused}", file=sys.stderr)
-        sys.exit(1)
+        tell(f"{name}: refused: {refused}", sys.stderr)
+    except OSError as error:
+        tell(f"{name}: It failed: {error}. Mend that, and type the same again.", sys.stderr)
+    except KeyboardInterrupt:
+        tell(f"{name}: It was stopped. Type the same again, and it goes on.", sys.stderr)
+    sys.exit(status)
+
+
+@contextlib.contextmanager
+def alone_at_work() -> Iterator[None]:
+    """Keeps a second `takeover` or `stepdown` of this machine out."""
+    with open(run_file("lock"), "w", encoding="ascii") as lock:
+        try:
+            fcntl.flock(lock, fcntl.LOCK_EX | fcntl.LOCK_NB)
+        except BlockingIOError:
+            raise Refused("Another `takeover` or `stepdown` is at work on this machine: wait until it ends.") from None
+        yield
 
 
 @dataclass(frozen=True)
@@ -169,6 +198,13 @@ class Half:
         if found := re.search(form, table, re.MULTILINE):
             return State(*found.groups()[:5], is_frozen=found[6] == "s")
         raise Refused(f"DRBD has no {self.settings.device} here: `drbdadm up {self.resource}`.")
+
+    def received(self) -> str:
+        """How much this half got from the other machine since this one is on: it grows with each write of the other's,
+        and stays while the two aren't connected."""
+        minor = self.settings.device.removeprefix("/dev/drbd")
+        found = re.search(rf"^ *{minor}: cs:.*\n.* nr:(\d+)", TABLE.read_text(encoding="ascii"), re.MULTILINE)
+        return found[1] if found else "none"
 
     def disk(self) -> str:
         return self.asked("sh-ll-dev")
@@ -212,12 +248,26 @@ def word_file() -> Path:
     return run_file("other-is-off")
 
 
-def alone_since() -> datetime:
-    """Since when the other machine is known to be off: the first `takeover` that found it so has written that down."""
-    file = run_file("alone-since")
-    if not file.exists():
-        file.write_text(datetime.now(timezone.utc).isoformat(timespec="seconds"), encoding="ascii")
-    return datetime.fromisoformat(file.read_text(encoding="ascii"))
+def write_whole(file: Path, text: str) -> None:
+    """Writes a file of this machine's own under another name first, so that nobody reads a part."""
+    new = file.with_name(f"{file.name}.new")
+    new.write_text(text, encoding="ascii")
+    new.rename(file)
+
+
+def alone_since(received: str) -> datetime:
+    """Since when the other machine is known to be off: the first `takeover` that found it so has written that down.
+
+    `received` is how much this half got from the other one so far. Where that is another number now, or where hours
+    went by, the other machine may have been on since: then it is known from now on."""
+    file, now = run_file("alone-since"), datetime.now(timezone.utc).replace(microsecond=0)
+    if file.exists():
+        moment, _, then = file.read_text(encoding="ascii").partition(" ")
+        since = datetime.fromisoformat(moment)
+        if then == received and timedelta(0) <= now - since < GATHERED:
+            return since
+    write_whole(file, f"{now.isoformat()} {received}")
+    return now
 
 
 def forget_alone() -> None:
@@ -225,7 +275,7 @@ def forget_alone() -> None:
 
 
 def give_word() -> None:
-    word_file().write_text("off\n", encoding="ascii")
+    write_whole(word_file(), "off\n")
 
 
 def take_word() -> bool:

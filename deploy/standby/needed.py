@@ -1,0 +1,44 @@
+"""What a takeover needs of DRBD's resource, as the kernel runs it now: a plant may have changed its file since.
+
+With less a write may be answered that one half lacks, a machine may go on alone unasked, or DRBD may throw a half away
+by itself.
+"""
+
+from __future__ import annotations
+
+import re
+import shlex
+from pathlib import Path
+
+from half import Half, Refused, done
+
+NEEDED = {
+    "protocol": "C",
+    "fencing": "resource-and-stonith",
+    "allow-two-primaries": "no",
+    "after-sb-0pri": "disconnect",
+    "after-sb-1pri": "disconnect",
+    "after-sb-2pri": "disconnect",
+    "rr-conflict": "disconnect",
+    "disk-flushes": "yes",
+    "md-flushes": "yes",
+}
+HANDLER = Path(__file__).resolve().parent / "fence-peer"
+
+
+def test(half: Half) -> None:
+    """Refuses a resource that doesn't keep what this set-up promises."""
+    text = done(["drbdsetup", "show", "--show-defaults", half.resource])
+    found = dict(re.findall(r"^\s+([a-z0-9-]+)\s+([^\s;\"]+);", text, re.MULTILINE))
+    wrong = [
+        f"`{name}` is {found.get(name, 'unknown')}, and not {value}"
+        for name, value in NEEDED.items()
+        if found.get(name) != value
+    ]
+    handler = re.search(r"^\s+fence-peer\s+(.+);$", half.asked("dump"), re.MULTILINE)
+    words = shlex.split(handler[1]) if handler else []
+    if [Path(word).resolve() for word in words] != [HANDLER]:
+        wrong.append(f"the handler `fence-peer` is {' '.join(words) or 'missing'}, and not {HANDLER}")
+    if wrong:
+        told = "Mend it by the deployed `station.res` on both machines, and type `drbdadm adjust` there."
+        raise Refused(f"The resource {half.resource} doesn't keep its promise: {'; '.join(wrong)}. {told}")
