@@ -10,6 +10,7 @@ from __future__ import annotations
 
 import contextlib
 import os
+import pwd
 import re
 import shutil
 import tempfile
@@ -99,12 +100,21 @@ def as_user(half: Half, words: list[str], folder: Path) -> str:
     return ended.stdout
 
 
+def tested_owner(half: Half, books: Path) -> None:
+    """Refuses a half without a store, and one whose user has another number on this machine."""
+    if not books.exists():
+        raise Refused("There is no books.db in this machine's half.")
+    user, number = half.settings.user, books.stat().st_uid
+    if pwd.getpwnam(user).pw_uid != number:
+        told = "Give that user one number on both machines, as step 1 of the page `standby` does"
+        raise Refused(f"books.db is the user's of number {number}, and {user} has another number here. {told}.")
+
+
 def numbers(half: Half) -> dict[str, int]:
     """The last accepted number of each seat that the half has."""
     settings = half.settings
     with mounted(half) as shown:
-        if not (shown / "books.db").exists():
-            raise Refused("There is no books.db in this machine's half.")
+        tested_owner(half, shown / "books.db")
         words = [settings.program, "replay", "--site", settings.site, "--db", "books.db", "--existing"]
         as_user(half, words, shown)
         text = as_user(half, ["sqlite3", "-safe", "-readonly", "books.db", SEATS], shown)
