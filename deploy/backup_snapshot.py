@@ -62,6 +62,12 @@ def unmounted(folder: Path) -> bool:
     raise BackupError(f"{folder} stays mounted: somebody is in there")
 
 
+def below(device: str) -> str:
+    """The volume that a device is over: of DRBD's, as on two machines, its own disk. Any other is one itself."""
+    name, _, minor = device.partition("/dev/drbd")
+    return device if name or not minor else ran("drbdadm", "sh-ll-dev", f"minor-{minor}").strip()
+
+
 class Volume:
     """The volume of a store's folder. `removed` takes the snapshot away, and gives its name where there was one."""
 
@@ -86,7 +92,7 @@ class Lvm(Volume):
     def __init__(self, db: Path, size: str):
         super().__init__(db, size)
         self.mount = mounted_at(db.parent)
-        found = self._looked("vg_name,lv_name,lv_attr", self.mount["source"])
+        found = self._looked("vg_name,lv_name,lv_attr", below(self.mount["source"]))
         if not found:
             raise BackupError(f"{db.parent} is on {self.mount['source']}, which is no logical volume")
         self.group, self.volume, attributes = found["vg_name"], found["lv_name"], found["lv_attr"]
