@@ -218,16 +218,16 @@ class Half:
         return names[0]
 
     def is_mounted(self) -> bool:
-        """Whether the half is mounted. Where something else is at its place, nothing goes on: as the volume below DRBD, which
-        the other machine doesn't get, or a store that was made there before the half was."""
+        """Whether the half is mounted. Where something else is at its place, nothing goes on: as the volume below DRBD,
+        of which the other machine gets nothing, or a store that was made there before the half was."""
         device, where = Path(self.settings.device), f"{self.folder} has"
         if os.path.ismount(self.folder):
             if device.exists() and self.folder.stat().st_dev == device.stat().st_rdev:
                 return True
             raise Refused(f"{where} another volume than {device}: unmount it, and take its line out of /etc/fstab.")
         if left := [path.name for path in self.folder.iterdir() if path.name != "lost+found"]:
-            told = "Look whose they are, and move them away, so that nothing is there but the half, mounted by `takeover`."
-            raise Refused(f"{where} files of its own, {' and '.join(sorted(left)[:3])}, and {device} isn't mounted. {told}")
+            told = "Look whose they are, and move them away, so that nothing but the half is ever there."
+            raise Refused(f"{where} files, {' and '.join(sorted(left)[:3])}, and {device} isn't mounted. {told}")
         return False
 
     def mount(self) -> None:
