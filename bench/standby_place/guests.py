@@ -11,11 +11,22 @@ import subprocess
 import time
 from pathlib import Path
 
-# A guest has one slow processor, beside whatever else this machine does, and ends by itself where the script is killed.
-FRONT = ["nice", "-n", str(max(0, 15 - os.nice(0))), "timeout", "--signal=KILL", "7200"]
+# A guest ends by itself where the script is killed. It is as nice as the script is: `nice bench/standby ..`.
+FRONT = ["timeout", "--signal=KILL", "7200"]
 MEMORY = 320
 # Longer than a guest takes to say that it is up on a busy machine.
 BOOT = 400
+
+
+# All machines of this run.
+ALL: list["Guest"] = []
+
+
+def cut_all() -> None:
+    """Cuts the power of all machines, where the script is stopped."""
+    for guest in ALL:
+        guest.wake()
+        guest.signal(signal.SIGKILL)
 
 
 class SilentGuest(Exception):
@@ -23,21 +34,27 @@ class SilentGuest(Exception):
 
 
 class Guest:
-    """One machine: its name, its address on the cable to the other one, its disk, and the port of this machine behind
-    which its nginx is."""
+    """One machine: its name, its address on the cable to the other one, its disk, the port of this machine behind which
+    its nginx is, and the one to which its questions to the plant's power switch go."""
 
-    def __init__(self, name: str, place: str, disk: Path, port: int, cable: tuple[int, int], image: tuple[Path, Path]):
-        self.name, self.place, self.disk, self.port = name, place, disk, port
+    def __init__(self, name: str, place: str, disk: Path, ports: list[int], cable: tuple[int, int], image: list[Path]):
+        self.name, self.place, self.disk, (self.port, self.switch) = name, place, disk, ports
         self.cable, (self.kernel, self.first) = cable, image
+        # What somebody brings on a stick, which the guest reads at port 10 of 10.0.2.100.
+        self.stick = disk.with_suffix(".stick")
         self.process: subprocess.Popen[bytes] | None = None
         self.heard = b""
+        ALL.append(self)
         self.started = 0.0
 
     def words(self) -> list[str]:
         """The command line of qemu. Both networks are of loopback: the one has a forwarded port and nothing else, the
         other one is the cable."""
         own, other = self.cable
-        net = f"user,id=out,restrict=on,hostfwd=tcp:127.0.0.1:{self.port}-10.0.2.15:8080"
+        forward = f"hostfwd=tcp:127.0.0.1:{self.port}-10.0.2.15:8080"
+        switch = f"guestfwd=tcp:10.0.2.100:9-cmd:busybox nc 127.0.0.1 {self.switch}"
+        stick = f"guestfwd=tcp:10.0.2.100:10-cmd:cat {self.stick}"
+        net = f"user,id=out,restrict=on,{forward},{switch},{stick}"
         pair = f"socket,id=pair,udp=127.0.0.1:{other},localaddr=127.0.0.1:{own}"
         last = self.place.rpartition(".")[2]
         said = f"console=ttyS0 quiet loglevel=1 panic=-1 nokaslr mitigations=off no_timer_check machine={self.name}"

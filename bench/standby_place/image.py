@@ -9,6 +9,7 @@ import os
 import re
 import shutil
 import subprocess
+from collections.abc import Iterable
 from pathlib import Path
 
 ROOT = Path(__file__).resolve().parent.parent.parent
@@ -29,6 +30,7 @@ PROGRAMS = [
     "/sbin/blockdev",
     "/sbin/dmsetup",
     "/usr/bin/sqlite3",
+    "/usr/bin/setpriv",
     "/usr/sbin/nginx",
     "/usr/bin/python3.11",
 ]
@@ -37,14 +39,19 @@ FOLDERS = """bin dev etc/drbd.d etc/station lib/drbd lib64 mnt modules proc root
     usr/local/bin usr/sbin usr/share/wanekupo/standby var/lib/drbd var/lib/nginx var/lib/station var/lock var/log/nginx
     var/run/drbd var/tmp"""
 
-# Those of Python's modules that the scripts import, as a Python says that has imported them.
+# Those of Python's modules that the scripts import, and that a restore needs, as a Python says that has imported them.
 IMPORTED = """
-import argparse, contextlib, dataclasses, datetime, encodings.idna, json, os, pathlib, pwd, re, shlex, shutil, signal
-import subprocess, sys, tempfile, time, tomllib, typing
+import argparse, contextlib, dataclasses, datetime, encodings.idna, fcntl, json, os, pathlib, pwd, re, shlex, shutil
+import signal, subprocess, sys, tempfile, time, tomllib, typing
+import backup_copy, backup_kept, backup_snapshot, restore_look, restore_place, restore_plan, wanekupo.restore
 for module in list(sys.modules.values()):
     print(getattr(module, "__cached__", None) or "")
     print(getattr(module, "__file__", None) or "")
 """
+
+
+# A file of the guests, a text that it has once, and the one that comes in its place.
+Edit = tuple[str, str, str]
 
 
 def said_by(*words: str, folder: Path | None = None) -> str:
@@ -100,7 +107,8 @@ def libraries_of(program: Path) -> set[Path]:
 
 def python_files() -> set[Path]:
     """The files of Python's modules that the scripts need, and all encodings of its start."""
-    words = ["/usr/bin/python3.11", "-S", "-c", IMPORTED]
+    where = f"PYTHONPATH={ROOT}/deploy:{ROOT}/clients/python"
+    words = ["env", where, "/usr/bin/python3.11", "-B", "-S", "-c", IMPORTED]
     found = {Path(line) for line in said_by(*words).split("\n") if line.startswith("/usr/lib")}
     return found | {path for path in Path("/usr/lib/python3.11/encodings").glob("*.py")}
 
@@ -108,9 +116,12 @@ def python_files() -> set[Path]:
 class Image:
     """The first file system of the guests, made in a folder."""
 
-    def __init__(self, packages: Packages, folder: Path, programs: dict[str, Path], texts: dict[str, str]):
-        """`programs` are those of the server, by the names that they get in /opt, `texts` the files of this run."""
-        self.packages, self.folder, self.programs, self.texts = packages, folder, programs, texts
+    def __init__(
+        self, packages: Packages, folder: Path, programs: dict[str, Path], texts: dict[str, str], edits: Iterable[Edit]
+    ):
+        """`programs` are those of the server, by the names that they get in /opt, `texts` the files of this run, and
+        `edits` what is planted in them."""
+        self.packages, self.folder, self.programs, self.texts, self.edits = packages, folder, programs, texts, edits
         self.tree, self.file = folder / "tree", folder / "first.cpio"
 
     def put(self, source: Path, place: str, mode: int = 0o755) -> None:
@@ -137,7 +148,10 @@ class Image:
         for name, program in self.programs.items():
             self.put_program(program, f"opt/{name}")
         for path in python_files():
-            self.put(path, str(path), 0o644)
+            if path.suffix == ".so":
+                self.put_program(path, str(path))
+            else:
+                self.put(path, str(path), 0o644)
         (self.tree / "usr/bin/python3").symlink_to("python3.11")
         self.put_scripts()
         return self.pack()
@@ -153,6 +167,11 @@ class Image:
                 self.put(path, place, 0o755 if os.access(path, os.X_OK) else 0o644)
         for place, text in self.texts.items():
             (self.tree / place).write_text(text, encoding="utf-8")
+        for place, word, other in self.edits:
+            text = (self.tree / place).read_text(encoding="utf-8")
+            if text.count(word) != 1:
+                raise SystemExit(f"FAILED: {place} has {word!r} {text.count(word)} times")
+            (self.tree / place).write_text(text.replace(word, other), encoding="utf-8")
 
     def pack(self) -> "Image":
         """Packs the tree as the kernel reads it, without compressing it: the guest's processor is slow."""

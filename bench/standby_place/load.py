@@ -44,9 +44,10 @@ def site_text(customers: Iterable[int] = range(CUSTOMERS), seats: int = SEATS) -
 class Wanted:
     """What one station asks for, request after request. It depends on the seed alone."""
 
-    def __init__(self, seed: int, customer: int, seat: int):
+    def __init__(self, seed: int, customer: int, seat: int, begin: int = 0):
+        """`begin` is how many orders and chips were there before."""
         self.random = random.Random(f"{seed} {customer} {seat}")
-        self.customer, self.seat = customer, seat
+        self.customer, self.seat, self.begin = customer, seat, begin
         self.orders: list[str] = []
         self.chips: list[str] = []
 
@@ -57,7 +58,7 @@ class Wanted:
 
     def order(self) -> Iterator[tuple[str, dict[str, Any]]]:
         """An order, and the lives of its devices, at times of one more than it has room for."""
-        place, quantity = len(self.orders), self.random.randint(1, 4)
+        place, quantity = self.begin + len(self.orders), self.random.randint(1, 4)
         name, issuer = f"o{self.seat}-{place}", f"c{self.customer}-ca"
         self.orders.append(name)
         members = {"name": name, "issuer": issuer, "prefix": f"S{self.seat}-", "width": 9, "first": 10 * place}
@@ -67,7 +68,7 @@ class Wanted:
             yield from self.life(name)
 
     def life(self, order: str) -> Iterator[tuple[str, dict[str, Any]]]:
-        number = len(self.chips) + 1
+        number = self.begin + len(self.chips) + 1
         chip = f"{self.customer:x}{self.seat:x}{number:010x}"
         self.chips.append(chip)
         key = key_of(number)
@@ -87,22 +88,31 @@ class Wanted:
 class Asking(threading.Thread):
     """A station that asks until it is told to end. What was answered is kept, a refusal as its body."""
 
-    def __init__(self, port: int, folder: Path, seed: int, customer: int, seat: int):
+    def __init__(self, port: int, folder: Path, seed: int, customer: int, seat: int, begin: int = 0):
         super().__init__(daemon=True)
         self.customer, self.token = customer, token_of(customer, seat)
         self.name = f"s{customer}{seat}"
-        self.wanted = Wanted(seed, customer, seat)
+        self.wanted = Wanted(seed, customer, seat, begin)
         self.journal = folder / f"{self.name}.journal"
         self.folder, self.port = folder, port
         self.answered: list[tuple[str, dict[str, Any], int, Any, float]] = []
         self.number, self.is_over = 0, threading.Event()
         self.failure: BaseException | None = None
+        self.is_behind_a_restore = False
+
+    def take_over_from(self, other: "Asking") -> None:
+        """Goes on in another one's place behind a restore: with its state file, its journal, and its replies."""
+        self.folder, self.journal, self.answered = other.folder, other.journal, list(other.answered)
+        self.is_behind_a_restore = True
 
     def run(self) -> None:
         try:
             journal = Journal(self.journal, self.name)
             url, state = f"http://127.0.0.1:{self.port}", self.folder / f"{self.name}.json"
             with Station(url, self.token, state, PATIENCE, WHOLE, journal=journal, closes_journal=True) as station:
+                if self.is_behind_a_restore:
+                    station.resynchronize()
+                    self.number = (station.own_number() or 1) - 1
                 for path, members in self.wanted.requests():
                     if self.is_over.is_set():
                         return
@@ -127,10 +137,16 @@ class Line:
     """The stations of some customers, four where nothing else is said."""
 
     def __init__(
-        self, port: int, folder: Path, seed: int, customers: Iterable[int] = range(CUSTOMERS), seats: int = SEATS
+        self,
+        port: int,
+        folder: Path,
+        seed: int,
+        customers: Iterable[int] = range(CUSTOMERS),
+        seats: int = SEATS,
+        begin: int = 0,
     ):
         folder.mkdir(mode=0o700, parents=True)
-        self.stations = [Asking(port, folder, seed, c, s) for c in customers for s in range(seats)]
+        self.stations = [Asking(port, folder, seed, c, s, begin) for c in customers for s in range(seats)]
 
     def start(self) -> "Line":
         for each in self.stations:

@@ -10,7 +10,7 @@ from served import Server, station
 from standby_place.books import compared, undisturbed
 from standby_place.load import CUSTOMERS, Line, site_text, token_of
 from standby_place.network import Router, free_ports
-from standby_place.scenarios import ANSWERS, BEHIND, Cut, Place
+from standby_place.place import ANSWERS, BEHIND, Cut, Place
 
 # The customers whose programs are on this machine, each with one seat. The first two customers' store is on the pair.
 OTHERS = range(CUSTOMERS, CUSTOMERS + 3)
@@ -33,9 +33,10 @@ def others(program: Path, folder: Path) -> Iterator[dict[int, int]]:
             server.kill()
 
 
-def moved(place: Place, program: Path, folder: Path) -> None:
+def moved(place: Place) -> None:
     """The store of the pair goes to the second machine, and nginx sends its seats there. How long each part stood is
     measured: the moved one by its own stations, which go through nginx too."""
+    program, folder = place.program, place.folder
     own = [each.token for each in place.line.stations]
     with others(program, folder) as ports:
         tokens = {token_of(customer, 0): port for customer, port in ports.items()}

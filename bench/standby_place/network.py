@@ -15,16 +15,23 @@ HOST = "127.0.0.1"
 FRAME, PART = 1 << 16, 1 << 16
 
 
+# The ports that were handed out: a scenario beside this one may not have begun to listen.
+GIVEN: set[int] = set()
+GIVING = threading.Lock()
+
+
 def free_ports(count: int, kind: int = socket.SOCK_STREAM) -> list[int]:
-    """So many ports of this machine that nobody has, chosen at once so that they differ."""
-    sockets = [socket.socket(socket.AF_INET, kind) for _ in range(count)]
-    try:
-        for each in sockets:
-            each.bind((HOST, 0))
-        return [each.getsockname()[1] for each in sockets]
-    finally:
-        for each in sockets:
-            each.close()
+    """So many ports of this machine that nobody has, and that were handed out to nobody."""
+    found: list[int] = []
+    with GIVING:
+        while len(found) < count:
+            with socket.socket(socket.AF_INET, kind) as each:
+                each.bind((HOST, 0))
+                port = each.getsockname()[1]
+            if port not in GIVEN:
+                GIVEN.add(port)
+                found.append(port)
+    return found
 
 
 class Cable:

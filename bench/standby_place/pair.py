@@ -2,25 +2,24 @@
 
 import re
 import resource
-import shutil
 import signal
 import subprocess
 import time
-from collections.abc import Callable
+from collections.abc import Callable, Iterable
 from concurrent.futures import ThreadPoolExecutor
 from pathlib import Path
 
 from goals import tell
 
 from standby_place.guests import Guest, SilentGuest
-from standby_place.image import DEPLOYED, Image, Packages
+from standby_place.image import DEPLOYED, Edit, Image, Packages
 from standby_place.load import site_text
 from standby_place.network import Address, Cable, free_ports
 
 PLACES = {"alpha": "192.0.2.1", "beta": "192.0.2.2"}
 SCRIPTS = "/usr/share/wanekupo/standby"
-# The bytes of a machine's half, DRBD's own among them.
-BYTES = 48 << 20
+# The bytes of a machine's disk. Its half has the first 48 MiB, with DRBD's own; a store without DRBD has the rest.
+BYTES = 72 << 20
 # How long DRBD may take to see, to join and to copy, on a busy machine without KVM.
 SEEN, JOINED, SYNCED = 180, 240, 400
 MAKE_STORE = (
@@ -52,11 +51,11 @@ def resource_text() -> str:
     return text
 
 
-def image_of(packages: Packages, folder: Path, programs: list[Path]) -> Image:
+def image_of(packages: Packages, folder: Path, programs: list[Path], edits: Iterable[Edit] = ()) -> Image:
     """The first file system of both guests. The first of the server's programs runs, the last is the newer one."""
     named = {"station-1": programs[0], "station-2": programs[-1]}
     texts = {"etc/drbd.d/station.res": resource_text(), "etc/station/site.toml": site_text()}
-    return Image(packages, folder, named, texts).make()
+    return Image(packages, folder, named, texts, edits).make()
 
 
 class Pair:
@@ -65,10 +64,10 @@ class Pair:
     def __init__(self, folder: Path, kernel: Path, first: Path):
         self.folder = folder
         self.cable, self.address = Cable(), Address()
-        self.port_of = dict(zip(PLACES, free_ports(len(PLACES))))
+        *ports, self.switch_port = free_ports(len(PLACES) + 1)
         self.guests = {
-            name: Guest(name, place, folder / f"{name}.img", self.port_of[name], end, (kernel, first))
-            for (name, place), end in zip(PLACES.items(), self.cable.ends)
+            name: Guest(name, place, folder / f"{name}.img", [port, self.switch_port], end, [kernel, first])
+            for (name, place), port, end in zip(PLACES.items(), ports, self.cable.ends)
         }
         self.alpha, self.beta = self.guests.values()
 
@@ -123,13 +122,18 @@ class Pair:
             time.sleep(0.3)
         return state
 
+    def wait_for(self, is_so: Callable[[], bool], seconds: float, told: str) -> None:
+        """Waits until something is so, looked at twice a second."""
+        end = time.monotonic() + seconds
+        while not is_so():
+            if time.monotonic() > end:
+                raise SilentGuest(f"After {seconds:.0f} s {told}")
+            time.sleep(0.5)
+
     def wait_address_gone(self, guest: Guest, seconds: float) -> None:
         """Waits until a machine's nginx has ended."""
-        end = time.monotonic() + seconds
-        while not guest.run("pidof nginx > /dev/null")[0]:
-            if time.monotonic() > end:
-                raise SilentGuest(f"{guest.name} has the address still after {seconds:.0f} s")
-            time.sleep(0.5)
+        has_address = "pidof nginx > /dev/null"
+        self.wait_for(lambda: guest.run(has_address)[0] != 0, seconds, f"{guest.name} has the address still")
 
     def wait_joined(self, seconds: float = SYNCED) -> None:
         """Waits until both halves are one."""
@@ -141,8 +145,7 @@ class Pair:
     def set_up(self) -> None:
         """Two empty disks become the two halves of a new store. Both machines are off at the end."""
         for guest in self.guests.values():
-            with open(guest.disk, "wb") as file:
-                file.truncate(BYTES)
+            disk_of_zeros(guest.disk)
         self.boot(*self.guests.values())
         for guest in self.guests.values():
             guest.ask("yes yes | drbdadm create-md station", 120)
@@ -208,5 +211,7 @@ def copied(source: Path, folder: Path) -> None:
         subprocess.run(words, check=True)
 
 
-def removed(folder: Path) -> None:
-    shutil.rmtree(folder, ignore_errors=True)
+def disk_of_zeros(disk: Path) -> None:
+    """A new disk of a machine."""
+    with open(disk, "wb") as file:
+        file.truncate(BYTES)

@@ -63,7 +63,8 @@ def clear(half: Half) -> None:
     for folder in left:
         run(["umount", str(folder / "shown")])
     if run(["dmsetup", "info", NAME]).returncode == 0:
-        done(["dmsetup", "remove", "--retry", NAME])
+        if run(["dmsetup", "remove", "--retry", NAME]).returncode:
+            raise Refused("A look that was killed is at work still. Wait a minute, and type the same again.")
         run(["dmsetup", "mknodes"])
     for place in (half.disk(), *(str(folder / CHANGES) for folder in left)):
         for line in run(["losetup", "--associated", place]).stdout.splitlines():

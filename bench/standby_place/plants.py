@@ -1,0 +1,53 @@
+"""Faults that are planted in what the guests have, and the scenario that has to find each.
+
+The clone stays as it is: the first file system of the guests is edited. What a takeover refuses by itself is planted a
+second time together with that test taken away, so that both lines of defence are seen.
+"""
+
+from dataclasses import dataclass
+
+from standby_place.image import Edit
+
+STANDBY = "usr/share/wanekupo/standby"
+RESOURCE = "etc/drbd.d/station.res"
+# Takes away the takeover's test of what DRBD runs with.
+UNTESTED: Edit = (f"{STANDBY}/takeover", "    needed.test(half)\n", "")
+PROTOCOL_A: Edit = (RESOURCE, "protocol C;", "protocol A;")
+DONT_CARE: Edit = (RESOURCE, "fencing resource-and-stonith;", "fencing dont-care;")
+DISCARD: Edit = (RESOURCE, "after-sb-0pri disconnect;", "after-sb-0pri discard-least-changes;")
+
+
+@dataclass
+class Plant:
+    """Edits, the scenario that has to fail, and a word of what it has to say then."""
+
+    edits: tuple[Edit, ...]
+    scenario: str
+    said: str
+
+
+PLANTS = {
+    "protocol-a": Plant((PROTOCOL_A,), "a", "`protocol` is A"),
+    "protocol-a-untested": Plant((PROTOCOL_A, UNTESTED), "d", "This half is an older one"),
+    "dont-care": Plant((DONT_CARE,), "a", "`fencing` is dont-care"),
+    "dont-care-untested": Plant((DONT_CARE, UNTESTED), "d", "not ^frozen"),
+    "discard": Plant((DISCARD,), "a", "`after-sb-0pri` is discard-least-changes"),
+    "compare": Plant(
+        ((f"{STANDBY}/witness.py", "    if behind:\n", "    if False:\n"),), "c-boot", "not refused as 'This half is an older one'"
+    ),
+    "witness-of-before": Plant(
+        ((f"{STANDBY}/witness.py", "    if since and oldest < since:\n", "    if False:\n"),), "witness", "of before isn't refused"
+    ),
+    "tested-state": Plant(((f"{STANDBY}/takeover", "    tested_state(state)\n", ""),), "both", "not refused as"),
+    "word": Plant(
+        ((f"{STANDBY}/takeover", "    if is_alone:\n        shut_out(half, named)\n", ""),), "f-one", "not refused as"
+    ),
+    "always-7": Plant(
+        ((f"{STANDBY}/fence-peer", "def answered() -> int:\n", "def answered() -> int:\n    return IS_OFF\n"),),
+        "d",
+        "not ^frozen",
+    ),
+    "address-stays": Plant(
+        ((f"{STANDBY}/fence-peer", "    run(shlex.split(settings.leave_address))\n", ""),), "cable", "has the address still"
+    ),
+}

@@ -1,0 +1,97 @@
+"""The newer half is lost: the older one becomes a backup, and a restore makes a store of it and of the journals."""
+
+import io
+import sqlite3
+import tarfile
+from pathlib import Path
+
+from standby_place.books import given_twice
+from standby_place.guests import SilentGuest
+from standby_place.load import Asking, Line, token_of
+from standby_place.pair import SEEN
+from standby_place.place import ANSWERS, BEHIND, Place, is_alone, new_disk
+from standby_place.scenarios import OLDER
+
+ROOT = Path(__file__).resolve().parents[2]
+# What a guest hasn't that a restore needs: the client's package and the tools of a backup.
+TOOLS = "backup backup_copy.py backup_kept.py backup_snapshot.py restore restore_look.py restore_place.py restore_plan.py"
+# What the page has the operator type, each command by itself. A guest has no `runuser`.
+TYPED = """
+drbdadm primary --force station
+mount -o nodev,nosuid,noexec /dev/drbd0 /var/lib/station
+cd / && setpriv --reuid station --regid station --clear-groups /usr/share/wanekupo/backup --program station \
+  --site /etc/station/site.toml --db /var/lib/station/books.db /var/backups/station/older-half
+/usr/share/wanekupo/restore /var/backups/station/older-half /etc/station/site.toml /run/stick/journals \
+  --tokens /run/stick/tokens
+"""
+
+
+def newer_half_lost(place: Place) -> None:
+    """The first goes on alone, and is lost with its disk. The second is refused, and is restored, as the page says. No
+    number and no address comes twice, and those that were given are there."""
+    place.work()
+    moment = place.cable_cut()
+    place.word()
+    place.line.wait_for(2 * BEHIND, ANSWERS)
+    place.line.end()
+    place.first.cut()
+    place.pair.address.move(None)
+    is_alone(place, place.second, moment)
+    place.refused("the newer half is lost", place.second, place.off(), OLDER)
+    stick(place)
+    for words in TYPED.strip().splitlines():
+        status, said = place.second.run(words, 400)
+        place.tell(f"$ {words}\n{said.strip()}")
+        if status:
+            raise SilentGuest(f"{words}: status {status}: {said.strip()[-900:]}")
+    place.swap()
+    status, said = place.pair.take_over(place.first, place.line.witness, "")
+    place.tell(said)
+    place.expect(status == 0, f"the restored half isn't served: {said}")
+    goes_on(place)
+    place.pair.cable.mend()
+    place.pair.wait_state(place.first, "WFConnection|StandAlone", SEEN)
+    new_disk(place, place.second)
+    place.was_restored = True
+
+
+def stick(place: Place) -> None:
+    """What the operator brings on a stick: the journals, the tokens, and the programs that this guest hasn't."""
+    data = io.BytesIO()
+    with tarfile.open(fileobj=data, mode="w") as tar:
+        for each in place.line.stations:
+            tar.add(each.journal, f"run/stick/journals/{each.journal.name}")
+            text = token_of(each.customer, int(each.name[-1])).encode()
+            found = tarfile.TarInfo(f"run/stick/tokens/{each.name}.token")
+            found.size, found.mode = len(text), 0o600
+            tar.addfile(found, io.BytesIO(text))
+        for name in [*TOOLS.split(), "token_file.py"]:
+            tar.add(ROOT / "deploy" / name, f"usr/share/wanekupo/{name}")
+        for path in (ROOT / "clients/python/wanekupo").glob("*.py"):
+            tar.add(path, f"usr/lib/python3/dist-packages/wanekupo/{path.name}")
+    place.second.stick.write_bytes(data.getvalue())
+    place.second.ask("cd / && timeout 120 nc 10.0.2.100 10 < /dev/null > /run/stick.tar; tar xf /run/stick.tar", 200)
+    place.second.ask("chown -R root:root /usr/lib/python3/dist-packages /usr/share/wanekupo", 60)
+    place.second.ask("chown -R station:station /run/stick && install -d -m 700 -o station -g station /var/backups/station")
+
+
+def goes_on(place: Place) -> None:
+    """Each station takes the number that the restored store expects, and makes new orders and new devices."""
+    before = place.line
+    place.line = Line(place.pair.address.port, place.folder / "line-restored", 1, begin=1000)
+    for old, new in zip(before.stations, place.line.stations):
+        new.take_over_from(old)
+    place.line.start().wait_for(4 * BEHIND, ANSWERS)
+
+
+def restored_books(stored: Path, stations: list[Asking]) -> tuple[dict[str, int], list[str]]:
+    """The counts of a restored store: each serial number of a station's reply is there, and none was given twice."""
+    base = sqlite3.connect(stored)
+    there = set(base.execute("SELECT serial, mac FROM given"))
+    base.close()
+    replies = [it[3] for each in stations for it in each.answered if it[0] == "/v1/identity" and it[2] == 200]
+    lost = [it["serial"] for it in replies if it["serial"] not in {serial for serial, _ in there}]
+    twice = given_twice(stations)
+    counts = {"requests": sum(len(each.answered) for each in stations), "serials": len(replies)}
+    faults = [f"the serial numbers {', '.join(lost)} are lost"] if lost else []
+    return counts | {"lost": len(lost), "twice": len(twice)}, faults + twice

@@ -1,0 +1,53 @@
+"""Witnesses with which nobody may take over, each of which `takeover` has to refuse with its own words."""
+
+import re
+import time
+from collections.abc import Iterator
+from datetime import datetime, timedelta, timezone
+
+from standby_place.place import Place, back, is_alone
+from standby_place.scenarios import NO_WORD
+
+FORM = "at %Y-%m-%dT%H:%M:%SZ"
+
+
+def wrong(before: str, now: str) -> Iterator[tuple[str, str, str]]:
+    """What is wrong with each, its text, and a part of what has to be said. `before` is of before the power failed."""
+    head, *seats = now.splitlines()
+    later = datetime.now(timezone.utc) + timedelta(hours=1)
+    name, number = re.findall(r"seat (\S+) (\d+)", now)[0]
+    yield "of before", before, "make it anew"
+    yield "a part of it of before", now + before, "make it anew"
+    yield "of a clock that is ahead", f"{later:{FORM}}\n" + "\n".join(seats), "is to come"
+    yield "without its time", "\n".join(seats), "has no line as `at"
+    yield "the time behind the seats", "\n".join([*seats, head]), "has no line as `at"
+    yield "a line that was cut", now + f"seat {name}\n", "neither `at TIME` nor"
+    yield "without seats", head, "has no line as `seat"
+    yield "without one seat", now.replace(f"seat {name} {number}\n", ""), f"No witness has the seats {name}"
+    yield "of an older copy", now.replace(f"seat {name} {number}", f"seat {name} {int(number) - 3}"), "lacks replies"
+    yield "with a reply more", now.replace(f"seat {name} {number}", f"seat {name} {int(number) + 5}"), "an older one"
+
+
+def bad_witnesses(place: Place) -> None:
+    """The power of the first is cut. Witnesses that are wrong are refused, and so is a wrong name; then a right one isn't,
+    in two parts, as two stations' PCs print them."""
+    place.line.wait_for(40, 600)
+    before, moment = place.line.witness(), time.monotonic()
+    place.first.cut()
+    place.pair.address.move(None)
+    is_alone(place, place.second, moment)
+    place.refused("without a word", place.second, "", NO_WORD)
+    place.refused("the name of another", place.second, f"--other-is-off {place.second.name}", "The other machine of this")
+    time.sleep(1.1)
+    status, said = place.pair.script(place.second, f"takeover {place.off()}")
+    place.expect(status == 1 and "There is no witness" in said, f"without a witness: {status}: {said}")
+    time.sleep(1.1)
+    for what, text, told in wrong(before, place.line.witness()):
+        place.second.put(text.rstrip("\n") + "\n", "/run/wrong")
+        status, said = place.pair.script(place.second, f"takeover {place.off()} --witness /run/wrong")
+        place.tell(f"a witness {what}: {said}")
+        place.expect(status == 1 and told in said, f"a witness {what} isn't refused by {told!r}: {status}: {said}")
+        place.refusals += status == 1
+    place.taken_over("power of the first", moment, place.off())
+    back(place, place.first)
+    place.swap()
