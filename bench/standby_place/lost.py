@@ -16,8 +16,8 @@ KILLED = (0.5, 20)
 
 
 def one_comes_back(place: Place) -> None:
-    """The power of both is cut at once, and only one of them comes back, the one or the other. Its half is the newer one
-    by the witness alone."""
+    """The power of both is cut at once, and only one of them comes back, the one or the other. Whether its half is the
+    newer one the witness alone says."""
     place.work()
     moment = time.monotonic()
     place.first.cut()
@@ -76,16 +76,16 @@ def killed_at_start(place: Place, words: str) -> None:
 
 
 def both_written(place: Place) -> None:
-    """Two words that weren't true: the second takes over from a frozen first, and the first is told to go on. Nothing is
-    thrown away, nobody takes over, and the page's section joins both again by the half that has the witness's numbers."""
+    """Two words that weren't true: the second takes over from a frozen first, and the first is told to go on. Nothing
+    is thrown away, nobody takes over, and the page's section joins both by the half that has the witness's numbers."""
     place.work()
-    moment = place.cable_cut()
+    moment, numbers = place.cable_cut(), place.numbers()
     is_alone(place, place.second, moment)
     place.taken_over("both written: the second", moment, place.off())
     place.line.wait_for(3 * BEHIND, ANSWERS)
     place.word()
-    written = place.answers(place.first, place.numbers())
-    place.expect(bool(written), "the first that was told answers nothing")
+    written = [it for it in place.answers(place.first, numbers) if "POST" in it and " 200 " in it]
+    place.expect(bool(written), "the first that was told accepts nothing")
     place.pair.cable.mend()
     for guest in (place.first, place.second):
         place.pair.wait_state(guest, "^(StandAlone|WFConnection)", SEEN)

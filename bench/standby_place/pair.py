@@ -31,30 +31,26 @@ UP = "for try in 1 2 3 4 5; do drbdadm up station && break; drbdadm down station
 DRBD = re.compile(r"^ 0: cs:(\S+) ro:(\S+) ds:(\S+) +(?:[ABC] +)?([rs]\S*)", re.MULTILINE)
 
 
-# What stands in the place of the resource's own words: a guest's disk, and times for a guest that is slow.
-REPLACED = {
-    "disk /dev/vg0/station;": "disk /dev/mapper/half;",
-    " timeout 60;": " timeout 150;",
-    "ping-timeout 20;": "ping-timeout 100;",
-    "ping-int 5;": "ping-int 16;",
-    "connect-int 5;": "connect-int 16;",
-}
+# The resource's own words that a guest needs in another form: its disk, and the times, where it is slow.
+DISK = "disk /dev/vg0/station;"
+TIMES = re.compile(r"^( +(?:timeout|ping-timeout|ping-int|connect-int)) (\d+);", re.MULTILINE)
 
 
-def resource_text() -> str:
-    """The resource that a plant installs, over the guests' disks."""
+def resource_text(times: float) -> str:
+    """The resource that a plant installs, over the guests' disks, where DRBD waits so many times as long."""
     text = (DEPLOYED / "station.res").read_text(encoding="utf-8")
-    for word, other in REPLACED.items():
-        if word not in text:
-            raise SystemExit(f"FAILED: station.res has no {word}")
-        text = text.replace(word, other)
-    return text
+    longer, count = TIMES.subn(lambda found: f"{found[1]} {int(times * int(found[2]))};", text)
+    if count != 4 or DISK not in text:
+        raise SystemExit(f"FAILED: station.res has {count} of four times, or not {DISK}")
+    return longer.replace(DISK, "disk /dev/mapper/half;")
 
 
-def image_of(packages: Packages, folder: Path, programs: list[Path], edits: Iterable[Edit] = ()) -> Image:
+def image_of(
+    packages: Packages, folder: Path, programs: list[Path], times: float, edits: Iterable[Edit] = ()
+) -> Image:
     """The first file system of both guests. The first of the server's programs runs, the last is the newer one."""
     named = {"station-1": programs[0], "station-2": programs[-1]}
-    texts = {"etc/drbd.d/station.res": resource_text(), "etc/station/site.toml": site_text()}
+    texts = {"etc/drbd.d/station.res": resource_text(times), "etc/station/site.toml": site_text()}
     return Image(packages, folder, named, texts, edits).make()
 
 

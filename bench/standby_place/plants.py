@@ -26,17 +26,17 @@ class Plant:
     said: str
 
 
+# What stands in the place of a test.
+NEVER = "    if False:\n"
 PLANTS = {
     "protocol-a": Plant((PROTOCOL_A,), "a", "`protocol` is A"),
     "protocol-a-untested": Plant((PROTOCOL_A, UNTESTED), "d", "This half is an older one"),
     "dont-care": Plant((DONT_CARE,), "a", "`fencing` is dont-care"),
     "dont-care-untested": Plant((DONT_CARE, UNTESTED), "d", "not ^frozen"),
     "discard": Plant((DISCARD,), "a", "`after-sb-0pri` is discard-least-changes"),
-    "compare": Plant(
-        ((f"{STANDBY}/witness.py", "    if behind:\n", "    if False:\n"),), "c-boot", "not refused as 'This half is an older one'"
-    ),
+    "compare": Plant(((f"{STANDBY}/witness.py", "    if behind:\n", NEVER),), "c-boot", "not refused as 'This half is"),
     "witness-of-before": Plant(
-        ((f"{STANDBY}/witness.py", "    if since and oldest < since:\n", "    if False:\n"),), "witness", "of before isn't refused"
+        ((f"{STANDBY}/witness.py", "    if since and oldest < since:\n", NEVER),), "witness", "of before isn't refused"
     ),
     "tested-state": Plant(((f"{STANDBY}/takeover", "    tested_state(state)\n", ""),), "both", "not refused as"),
     "word": Plant(
@@ -48,6 +48,6 @@ PLANTS = {
         "not ^frozen",
     ),
     "address-stays": Plant(
-        ((f"{STANDBY}/fence-peer", "    run(shlex.split(settings.leave_address))\n", ""),), "cable", "has the address still"
+        ((f"{STANDBY}/fence-peer", "    run(shlex.split(settings.leave_address))\n", ""),), "cable", "the address still"
     ),
 }

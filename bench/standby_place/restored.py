@@ -13,8 +13,9 @@ from standby_place.place import ANSWERS, BEHIND, Place, is_alone, new_disk
 from standby_place.scenarios import OLDER
 
 ROOT = Path(__file__).resolve().parents[2]
-# What a guest hasn't that a restore needs: the client's package and the tools of a backup.
-TOOLS = "backup backup_copy.py backup_kept.py backup_snapshot.py restore restore_look.py restore_place.py restore_plan.py"
+# What a guest hasn't that a restore needs, beside the client's package.
+TOOLS = """backup backup_copy.py backup_kept.py backup_snapshot.py restore restore_look.py restore_place.py
+    restore_plan.py token_file.py"""
 # What the page has the operator type, each command by itself. A guest has no `runuser`.
 TYPED = """
 drbdadm primary --force station
@@ -65,14 +66,15 @@ def stick(place: Place) -> None:
             found = tarfile.TarInfo(f"run/stick/tokens/{each.name}.token")
             found.size, found.mode = len(text), 0o600
             tar.addfile(found, io.BytesIO(text))
-        for name in [*TOOLS.split(), "token_file.py"]:
+        for name in TOOLS.split():
             tar.add(ROOT / "deploy" / name, f"usr/share/wanekupo/{name}")
         for path in (ROOT / "clients/python/wanekupo").glob("*.py"):
             tar.add(path, f"usr/lib/python3/dist-packages/wanekupo/{path.name}")
     place.second.stick.write_bytes(data.getvalue())
     place.second.ask("cd / && timeout 120 nc 10.0.2.100 10 < /dev/null > /run/stick.tar; tar xf /run/stick.tar", 200)
     place.second.ask("chown -R root:root /usr/lib/python3/dist-packages /usr/share/wanekupo", 60)
-    place.second.ask("chown -R station:station /run/stick && install -d -m 700 -o station -g station /var/backups/station")
+    place.second.ask("chown -R station:station /run/stick && mkdir -p /var/backups/station")
+    place.second.ask("chown station:station /var/backups/station && chmod 700 /var/backups/station")
 
 
 def goes_on(place: Place) -> None:

@@ -24,20 +24,21 @@ def wrong(before: str, now: str) -> Iterator[tuple[str, str, str]]:
     yield "a line that was cut", now + f"seat {name}\n", "neither `at TIME` nor"
     yield "without seats", head, "has no line as `seat"
     yield "without one seat", now.replace(f"seat {name} {number}\n", ""), f"No witness has the seats {name}"
-    yield "of an older copy", now.replace(f"seat {name} {number}", f"seat {name} {int(number) - 3}"), "lacks replies"
-    yield "with a reply more", now.replace(f"seat {name} {number}", f"seat {name} {int(number) + 5}"), "an older one"
+    line, last = f"seat {name} {number}\n", int(number)
+    yield "of an older copy", now.replace(line, f"seat {name} {last - 3}\n"), "lacks replies"
+    yield "with more replies", now.replace(line, f"seat {name} {last + 5}\n"), "an older one"
 
 
 def bad_witnesses(place: Place) -> None:
-    """The power of the first is cut. Witnesses that are wrong are refused, and so is a wrong name; then a right one isn't,
-    in two parts, as two stations' PCs print them."""
+    """The power of the first is cut. Wrong witnesses are refused, and so is a wrong name; a right witness isn't."""
     place.line.wait_for(40, 600)
     before, moment = place.line.witness(), time.monotonic()
     place.first.cut()
     place.pair.address.move(None)
     is_alone(place, place.second, moment)
     place.refused("without a word", place.second, "", NO_WORD)
-    place.refused("the name of another", place.second, f"--other-is-off {place.second.name}", "The other machine of this")
+    own = f"--other-is-off {place.second.name}"
+    place.refused("the name of another", place.second, own, "The other machine of this")
     time.sleep(1.1)
     status, said = place.pair.script(place.second, f"takeover {place.off()}")
     place.expect(status == 1 and "There is no witness" in said, f"without a witness: {status}: {said}")

@@ -65,7 +65,7 @@ def fenced(place: Place) -> None:
 
 
 def fence_fails(place: Place) -> None:
-    """The plant's power switch doesn't answer: the first stays frozen, and nobody takes over, until a person says it."""
+    """The plant's power switch doesn't answer: the first stays frozen, and nobody takes over, until a word comes."""
     with PowerSwitch(place.pair) as switch:
         switch.is_working = False
         switch.install(place.first, place.second)
