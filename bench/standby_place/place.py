@@ -33,13 +33,14 @@ DISK_FAILS = (
 @dataclass
 class Cut:
     """What came of one thing that befell: from then on in seconds, until DRBD saw it, until the store was taken over,
-    and until the next reply; of these how long `takeover` took."""
+    and until the next reply; of these how long `takeover` took, and of a processor's time in that."""
 
     name: str
     seen: float = 0.0
     taken: float = 0.0
     replied: float = 0.0
     takeover: float = 0.0
+    used: float = 0.0
 
 
 @dataclass
@@ -89,9 +90,10 @@ class Place:
     def taken_over(self, name: str, moment: float, words: str) -> None:
         """The second takes the store over, and the line goes on. What was measured is kept."""
         cut = Cut(name, seen=time.monotonic() - moment)
-        start = time.monotonic()
+        start, used = time.monotonic(), self.second.used()
         status, said = self.pair.take_over(self.second, self.line.witness, words)
         cut.takeover, cut.taken = time.monotonic() - start, time.monotonic() - moment
+        cut.used = self.second.used() - used
         self.tell(said)
         if status:
             raise SystemExit(f"FAILED: {name}: {self.second.name}: {said}")

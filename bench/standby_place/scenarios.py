@@ -206,12 +206,16 @@ def upgrade(place: Place) -> None:
     place.tell(f"the second is down: {place.pair.state(place.first)}")
     place.second.ask(UP, 180)
     place.pair.wait_joined()
+    digests = place.second.ask("sha256sum /opt/station-1 /opt/station-2").split()[::2]
+    place.measured.append("two programs that differ" if len(set(digests)) == 2 else "the same program twice")
     for _ in range(2):
         place.work()
         place.second.ask("ln -sf /opt/station-2 /usr/local/bin/station")
         moment = time.monotonic()
         place.tell(place.pair.ask_script(place.first, "stepdown"))
         place.taken_over("stepdown and takeover", moment, "")
+        served = place.second.ask("readlink /proc/$(cat /run/station.pid)/exe")
+        place.expect(served == "/opt/station-2", f"(h): {served} serves, and not the new program")
         place.pair.wait_joined()
         place.swap()
 

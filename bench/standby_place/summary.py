@@ -6,8 +6,9 @@ from collections.abc import Iterable
 from standby_place.place import Cut
 from standby_place.runs import Run
 
-HEAD = """| What befell | Times | Replies | Serial numbers | Refused | Seen | Taken over | Next reply |
-|---|---:|---:|---:|---:|---:|---:|---:|"""
+COLUMNS = ["Times", "Replies", "Serials", "Refused", "Seen", "Taken over", "Next reply", "`takeover`", "Processor"]
+HEAD = f"| What befell | {' | '.join(COLUMNS)} |\n|---|{len(COLUMNS) * '---:|'}"
+TIMES = ("seen", "taken", "replied", "takeover", "used")
 
 
 def seconds(values: Iterable[float]) -> str:
@@ -28,7 +29,7 @@ def rows(runs: list[Run]) -> list[str]:
             for cut in run.cuts:
                 cuts.setdefault(cut.name, []).append(cut)
         for title, all_of in (cuts or {name: []}).items():
-            times = [seconds(getattr(cut, what) for cut in all_of) for what in ("seen", "taken", "replied")]
+            times = [seconds(getattr(cut, what) for cut in all_of) for what in TIMES]
             cells = [f"`{name}`: {title}" if title != name else f"`{name}`", str(len(all_of) or len(these))]
             found.append("| " + " | ".join([*cells, *counts, *times]) + " |")
             counts = ["", "", ""]
