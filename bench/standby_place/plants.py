@@ -44,8 +44,8 @@ PLANTS = {
     ),
     "always-7": Plant(
         ((f"{STANDBY}/fence-peer", "def answered() -> int:\n", "def answered() -> int:\n    return IS_OFF\n"),),
-        "d",
-        "not ^frozen",
+        "cable",
+        "the address still",
     ),
     "address-stays": Plant(
         ((f"{STANDBY}/fence-peer", "    run(shlex.split(settings.leave_address))\n", ""),), "cable", "the address still"
