@@ -14,6 +14,8 @@ from pathlib import Path
 # A guest ends by itself where the script is killed. It is as nice as the script is: `nice bench/standby ..`.
 FRONT = ["timeout", "--signal=KILL", "7200"]
 MEMORY = 320
+# How many MiB qemu keeps of translated code: it would keep a GiB.
+TRANSLATED = 192
 # Longer than a guest takes to say that it is up on a busy machine.
 BOOT = 400
 
@@ -60,7 +62,8 @@ class Guest:
         said = f"console=ttyS0 quiet loglevel=1 panic=-1 nokaslr mitigations=off no_timer_check machine={self.name}"
         return [
             *FRONT, "qemu-system-x86_64", "-nodefaults", "-no-user-config", "-no-reboot",
-            "-machine", "pc,accel=tcg", "-cpu", "max", "-smp", "1", "-m", str(MEMORY), "-display", "none",
+            "-machine", "pc", "-accel", f"tcg,tb-size={TRANSLATED}", "-cpu", "max", "-smp", "1", "-m", str(MEMORY),
+            "-display", "none",
             "-kernel", str(self.kernel), "-initrd", str(self.first), "-append", f"{said} place={self.place}",
             "-chardev", "stdio,id=line,signal=off", "-serial", "chardev:line",
             "-drive", f"file={self.disk},if=none,format=raw,id=half,cache=writeback",

@@ -23,6 +23,8 @@ CUSTOMERS, SEATS = 2, 2
 DIGEST = hashlib.sha256(MAP.encode()).hexdigest()
 # How long a station asks for one reply, and how long it waits for a whole one.
 PATIENCE, WHOLE = 3600, 20
+# How many seconds at most are between two requests of a station: guests have little of a processor for them.
+WORK = 1.0
 
 
 def token_of(customer: int, seat: int) -> str:
@@ -98,7 +100,7 @@ class Asking(threading.Thread):
         self.answered: list[tuple[str, dict[str, Any], int, Any, float]] = []
         self.number, self.is_over = 0, threading.Event()
         self.failure: BaseException | None = None
-        self.is_behind_a_restore = False
+        self.is_behind_a_restore, self.pause = False, 0.0
 
     def take_over_from(self, other: "Asking") -> None:
         """Goes on in another one's place behind a restore: with its state file, its journal, and its replies."""
@@ -117,6 +119,7 @@ class Asking(threading.Thread):
                     if self.is_over.is_set():
                         return
                     self.ask(station, path, members)
+                    self.is_over.wait(random.uniform(0, self.pause))
         except BaseException as failure:
             self.failure = failure
 
@@ -148,9 +151,17 @@ class Line:
         folder.mkdir(mode=0o700, parents=True)
         self.stations = [Asking(port, folder, seed, c, s, begin) for c in customers for s in range(seats)]
 
-    def start(self) -> "Line":
+    def start(self, pause: float = 0.0) -> "Line":
+        """Has all stations ask, with so many seconds at most between two requests."""
         for each in self.stations:
+            each.pause = pause
             each.start()
+        return self
+
+    def hasten(self) -> "Line":
+        """Has the stations ask one request behind the other from now on."""
+        for each in self.stations:
+            each.pause = 0.0
         return self
 
     def count(self) -> int:

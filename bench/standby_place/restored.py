@@ -7,7 +7,7 @@ from pathlib import Path
 
 from standby_place.books import given_twice
 from standby_place.guests import SilentGuest
-from standby_place.load import Asking, Line, token_of
+from standby_place.load import WORK, Asking, Line, token_of
 from standby_place.pair import SEEN
 from standby_place.place import ANSWERS, BEHIND, Place, is_alone, new_disk
 from standby_place.scenarios import OLDER
@@ -83,7 +83,7 @@ def goes_on(place: Place) -> None:
     place.line = Line(place.pair.address.port, place.folder / "line-restored", 1, begin=1000)
     for old, new in zip(before.stations, place.line.stations):
         new.take_over_from(old)
-    place.line.start().wait_for(4 * BEHIND, ANSWERS)
+    place.line.start(WORK).wait_for(4 * BEHIND, ANSWERS)
 
 
 def restored_books(stored: Path, stations: list[Asking]) -> tuple[dict[str, int], list[str]]:

@@ -12,7 +12,7 @@ from standby_place import lost, scenarios, words
 from standby_place.books import compared, taken_out, undisturbed
 from standby_place.costs import cost
 from standby_place.guests import SilentGuest
-from standby_place.load import Line, site_text
+from standby_place.load import WORK, Line, site_text
 from standby_place.moved import moved
 from standby_place.network import free_ports
 from standby_place.pair import Pair, copied
@@ -95,7 +95,7 @@ def begun(pair: Pair, folder: Path, seed: int, made: Made) -> Place:
     if status:
         raise SystemExit(f"the first takeover: {said}")
     chance = random.Random(seed)
-    return Place(pair, line.start(), chance, pair.alpha, pair.beta, made.program, folder, made.is_verbose)
+    return Place(pair, line.start(WORK), chance, pair.alpha, pair.beta, made.program, folder, made.is_verbose)
 
 
 def ended(place: Place) -> dict[str, int]:
