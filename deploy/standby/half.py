@@ -65,6 +65,7 @@ class Settings:
     resource: str = "station"
     device: str = "/dev/drbd0"
     folder: str = "/var/lib/station"
+    filesystem: str = "ext4"
     site: str = "/etc/station/site.toml"
     program: str = "station"
     user: str = "station"
@@ -230,8 +231,10 @@ class Half:
             raise Refused(f"{where} files, {' and '.join(sorted(left)[:3])}, and {device} isn't mounted. {told}")
         return False
 
-    def mount(self) -> None:
-        done(["mount", "-o", "nodev,nosuid,noexec", self.settings.device, str(self.folder)])
+    def mount(self, device: str = "", where: str = "") -> None:
+        """Mounts the half, or what shows it. The kind is said, as `mount` takes the half's own disk for one of DRBD's."""
+        kind, options = self.settings.filesystem, "nodev,nosuid,noexec"
+        done(["mount", "-t", kind, "-o", options, device or self.settings.device, where or str(self.folder)])
 
     def unmount(self) -> None:
         done(["umount", str(self.folder)])

@@ -22,7 +22,6 @@ from half import Half, Refused, done, run
 # The device of a look, its folder, and the file there that has the changed blocks.
 NAME, FOLDER, CHANGES = "station-look", "station-look-", "changes"
 SECONDS = 900
-MOUNTED = "nodev,nosuid,noexec"
 SEATS = "SELECT 'seat', name, last FROM seat ORDER BY name"
 
 
@@ -83,7 +82,7 @@ def mounted(half: Half) -> Iterator[Path]:
         shown = Path(folder) / "shown"
         shown.mkdir()
         with snapshot(half, folder) as device:
-            done(["mount", "-o", MOUNTED, device, str(shown)])
+            half.mount(device, str(shown))
             try:
                 yield shown
             finally:
