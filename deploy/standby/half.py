@@ -232,7 +232,7 @@ class Half:
         return False
 
     def mount(self, device: str = "", where: str = "") -> None:
-        """Mounts the half, or what shows it. The kind is said, as `mount` takes the half's own disk for one of DRBD's."""
+        """Mounts the half, or what shows it, by its kind: `mount` takes the half's own disk for one of DRBD's."""
         kind, options = self.settings.filesystem, "nodev,nosuid,noexec"
         done(["mount", "-t", kind, "-o", options, device or self.settings.device, where or str(self.folder)])
 
