@@ -45,7 +45,7 @@ class Guest:
         # What somebody brings on a stick, which the guest reads at port 10 of 10.0.2.100.
         self.stick = disk.with_suffix(".stick")
         self.process: subprocess.Popen[bytes] | None = None
-        self.heard = b""
+        self.heard, self.cuts = b"", 0
         ALL.append(self)
         self.started = 0.0
 
@@ -103,6 +103,7 @@ class Guest:
 
     def cut(self) -> None:
         """Cuts its power: no more instruction is run, and nothing in its memory is left."""
+        self.cuts += self.is_on()
         self.signal(signal.SIGKILL)
         if self.process:
             self.process.wait()
@@ -113,6 +114,7 @@ class Guest:
         self.process = None
 
     def hang(self) -> None:
+        self.cuts += 1
         self.signal(signal.SIGSTOP)
 
     def wake(self) -> None:

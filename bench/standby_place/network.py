@@ -48,7 +48,7 @@ class Cable:
             each.bind((HOST, 0))
             other.append(each.getsockname()[1])
         self.ends = list(zip(own, other))
-        self.is_whole, self.is_over, self.lost = True, False, 0
+        self.is_whole, self.is_over, self.lost, self.cuts = True, False, 0, 0
         self.thread = threading.Thread(target=self.hand_on, daemon=True)
         self.thread.start()
 
@@ -65,6 +65,7 @@ class Cable:
                         self.lost += 1
 
     def cut(self) -> None:
+        self.cuts += 1
         self.is_whole = False
 
     def mend(self) -> None:

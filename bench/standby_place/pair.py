@@ -77,6 +77,10 @@ class Pair:
         self.address.close()
         self.cable.close()
 
+    def cuts(self) -> int:
+        """How often power or the cable was cut, or a machine hung."""
+        return self.cable.cuts + sum(guest.cuts for guest in self.guests.values())
+
     def other(self, guest: Guest) -> Guest:
         return self.beta if guest is self.alpha else self.alpha
 

@@ -16,11 +16,11 @@ ROOT = Path(__file__).resolve().parents[2]
 # What a guest hasn't that a restore needs, beside the client's package.
 TOOLS = """backup backup_copy.py backup_kept.py backup_snapshot.py restore restore_look.py restore_place.py
     restore_plan.py token_file.py"""
-# What the page has the operator type, each command by itself. A guest has no `runuser`.
+# What the page has the operator type, each command by itself. A guest has no `runuser`, and a smaller `setpriv`.
 TYPED = """
 drbdadm primary --force station
 mount -o nodev,nosuid,noexec /dev/drbd0 /var/lib/station
-cd / && setpriv --reuid station --regid station --clear-groups /usr/share/wanekupo/backup --program station \
+cd / && /usr/bin/setpriv --reuid station --regid station --clear-groups /usr/share/wanekupo/backup --program station \
   --site /etc/station/site.toml --db /var/lib/station/books.db /var/backups/station/older-half
 /usr/share/wanekupo/restore /var/backups/station/older-half /etc/station/site.toml /run/stick/journals \
   --tokens /run/stick/tokens

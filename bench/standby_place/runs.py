@@ -1,9 +1,10 @@
 """A run of one scenario: both machines' start, the line, what befalls them, and the books at the end."""
 
+import json
 import random
 import time
 from collections.abc import Callable
-from dataclasses import dataclass, field
+from dataclasses import asdict, dataclass, field
 from pathlib import Path
 
 from goals import tell
@@ -61,7 +62,19 @@ class Run:
     said: list[str] = field(default_factory=list)
     faults: list[str] = field(default_factory=list)
     refusals: int = 0
+    cut_count: int = 0
     seconds: float = 0.0
+
+
+def read_runs(file: Path) -> list[Run]:
+    """The runs that were kept in a file, one in each line."""
+    found = [json.loads(line) for line in file.read_text(encoding="utf-8").splitlines()] if file.exists() else []
+    return [Run(**{**values, "cuts": [Cut(**cut) for cut in values["cuts"]]}) for values in found]
+
+
+def keep_run(run: Run, file: Path) -> None:
+    with open(file, "a", encoding="utf-8") as out:
+        out.write(json.dumps(asdict(run)) + "\n")
 
 
 @dataclass
@@ -129,6 +142,7 @@ def tried(name: str, seed: int, folder: Path, made: Made) -> Run:
         try:
             place = begun(pair, folder, seed, made)
             SCENARIOS[name](place)
+            run.cut_count = pair.cuts()
             run.counts = ended(place)
         except (SilentGuest, SystemExit) as error:
             run.faults.append(str(error))

@@ -37,9 +37,9 @@ def rows(runs: list[Run]) -> list[str]:
 
 
 def total(runs: list[Run]) -> str:
-    cuts = sum(len(run.cuts) for run in runs)
+    cuts = sum(run.cut_count for run in runs)
     lost, twice = (sum(run.counts.get(what, 0) for run in runs) for what in ("lost", "twice"))
     faults = sum(len(run.faults) for run in runs)
     refused = sum(run.refusals for run in runs)
     told = f"{refused} takeovers refused, lost {lost}, twice {twice}, {faults} faults"
-    return f"{len(runs)} runs, in which {cuts} things befell; {told}"
+    return f"{len(runs)} runs, in which power or the cable was cut {cuts} times; {told}"
