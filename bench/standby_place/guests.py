@@ -154,16 +154,19 @@ class Guest:
             tail = (self.heard + (rest or b""))[-3000:].decode(errors="replace")
             raise SilentGuest(f"{self.name} has ended by itself: {tail}") from error
 
-    def run(self, command: str, seconds: float = 60) -> tuple[int, str]:
+    def run(self, command: str, seconds: float = 120) -> tuple[int, str]:
         """Types a command, and returns its status and what it printed on both outputs."""
         mark = secrets.token_hex(8)
         self.type(f"( {command}\n) < /dev/null 2>&1; echo \"{mark[:8]}\"\"{mark[8:]} $?\"\n")
-        said = self.hear(mark.encode(), seconds).decode(errors="replace").replace("\r", "")
+        try:
+            said = self.hear(mark.encode(), seconds).decode(errors="replace").replace("\r", "")
+        except SilentGuest as silent:
+            raise SilentGuest(f"behind {seconds:.0f} s of `{command}`: {silent}") from None
         found = re.search(rf"{mark} (\d+)\n", said)
         assert found
         return int(found[1]), said[: found.start()]
 
-    def ask(self, command: str, seconds: float = 60) -> str:
+    def ask(self, command: str, seconds: float = 120) -> str:
         """The same of a command that has to do what it says."""
         status, said = self.run(command, seconds)
         if status:

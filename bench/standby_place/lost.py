@@ -10,7 +10,7 @@ from standby_place.scenarios import NO_WORD, OLDER
 
 SETTINGS = "/etc/station/standby.toml"
 # What a half says that doesn't look for the other one any more.
-SPLIT = "both halves may have been written"
+SPLIT = "DRBD has stopped to look"
 # How long a takeover may go on until it is killed.
 KILLED = (0.5, 20)
 

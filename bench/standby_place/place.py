@@ -103,11 +103,12 @@ class Place:
 
     def refused(self, name: str, guest: Guest, words: str, told: str) -> None:
         """A takeover that has to be refused with these words, and to change nothing."""
-        before = guest.ask("drbdadm get-gi station", 60), self.pair.state(guest)
+        # A machine without a disk has no identifiers.
+        before = guest.run("drbdadm get-gi station")[1], self.pair.state(guest)
         status, said = self.pair.take_over(guest, self.line.witness, words)
         self.tell(said)
         self.expect(status == 1 and told in said, f"{name}: not refused as {told!r}, but {status}: {said}")
-        after = guest.ask("drbdadm get-gi station", 60), self.pair.state(guest)
+        after = guest.run("drbdadm get-gi station")[1], self.pair.state(guest)
         self.expect(before == after, f"{name}: a refused takeover made {before} {after}")
         self.refusals += status == 1
 
