@@ -4,7 +4,7 @@ import json
 import random
 import time
 from collections.abc import Callable
-from dataclasses import asdict, dataclass, field
+from dataclasses import asdict, dataclass, field, replace
 from pathlib import Path
 
 from goals import tell
@@ -83,20 +83,22 @@ class Made:
 
     kernel: Path
     first: Path
-    base: Path
     program: Path
     is_verbose: bool = False
+    base: Path = Path()
 
 
-def set_up(folder: Path, kernel: Path, first: Path, program: Path, is_verbose: bool) -> Made:
-    """The two disks of a new store, which each scenario begins with."""
-    base = folder / "base"
-    base.mkdir()
-    start = time.monotonic()
-    with Pair(base, kernel, first) as pair:
-        pair.set_up()
-    tell(f"set up in {time.monotonic() - start:.0f} s")
-    return Made(kernel, first, base, program, is_verbose)
+def set_up(base: Path, made: Made) -> Made:
+    """Makes the two disks of a new store, which each scenario begins with, where they aren't there."""
+    if not base.exists():
+        new = base.with_name(f"{base.name}.new")
+        new.mkdir(parents=True, exist_ok=True)
+        start = time.monotonic()
+        with Pair(new, made.kernel, made.first) as pair:
+            pair.set_up()
+        new.rename(base)
+        tell(f"set up in {time.monotonic() - start:.0f} s")
+    return replace(made, base=base)
 
 
 def begun(pair: Pair, folder: Path, seed: int, made: Made) -> Place:
