@@ -4,6 +4,7 @@ Only the program opens a copy first, with --existing: it takes no tables but its
 Then sqlite3 counts, in its safe mode, in which it runs no command and writes no file.
 """
 
+import contextlib
 import hashlib
 import json
 import os
@@ -12,7 +13,10 @@ import shutil
 import subprocess
 import tempfile
 import time
+from collections.abc import Iterator
 from pathlib import Path
+
+from whole_file import put_whole, sync
 
 FILES = ("books.db", "books.db-wal")
 ABOUT = "about.json"
@@ -70,29 +74,9 @@ def counts_of(db: Path, store: str) -> list[str]:
     return done.stdout.replace("|", " ").splitlines()
 
 
-def digest_of(path: Path) -> str:
+def digest_of_file(path: Path) -> str:
     with open(path, "rb") as file:
         return hashlib.file_digest(file, "sha256").hexdigest()
-
-
-def _synced(path: Path) -> None:
-    handle = os.open(path, os.O_RDONLY)
-    try:
-        os.fsync(handle)
-    finally:
-        os.close(handle)
-
-
-def put_whole(path: Path, text: str) -> None:
-    """Puts a text in a file's place, whole or not at all."""
-    new = path.with_name(path.name + ".new")
-    new.unlink(missing_ok=True)
-    with open(os.open(new, os.O_WRONLY | os.O_CREAT | os.O_EXCL, 0o600), "w", encoding="utf-8") as file:
-        file.write(text)
-        file.flush()
-        os.fsync(file.fileno())
-    os.replace(new, path)
-    _synced(path.parent)
 
 
 def look_at(store: str) -> Path:
@@ -111,9 +95,9 @@ def look_at(store: str) -> Path:
     return db
 
 
-def opened_by(program: str, site: str, db: Path) -> bool:
+def opened_by(program: str, site: str | Path, db: Path) -> bool:
     """Whether the program opens a copy, as which it joins its two files."""
-    words = [program, "replay", "--site", site, "--db", str(db), "--existing"]
+    words = [program, "replay", "--site", str(site), "--db", str(db), "--existing"]
     return subprocess.run(words, stdin=subprocess.DEVNULL, check=False).returncode == 0
 
 
@@ -137,36 +121,51 @@ def about_of(program: str, folder: Path, counts: list[str], taken: str) -> str:
     told = {
         "at": now(),
         "program": said.stdout.strip(),
-        "program_sha256": digest_of(Path(program)),
+        "program_sha256": digest_of_file(Path(program)),
         "of": taken or "a stopped server",
-        "sha256": {name: digest_of(folder / name) for name in names},
+        "sha256": {name: digest_of_file(folder / name) for name in names},
         "bytes": sum((folder / name).stat().st_size for name in names),
         "counts": counts,
     }
     return json.dumps(told, indent=1) + "\n"
 
 
-def copy_store(program: str, site: str, store: str, folder: Path, taken: str = "") -> list[str]:
-    """Makes the backup in a folder that wasn't there, and gives its numbers. Where anything fails it is gone again."""
-    db = look_at(store)
-    if is_served(db):
-        raise BackupError(f"{store} is locked: stop its server")
+@contextlib.contextmanager
+def _new_folder(folder: Path) -> Iterator[None]:
+    """A folder that wasn't there. Where anything fails within it is gone again."""
     try:
         folder.mkdir(mode=0o700)
     except OSError as error:
         told = f"{folder}: make the backup in a folder that wasn't there ({error.strerror})"
         raise BackupError(told) from error
     try:
-        for source, name in ((db, FILES[0]), (Path(f"{db}-wal"), FILES[1]), (Path(site), "site.toml")):
-            shutil.copyfile(source, folder / name)
-            _synced(folder / name)
-        counts = _tried(program, site, folder, store)
-        put_whole(folder / ABOUT, about_of(program, folder, counts, taken))
-        for name in FILES:
-            if digest_of(Path(f"{db}{name[len(FILES[0]):]}")) != digest_of(folder / name):
-                raise BackupError(f"{store}{name[len(FILES[0]):]} isn't as it was copied any more: stop its server")
-        _synced(folder)
-        return counts
+        yield
     except BaseException:
         shutil.rmtree(folder, ignore_errors=True)
         raise
+
+
+def copy_for_trial(store: str, folder: Path) -> None:
+    """Both files of a store in a snapshot, for a start that tries them and throws them away: nothing is counted."""
+    db = look_at(store)
+    with _new_folder(folder):
+        for source, name in ((db, FILES[0]), (Path(f"{db}-wal"), FILES[1])):
+            shutil.copyfile(source, folder / name)
+
+
+def copy_store(program: str, site: str, store: str, folder: Path, taken: str = "") -> list[str]:
+    """Makes the backup in a folder that wasn't there, and gives its numbers."""
+    db = look_at(store)
+    if is_served(db):
+        raise BackupError(f"{store} is locked: stop its server")
+    with _new_folder(folder):
+        for source, name in ((db, FILES[0]), (Path(f"{db}-wal"), FILES[1]), (Path(site), "site.toml")):
+            shutil.copyfile(source, folder / name)
+            sync(folder / name)
+        counts = _tried(program, site, folder, store)
+        put_whole(folder / ABOUT, about_of(program, folder, counts, taken))
+        for name in FILES:
+            if digest_of_file(Path(f"{db}{name[len(FILES[0]):]}")) != digest_of_file(folder / name):
+                raise BackupError(f"{store}{name[len(FILES[0]):]} isn't as it was copied any more: stop its server")
+        sync(folder)
+        return counts

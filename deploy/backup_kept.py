@@ -2,30 +2,38 @@
 
     2026-11-29T020000Z           a backup: the store's two files, the site file and about.json
     2026-11-29T020000Z.tar.age   one that is encrypted, in place of that
-    last-backup.json             {"at", "ok", "bytes", "said"} of the last run, a failed one too
+    last-backup.json             {"at", "ok", "bytes", "said"} of the last run, a failed one too, and {"snapshot",
+                                 "snapshot_size"} of the last one that made a snapshot
     backup.lock                  one run at a time has it
     .new-2026-11-29T020000Z      what a run has begun, and the next one removes
+    trial.N, tried-by-site.N     a copy that deploy/restart or deploy/site tries; an hour old, it was left by a kill,
+                                 and the next backup removes it
 """
 
 import contextlib
 import datetime
-import fcntl
 import json
 import os
 import re
 import shlex
 import shutil
+import stat
 import subprocess
 import tarfile
 import time
-from collections.abc import Iterable, Iterator
+from collections.abc import Iterable
 from pathlib import Path
+from typing import Any
 
-from backup_copy import BackupError, now, put_whole
+from backup_copy import BackupError, now
+from whole_file import held, put_whole, sync
 
 NAME = re.compile(r"(\d{4}-\d\d-\d\dT\d{6}Z)(?:\.tar\.age)?")
 FORM = "%Y-%m-%dT%H%M%SZ"
 NEW, LAST, LOCK = ".new-", "last-backup.json", "backup.lock"
+# The copies of a trial start, and from which age on in seconds nobody is at work on one; the most bytes of LAST.
+TRIALS, LEFT, LARGEST = ("trial.*", "tried-by-site.*"), 3600, 65536
+SIZE = re.compile(r"\d{1,9}[bskmgtBSKMGT]?")
 
 
 def stay(names: Iterable[str], days: int, weeks: int) -> set[str]:
@@ -49,30 +57,17 @@ def remove(path: Path) -> None:
 
 
 def remove_begun(folder: Path) -> list[str]:
-    """Removes what earlier runs have begun, and gives its names."""
-    found = sorted(folder.glob(f"{NEW}*"))
+    """Removes what earlier runs have begun, and the copies of trials that were killed; gives their names."""
+    trials = [path for name in TRIALS for path in folder.glob(name)]
+    found = sorted([*folder.glob(f"{NEW}*"), *(it for it in trials if time.time() - it.lstat().st_mtime > LEFT)])
     for path in found:
         remove(path)
     return [path.name for path in found]
 
 
-def opened_lock(folder: Path) -> int:
-    """The lock's file of a folder, which is made where there is none."""
-    return os.open(folder / LOCK, os.O_RDWR | os.O_CREAT | os.O_NOFOLLOW, 0o600)
-
-
-@contextlib.contextmanager
-def alone(folder: Path) -> Iterator[None]:
-    """One run at a time has a folder. The lock goes with the last process that has it."""
-    handle = opened_lock(folder)
-    try:
-        try:
-            fcntl.flock(handle, fcntl.LOCK_EX | fcntl.LOCK_NB)
-        except BlockingIOError:
-            raise BackupError(f"another backup is at work in {folder}") from None
-        yield
-    finally:
-        os.close(handle)
+def sole_backup(folder: Path) -> contextlib.AbstractContextManager[None]:
+    """One backup at a time has a folder."""
+    return held(folder / LOCK, BackupError(f"another backup is at work in {folder}"))
 
 
 def new_name(folder: Path) -> str:
@@ -82,14 +77,6 @@ def new_name(folder: Path) -> str:
         if not any((folder / it).exists() for it in (name, f"{name}.tar.age")):
             return name
         time.sleep(0.1)
-
-
-def _sync(path: Path) -> None:
-    handle = os.open(path, os.O_RDONLY)
-    try:
-        os.fsync(handle)
-    finally:
-        os.close(handle)
 
 
 def encrypted(begun: Path, name: str, recipients: list[str]) -> Path:
@@ -108,7 +95,7 @@ def encrypted(begun: Path, name: str, recipients: list[str]) -> Path:
                 raise BackupError(f"age doesn't encrypt the backup: {said[0] if said else age.returncode}")
     except FileNotFoundError as error:
         raise BackupError(f"there is no {error.filename}: Debian's package has the name age") from None
-    _sync(path)
+    sync(path)
     return path
 
 
@@ -119,7 +106,7 @@ def placed(begun: Path, folder: Path, name: str, recipients: list[str]) -> Path:
     os.rename(ready, path)
     if recipients:
         remove(begun)
-    _sync(folder)
+    sync(folder)
     return path
 
 
@@ -150,7 +137,29 @@ def tidy(folder: Path, days: int, weeks: int) -> list[str]:
     return gone
 
 
-def note(folder: Path, ok: bool, size: int, said: str) -> None:
-    """Says how the last backup went, in the folder of all."""
-    told = {"at": now(), "ok": ok, "bytes": size, "said": said}
+def last_of(folder: Path) -> dict[str, Any]:
+    """What was noted last; nothing where nothing was. Root reads it in another user's folder: it is no link, no pipe, and
+    small."""
+    try:
+        handle = os.open(folder / LAST, os.O_RDONLY | os.O_NOFOLLOW | os.O_NONBLOCK)
+        with open(handle, "rb") as file:
+            is_file = stat.S_ISREG(os.fstat(handle).st_mode)
+            found = json.loads(file.read(LARGEST)) if is_file else {}
+    except (OSError, ValueError):
+        return {}
+    return found if isinstance(found, dict) else {}
+
+
+def last_snapshot(folder: Path) -> tuple[str, str]:
+    """The kind and the size of the last snapshot that was noted; only what may be a size is one."""
+    last = last_of(folder)
+    kind, size = (str(last.get(name, "")) for name in ("snapshot", "snapshot_size"))
+    return kind, size if SIZE.fullmatch(size) else ""
+
+
+def note(folder: Path, ok: bool, size: int, said: str, taken: tuple[str, str]) -> None:
+    """Says how the last backup went, in the folder of all, and the kind and the size of its snapshot, or of the last
+    one's that had one."""
+    kind, room = taken if taken[0] else last_snapshot(folder)
+    told = {"at": now(), "ok": ok, "bytes": size, "said": said, "snapshot": kind, "snapshot_size": room}
     put_whole(folder / LAST, json.dumps(told) + "\n")

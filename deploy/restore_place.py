@@ -23,20 +23,12 @@ from collections.abc import Iterator
 from pathlib import Path
 from typing import Any
 
-from backup_copy import FILES, digest_of, put_whole
+from backup_copy import FILES, digest_of_file
 from restore_plan import RestoreError
-from token_file import sync_folder
+from whole_file import held, put_whole, sync
 
 HOST = "127.0.0.1"
 FORM = "%Y-%m-%dT%H%M%SZ"
-
-
-def sync_file(path: Path) -> None:
-    handle = os.open(path, os.O_RDONLY)
-    try:
-        os.fsync(handle)
-    finally:
-        os.close(handle)
 
 
 def holders_of(db: Path) -> list[int]:
@@ -101,18 +93,9 @@ class Place:
                 raise RestoreError(f"a server has {self.db}: stop it. Nothing was moved") from None
             yield
 
-    @contextlib.contextmanager
-    def alone(self) -> Iterator[None]:
+    def sole_restore(self) -> contextlib.AbstractContextManager[None]:
         """One restore at a time."""
-        handle = os.open(self.folder / "restore.lock", os.O_RDWR | os.O_CREAT | os.O_NOFOLLOW, 0o600)
-        try:
-            try:
-                fcntl.flock(handle, fcntl.LOCK_EX | fcntl.LOCK_NB)
-            except BlockingIOError:
-                raise RestoreError(f"another restore is at work in {self.folder}") from None
-            yield
-        finally:
-            os.close(handle)
+        return held(self.folder / "restore.lock", RestoreError(f"another restore is at work in {self.folder}"))
 
     # What a run leaves to the next.
 
@@ -134,7 +117,7 @@ class Place:
         self.work.mkdir(mode=0o700)
         for name in FILES:
             shutil.copyfile(backup / name, self.work / name)
-        sync_folder(self.work)
+        sync(self.work)
 
     def put_aside(self) -> None:
         """Moves what was there away, the store's file first: without it no server starts."""
@@ -149,7 +132,7 @@ class Place:
         lost.mkdir(mode=0o700, exist_ok=True)
         for path in there:
             os.rename(path, lost / path.name)
-            sync_folder(self.folder)
+            sync(self.folder)
 
     def lost(self) -> Path | None:
         """What was there, where both files of it are."""
@@ -164,26 +147,21 @@ class Place:
             if made.exists() and path.exists():
                 raise RestoreError(f"{path} is there again: it isn't touched, and {made} stays where it is")
             if made.exists():
-                sync_file(made)
+                sync(made)
         self.keep(placing=True)
         for made, path in pairs:
             if made.exists():
                 os.rename(made, path)
-                sync_folder(self.folder)
+                sync(self.folder)
         done = free_name(self.folder, "restored")
         if self.work.exists():
             os.rename(self.work, done)
         self.begun.unlink()
-        sync_folder(self.folder)
+        sync(self.folder)
         return done
 
 
 # The program over the restored store.
-
-
-def opened(program: str, site: Path, db: Path) -> bool:
-    words = [program, "replay", "--site", str(site), "--db", str(db), "--existing"]
-    return subprocess.run(words, stdin=subprocess.DEVNULL, check=False).returncode == 0
 
 
 def check_backup(backup: Path) -> dict[str, Any]:
@@ -196,7 +174,7 @@ def check_backup(backup: Path) -> dict[str, Any]:
     except FileNotFoundError:
         return {}
     for name in FILES:
-        if digest_of(backup / name) != about["sha256"][name]:
+        if digest_of_file(backup / name) != about["sha256"][name]:
             raise RestoreError(f"{backup / name} isn't as it was made: take another backup")
     return about
 

@@ -4,7 +4,6 @@ Each such line is one JSON object, of a seat or of an outer token; all else is m
 else changed is told. A file that is replaced is written anew beside it, synced, and takes the name.
 """
 
-import fcntl
 import hashlib
 import json
 import os
@@ -16,6 +15,8 @@ from contextlib import contextmanager
 from dataclasses import asdict, dataclass, field, replace
 from pathlib import Path
 from typing import Optional
+
+from whole_file import held, put_whole, sync
 
 HEAD = """# The outer tokens, the inner ones behind them, and what nginx makes of both. It has the tokens: root's alone.
 # station-token(8) writes this file, and takes none that was changed by hand.
@@ -183,54 +184,22 @@ def read(path: Path) -> Optional[str]:
     return path.read_text(encoding="ascii")
 
 
-def make(path: Path, text: str) -> None:
-    """A file that wasn't there, for its owner alone, synced."""
-    handle = os.open(path, os.O_WRONLY | os.O_CREAT | os.O_EXCL | os.O_NOFOLLOW, 0o600)
-    with open(handle, "w", encoding="utf-8") as file:
-        file.write(text)
-        file.flush()
-        os.fsync(file.fileno())
-
-
-def sync_folder(folder: Path) -> None:
-    handle = os.open(folder, os.O_RDONLY | os.O_DIRECTORY)
-    try:
-        os.fsync(handle)
-    finally:
-        os.close(handle)
-
-
 def put(path: Path, text: Optional[str]) -> None:
     """Puts a text in the file's place, whole or not at all; None takes the file away."""
-    new = path.with_name(path.name + ".new")
-    new.unlink(missing_ok=True)  # of a run that was cut; this one has the lock
     if text is None:
         path.unlink()
+        sync(path.parent)
     else:
-        make(new, text)
-        os.replace(new, path)
-    sync_folder(path.parent)
+        put_whole(path, text)
 
 
 @contextmanager
 def alone(path: Path, patience: float) -> Iterator[None]:
-    """One run at a time: the next one waits, for so many seconds."""
+    """One run at a time, in a folder that nobody else may write: the next one waits, for so many seconds."""
     _check_owner(path.parent)
     lock = path.with_name(path.name + ".lock")
-    handle = os.open(lock, os.O_RDWR | os.O_CREAT | os.O_NOFOLLOW | os.O_CLOEXEC, 0o600)
-    end = time.monotonic() + patience
-    try:
-        while True:
-            try:
-                fcntl.flock(handle, fcntl.LOCK_EX | fcntl.LOCK_NB)
-                break
-            except BlockingIOError:
-                if time.monotonic() > end:
-                    raise TokenError(3, f"another run has {lock}: nothing was changed") from None
-                time.sleep(0.05)
+    with held(lock, TokenError(3, f"another run has {lock}: nothing was changed"), patience):
         yield
-    finally:
-        os.close(handle)
 
 
 def inner_of(file: str) -> str:

@@ -13,7 +13,8 @@ import urllib.error
 import urllib.request
 from pathlib import Path
 
-from token_file import HEALTH, PREFIX, TokenError, alone, read, sync_folder, tokens_of
+from token_file import HEALTH, PREFIX, TokenError, alone, read, tokens_of
+from whole_file import sync
 
 from .place import Place, text_in
 from .plan import PLACED, PREPARED, STOPPING, Plan, Wish, drop_plan, keep_plan
@@ -90,7 +91,7 @@ def put_in_place(place: Place, plan: Plan) -> None:
         os.fsync(file.fileno())
     noted(place, plan, PLACED)
     os.replace(made, place.site)
-    sync_folder(place.site.parent)
+    sync(place.site.parent)
     say(f"{place.site} has the new text")
 
 

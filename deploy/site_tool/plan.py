@@ -8,7 +8,8 @@ import json
 from dataclasses import asdict, dataclass, field
 from pathlib import Path
 
-from token_file import TokenError, put, sync_folder
+from token_file import TokenError, put
+from whole_file import sync
 
 # PREPARED: the new text lies beside the old one. STOPPING: the server is being stopped, and the old text is in place.
 # PLACED: the new text is in place, and the server is being started.
@@ -54,4 +55,4 @@ def keep_plan(path: Path, plan: Plan) -> None:
 
 def drop_plan(path: Path) -> None:
     path.unlink(missing_ok=True)
-    sync_folder(path.parent)
+    sync(path.parent)
