@@ -138,8 +138,8 @@ def tidy(folder: Path, days: int, weeks: int) -> list[str]:
 
 
 def last_of(folder: Path) -> dict[str, Any]:
-    """What was noted last; nothing where nothing was. Root reads it in another user's folder: it is no link, no pipe, and
-    small."""
+    """What was noted last; nothing where nothing was. Root reads it in another user's folder, so it may be no link and
+    no pipe, and is small."""
     try:
         handle = os.open(folder / LAST, os.O_RDONLY | os.O_NOFOLLOW | os.O_NONBLOCK)
         with open(handle, "rb") as file:

@@ -34,11 +34,20 @@ FORM = "%Y-%m-%dT%H%M%SZ"
 def holders_of(db: Path) -> list[int]:
     """The processes that have the store open, also where its files were removed under them."""
     found = set()
-    for link in Path("/proc").glob("[0-9]*/fd/*"):
-        with contextlib.suppress(OSError):
-            if os.readlink(link) in (str(db), f"{db} (deleted)"):
-                found.add(int(link.parts[2]))
+    for process in (int(name) for name in os.listdir("/proc") if name.isdigit()):
+        with contextlib.suppress(OSError):  # one that ends meanwhile has nothing open
+            links = [f"/proc/{process}/fd/{number}" for number in os.listdir(f"/proc/{process}/fd")]
+            if any(readlink(it) in (str(db), f"{db} (deleted)") for it in links):
+                found.add(process)
     return sorted(found - {os.getpid()})
+
+
+def readlink(path: str) -> str:
+    """What a link names, or nothing where it is gone."""
+    try:
+        return os.readlink(path)
+    except OSError:
+        return ""
 
 
 def is_open(port: int) -> bool:

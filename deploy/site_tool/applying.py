@@ -4,6 +4,7 @@ Each is noted before it is begun, and may be done twice. Once the new text is in
 store may hold it from the first moment of a start on: the new text opens a store of either.
 """
 
+import http.client
 import os
 import shlex
 import ssl
@@ -18,6 +19,7 @@ from whole_file import sync
 
 from .place import Place, text_in
 from .plan import PLACED, PREPARED, STOPPING, Plan, Wish, drop_plan, keep_plan
+from .trying import tried_over_backup
 
 # The number of restarts from which on a start is held for failed, and how long one answer may take, in seconds.
 FAILED, PATIENCE = 3, 90
@@ -27,18 +29,32 @@ RELOADED = 10.0
 ASKED = "/v1/order?name=station-site-asks"
 
 
+class Stopped(TokenError):
+    """Somebody stopped this run by a signal."""
+
+    def __init__(self, number: int):
+        super().__init__(1, f"stopped by signal {number}, and the server runs as before")
+
+
 def say(text: str) -> None:
     print(text, flush=True)
 
 
 def apply(place: Place, plan: Plan) -> None:
-    """From wherever a run before this one was cut to the end."""
-    if plan.stage in (PREPARED, STOPPING):
-        stop_and_back_up(place, plan)
-        put_in_place(place, plan)
-    start(place, plan)
-    for wish in plan.wishes:
-        give_token(place, wish)
+    """From wherever a run before this one was cut to the end. Once the new text is in place, whoever stops it leaves the
+    server started with that."""
+    try:
+        if plan.stage in (PREPARED, STOPPING):
+            stop_and_back_up(place, plan)
+            put_in_place(place, plan)
+        start(place, plan)
+        for wish in plan.wishes:
+            give_token(place, wish)
+    except Stopped as stopped:
+        place.service(place.args.start)
+        if plan.stage != PLACED:
+            raise
+        raise TokenError(5, f"stopped in the middle: {place.site} may have the new text; apply goes on") from stopped
     keep_with_backup(place, plan)
     place.next.unlink(missing_ok=True)
     drop_plan(place.plan)
@@ -70,10 +86,13 @@ def stop_and_back_up(place: Place, plan: Plan) -> None:
         if done.returncode:
             raise TokenError(1, f"no backup, so nothing was changed: {done.stderr.strip()}")
         say(done.stdout.strip())
-    except TokenError:
+        if not plan.is_tried:
+            tried_over_backup(place, Path(plan.backup), text_in(place.site), text_in(place.next))
+            say("a copy of that backup took the new text")
+    except (TokenError, OSError):
+        place.service(place.args.start)
         plan.backup = ""
         noted(place, plan, PREPARED)
-        place.service(place.args.start)
         raise
 
 
@@ -128,7 +147,7 @@ def restarts(place: Place) -> int:
 def is_up(place: Place) -> bool:
     try:
         return status_of(f"http://127.0.0.1:{place.args.port}/", "") == 401
-    except OSError:
+    except (OSError, http.client.HTTPException):
         return False
 
 
@@ -144,7 +163,7 @@ def tell_failed(place: Place, plan: Plan, said: str) -> None:
             told = f"The store still holds the old text. The new one, in {place.site}, opens it too: leave it there."
         else:
             told = "The store holds another text than these two."
-    except TokenError as error:
+    except (TokenError, OSError, UnicodeError) as error:
         told = f"Which text the store holds isn't known: {error}. Start it with {place.site}, which opens either."
     finally:
         place.service(place.args.start)
@@ -175,10 +194,24 @@ def status_of(url: str, token: str, certificate: str = "") -> int:
         return error.code
 
 
+def answer_of(who: str, url: str, token: str, certificate: str = "") -> int:
+    """The status of an answer; where there is none, the steps that are done stay so."""
+    try:
+        return status_of(url, token, certificate)
+    except (OSError, http.client.HTTPException) as error:
+        raise TokenError(5, f"{who} gives no answer: {getattr(error, 'reason', None) or error}") from None
+
+
+def token_within(place: Place, wish: Wish) -> str:
+    seat = tokens_of(read(place.tokens) or "", place.tokens).seats.get(wish.seat)
+    if not seat:
+        raise TokenError(5, f"the seat {wish.seat} isn't in {place.tokens} any more: station-token seat, by its lines")
+    return seat.inner
+
+
 def give_token(place: Place, wish: Wish) -> None:
     """Asks with a seat's own token, makes its outer one where it has to have one, and asks with that through nginx."""
-    inner = tokens_of(read(place.tokens) or "", place.tokens).seats[wish.seat].inner
-    answered = status_of(f"http://127.0.0.1:{place.args.port}{ASKED}", inner)
+    answered = answer_of("the server", f"http://127.0.0.1:{place.args.port}{ASKED}", token_within(place, wish))
     if answered not in (200, 404):
         raise TokenError(5, f"the server answers {answered} to the seat {wish.seat}, and should know it")
     if not wish.to:
@@ -191,7 +224,7 @@ def give_token(place: Place, wish: Wish) -> None:
         say(f"the seat {wish.seat} of {wish.customer} is known; its token is in {wish.to}")
         return
     end = time.monotonic() + RELOADED
-    while (answered := status_of(f"{place.args.nginx}{ASKED}", token, place.args.certificate)) == 401:
+    while (answered := answer_of("nginx", f"{place.args.nginx}{ASKED}", token, place.args.certificate)) == 401:
         if time.monotonic() > end:
             break
         time.sleep(0.2)
@@ -225,4 +258,7 @@ def token_run(place: Place, wish: Wish, *words: str) -> None:
 def keep_with_backup(place: Place, plan: Plan) -> None:
     """The new text opens each backup of before, so it lies with the newest one."""
     if plan.backup and Path(plan.backup).exists():
-        place.ran(*place.as_owner("cp", str(place.site), f"{plan.backup}/site.grown.toml"))
+        words = ("dd", "status=none", f"of={plan.backup}/site.grown.toml")
+        done = place.ran(*place.as_owner(*words), given=text_in(place.site))
+        if done.returncode:
+            say(f"keep a copy of {place.site} with the backup {plan.backup}: {done.stderr.strip()}")

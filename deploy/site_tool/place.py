@@ -19,6 +19,11 @@ from pathlib import Path
 from token_file import TokenError
 
 TRIED = "tried-by-site."
+ENCRYPTED = ".tar.age"
+
+
+class NoCopy(Exception):
+    """Why no copy of a store that runs could be made."""
 
 
 def text_in(path: Path) -> str:
@@ -56,7 +61,12 @@ class Place:
             owner = self.store.stat().st_uid
         except OSError as error:
             raise TokenError(1, f"there is no store {self.store}: {error.strerror}") from None
-        return list(words) if owner == os.geteuid() else ["runuser", "-u", pwd.getpwuid(owner).pw_name, "--", *words]
+        if owner == os.geteuid():
+            return list(words)
+        try:
+            return ["runuser", "-u", pwd.getpwuid(owner).pw_name, "--", *words]
+        except KeyError:
+            raise TokenError(1, f"{self.store} is the store of {owner}, a user without a name: chown it") from None
 
     def ran(self, *words: str, given: str = "") -> "subprocess.CompletedProcess[str]":
         try:
@@ -76,16 +86,17 @@ class Place:
         return "" if done.returncode == 0 else (done.stderr.strip() or f"status {done.returncode}")
 
     def newest_backup(self) -> Path | None:
-        """The newest backup that is whole, by its folder's time."""
+        """The newest backup: a folder that is whole, by its time, or a file that is encrypted."""
         found = [it.parent for it in self.backups.glob("*/books.db")
                  if (it.parent / "site.toml").exists() and not list(it.parent.glob("trial.*"))
                  and not it.parent.name.startswith((TRIED, "."))]  # fmt: skip
-        return max(found, key=lambda folder: folder.stat().st_mtime, default=None)
+        found += [it for it in self.backups.glob(f"*{ENCRYPTED}") if not it.name.startswith(".")]
+        return max(found, key=lambda it: it.lstat().st_mtime, default=None)
 
     @contextmanager
-    def copied(self, folder: Path, name: str) -> Iterator[Path]:
-        """A copy of a store's two files, as the store's user made it; it is gone at the end. What a run left that was
-        killed goes as well: this one has the lock."""
+    def room(self) -> Iterator[Path]:
+        """A folder of the store's user beside the backups; it is gone at the end. What a run left that was killed goes
+        as well: this one has the lock."""
         for left in self.backups.glob(f"{TRIED}*"):
             self.ran(*self.as_owner("rm", "-rf", str(left)))
         done = self.ran(*self.as_owner("mktemp", "-d", str(self.backups / f"{TRIED}XXXXXX")))
@@ -93,12 +104,29 @@ class Place:
         if done.returncode:
             raise TokenError(1, f"{self.backups}: {done.stderr.strip()}")
         try:
+            yield made
+        finally:
+            self.ran(*self.as_owner("rm", "-rf", str(made)))
+
+    @contextmanager
+    def copied(self, folder: Path, name: str) -> Iterator[Path]:
+        """A copy of a store's two files, as the store's user made it."""
+        with self.room() as made:
             done = self.ran(*self.as_owner("cp", str(folder / name), str(folder / f"{name}-wal"), str(made)))
             if done.returncode:
                 raise TokenError(1, f"{folder} can't be copied: {done.stderr.strip()}")
             yield made / name
-        finally:
-            self.ran(*self.as_owner("rm", "-rf", str(made)))
+
+    @contextmanager
+    def copied_running(self) -> Iterator[Path]:
+        """A copy of the store as it is now, though its server runs: by a snapshot, as backups are made."""
+        with self.room() as made:
+            kind = ["--snapshot", self.args.snapshot] if self.args.snapshot else []
+            words = ["--trial", "--db", str(self.store), "--into", str(self.backups), *kind, str(made / "store")]
+            done = self.ran(str(self.parts / "backup"), *words)
+            if done.returncode:
+                raise NoCopy((done.stderr.strip().splitlines() or ["it said nothing"])[-1].removeprefix("backup: "))
+            yield made / "store/books.db"
 
     def held_text(self, texts: list[Path]) -> str:
         """The text that the store holds, whose server is stopped. The program opens a copy first, by one of the texts:

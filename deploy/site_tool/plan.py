@@ -30,6 +30,7 @@ class Wish:
 class Plan:
     stage: str = PREPARED
     backup: str = ""
+    is_tried: bool = False  # over a copy of the store
     others: list[str] = field(default_factory=list)
     wishes: list[Wish] = field(default_factory=list)
 
@@ -42,7 +43,7 @@ def read_plan(path: Path) -> Plan:
     try:
         found = json.loads(path.read_text(encoding="utf-8"))
         wishes = [Wish(**it) for it in found["wishes"]]
-        return Plan(found["stage"], found["backup"], found["others"], wishes)
+        return Plan(found["stage"], found["backup"], bool(found.get("is_tried")), found["others"], wishes)
     except FileNotFoundError:
         return Plan()
     except (ValueError, KeyError, TypeError) as error:

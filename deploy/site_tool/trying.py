@@ -11,7 +11,7 @@ from token_file import TokenError
 from .difference import Given, difference, given_of, joined, shared
 from .faults import Fault
 from .map_faults import map_faults
-from .place import Place, text_in, written
+from .place import NoCopy, Place, text_in, written
 from .site_faults import site_faults
 
 CUSTOMERS = 64
@@ -83,19 +83,41 @@ def tested_growth(place: Place, old: str, new: str, title: str) -> list[str]:
     return found.gains
 
 
-def tried_over_backup(place: Place, old: str, new: str) -> str:
-    """Opens a copy of the newest backup with the text of now and then with the new one; what was tried, in words."""
+def tried_over_copy(place: Place, old: str, new: str) -> tuple[bool, str]:
+    """Whether a growth was tried over a copy of the store, and what was tried, in words. The copy is the newest backup's;
+    where that one is encrypted, its key is elsewhere, and it is one of the store as it is now."""
     backup = place.newest_backup()
     if not backup:
-        return f"no backup is in {place.backups}, so it wasn't tried over a copy of the store"
+        return False, untried(f"no backup is in {place.backups}")
+    if backup.is_dir():
+        tried_over_backup(place, backup, old, new)
+        return True, f"a copy of the backup {backup.name} took it"
+    try:
+        with place.copied_running() as copy:
+            try_over(place, copy, old, new, "a copy of the store as it is now")
+    except NoCopy as error:
+        return False, untried(f"the newest backup, {backup.name}, is encrypted, and the store can't be copied ({error})")
+    return True, "a copy of the store as it is now took it, as the newest backup is encrypted"
+
+
+def untried(why: str) -> str:
+    """What is told where there is no copy to try a growth over."""
+    return f"{why}, so it wasn't tried over a copy of the store: `apply` does so over the backup that it makes"
+
+
+def tried_over_backup(place: Place, backup: Path, old: str, new: str) -> None:
     with place.copied(backup, "books.db") as copy:
-        for text, what in ((old, place.site), (new, place.next)):
-            site = copy.with_name("site.toml")
-            done = place.ran(*place.as_owner("dd", "status=none", f"of={site}"), given=text)
-            said = done.stderr.strip() or place.replayed(site, copy, as_owner=True)
-            if said:
-                raise TokenError(1, f"{what}: a copy of the backup {backup} refuses it: {said}")
-    return f"a copy of the backup {backup.name} took it"
+        try_over(place, copy, old, new, f"a copy of the backup {backup}")
+
+
+def try_over(place: Place, copy: Path, old: str, new: str, what: str) -> None:
+    """Opens a copy with the text of now and then with the new one; an error where the program refuses one."""
+    for text, title in ((old, place.site), (new, place.next)):
+        site = copy.with_name("site.toml")
+        done = place.ran(*place.as_owner("dd", "status=none", f"of={site}"), given=text)
+        said = done.stderr.strip() or place.replayed(site, copy, as_owner=True)
+        if said:
+            raise TokenError(1, f"{title}: {what} refuses it: {said}")
 
 
 def tested_others(place: Place, new: str, others: list[str]) -> None:
