@@ -51,6 +51,9 @@ def customers(count: int) -> str:
 ONE = '[[customer]]\nname = "one"\nissuer = []\n'
 BOLT_SEAT = 'name = "b1"\ntoken = "2cf24dba5fb0a30e26e83b2ac5b9e29e1b161e5c1fa7425e73043362938b9824"'
 
+# What stands for a token in these texts, and may be in no line that is told.
+SECRET = 31415926535897932
+
 # What it is, the text, the number, the line, the member.
 SITES = [
     ("an open text", sample('"acme"', '"acme'), 1, 2, "the text"),
@@ -65,6 +68,10 @@ SITES = [
     ("a name of 33 letters", sample('"bolt"', f'"{"b" * 33}"'), 2, 14, "customer.name"),
     ("a token of 63 digits", sample(A1, A1[1:]), 2, 12, "customer.seat.token"),
     ("a token itself", sample(A1, "abc"), 2, 12, "customer.seat.token"),
+    ("a token that is a number", sample(f'"{A1}"', str(SECRET)), 2, 12, "customer.seat.token"),
+    ("a token in the place of a name", sample('"b1"', f'"wanekupo_{SECRET:064x}"'), 2, 17, "customer.seat.name"),
+    ("a token in the place of a seat", f'{ONE}seat = ["{SECRET:064x}"]\n', 2, 4, "customer.seat"),
+    ("an escape in a key", sample('token = "' + A1, '"t\\u006fken" = "abc'), 2, 12, "customer.seat.token"),
     ("an address with capitals", sample("020000000010", "02000000001A"), 2, 5, "customer.pool.first"),
     ("a pool of none", ONE + '[[customer.pool]]\nfirst = "020000000010"\ncount = 0\n', 2, 6, "customer.pool.count"),
     ("a pool that is too long", ONE + '[[customer.pool]]\nfirst = "020000000010"\ncount = 16777217\n', 2, 6,

@@ -41,8 +41,8 @@ def say(text: str) -> None:
 
 
 def apply(place: Place, plan: Plan) -> None:
-    """From wherever a run before this one was cut to the end. Once the new text is in place, whoever stops it leaves the
-    server started with that."""
+    """From wherever a run before this one was cut to the end. Whoever stops it leaves the server started, with the new
+    text once that is in place."""
     try:
         if plan.stage in (PREPARED, STOPPING):
             stop_and_back_up(place, plan)

@@ -14,6 +14,7 @@ from .places import DEEPEST, Path, Places, TooDeep, places_of
 
 NAME = re.compile(r"[A-Za-z0-9._-]{1,32}")
 DIGEST = re.compile(r"[0-9A-Fa-f]{64}")
+TOKEN = re.compile(r"(?:wanekupo_)?[0-9A-Fa-f]{64}")  # as station-token makes them; it may be in a wrong place
 ADDRESS = re.compile(r"[0-9a-f]{12}")
 LARGEST_WHOLE = 2**63 - 1
 TYPES = {str: "a text", bool: "true or false", int: "a whole number", float: "a number with a point", list: "an array",
@@ -29,7 +30,9 @@ class Fault:
 
 
 def shown(value: object) -> str:
-    """A value as it may be printed: short, and without what would be a command to a terminal."""
+    """A value as it may be printed: short, no token, and without what would be a command to a terminal."""
+    if isinstance(value, str) and TOKEN.search(value):
+        return f"a text of {len(value)} letters, which may be a token and isn't shown,"
     if isinstance(value, str):
         text = "".join(char if char.isprintable() else f"\\x{ord(char):02x}" for char in value)
         return f'"{text}"' if len(text) <= 80 else f'"{text[:77]}.." (of {len(value)} letters)'

@@ -5,6 +5,7 @@ takes, so this looks for no faults: it follows headers, keys, strings, arrays an
 """
 
 import re
+import tomllib
 from bisect import bisect
 from dataclasses import dataclass, field
 
@@ -66,8 +67,10 @@ class Scanner:
             found = KEY.match(self.text, self.at)
             if not found:
                 raise ValueError(f"no key in line {self.line()}")
-            names.append(next(name for name in found.groups() if name is not None))
-            is_more, self.at = bool(found[4]), found.end()
+            escaped, literal, bare, dot = found.groups()
+            # A key between quotes may have escapes, by which tomllib reads it.
+            names.append(tomllib.loads(f'key = "{escaped}"')["key"] if escaped else escaped or literal or bare or "")
+            is_more, self.at = bool(dot), found.end()
         if len(names) > DEEPEST:
             raise TooDeep(self.line())
         return names

@@ -62,10 +62,16 @@ def read_customer(reader: Reader, site: Site, customer: Any, path: Path) -> None
         name = reader.name(seat, (*path, "seat", place, "name"))
         if name is not None:
             site.seats.append((name, (*path, "seat", place, "name")))
-        read_token(reader, site, seat, (*path, "seat", place))
+        if isinstance(seat, dict):  # else that is told already
+            read_token(reader, site, seat, (*path, "seat", place))
 
 
 def read_token(reader: Reader, site: Site, table: Any, path: Path) -> None:
+    """The digest of a token. The token itself may stand there by mistake, of another type too, so none is printed."""
+    if isinstance(table, dict) and "token" in table and not isinstance(table["token"], str):
+        cause = "token has to be a text, the SHA-256 of the token. The token itself never stands in a site"
+        reader.tell(2, (*path, "token"), cause)
+        return
     token = reader.member(table, (*path, "token"), str)
     if token is None:
         return
@@ -73,7 +79,6 @@ def read_token(reader: Reader, site: Site, table: Any, path: Path) -> None:
         site.tokens.append((token.lower(), (*path, "token")))
         return
     why = f"it has {len(token)} letters" if len(token) != 64 else "it has other letters than 0-9 a-f"
-    # A token itself may stand here by mistake, so it isn't printed.
     cause = f"no SHA-256: it has to be 64 hexadecimal digits, and {why}. The token itself never stands in a site"
     reader.tell(2, (*path, "token"), cause)
 

@@ -84,8 +84,8 @@ def tested_growth(place: Place, old: str, new: str, title: str) -> list[str]:
 
 
 def tried_over_copy(place: Place, old: str, new: str) -> tuple[bool, str]:
-    """Whether a growth was tried over a copy of the store, and what was tried, in words. The copy is the newest backup's;
-    where that one is encrypted, its key is elsewhere, and it is one of the store as it is now."""
+    """Whether a growth was tried over a copy of the store, and what was tried, in words. The copy is that of the newest
+    backup; where that one is encrypted, its key is elsewhere, and the copy is of the store as it is now."""
     backup = place.newest_backup()
     if not backup:
         return False, untried(f"no backup is in {place.backups}")
@@ -96,7 +96,8 @@ def tried_over_copy(place: Place, old: str, new: str) -> tuple[bool, str]:
         with place.copied_running() as copy:
             try_over(place, copy, old, new, "a copy of the store as it is now")
     except NoCopy as error:
-        return False, untried(f"the newest backup, {backup.name}, is encrypted, and the store can't be copied ({error})")
+        told = f"the newest backup, {backup.name}, is encrypted"
+        return False, untried(f"{told}, and the store can't be copied ({error})")
     return True, "a copy of the store as it is now took it, as the newest backup is encrypted"
 
 
