@@ -30,7 +30,7 @@ def is_map(text: str) -> bool:
     return not is_site and bool(re.search(has_member % "wr|rd|coding|field|block", text, re.MULTILINE))
 
 
-def said_of(place: Place, path: Path, as_map: bool) -> str:
+def program_says(place: Place, path: Path, as_map: bool) -> str:
     """What the program says of a text in a file; nothing where it takes it."""
     if not as_map:
         return place.replayed(path)
@@ -44,7 +44,7 @@ def checked(place: Place, path: Path, as_map: bool) -> list[str]:
     lines = [f"{path}:{it.line}: {it.member}: {it.cause} (fault {it.number})" for it in faults]
     if not place.has_program():
         return lines
-    said = said_of(place, path, as_map)
+    said = program_says(place, path, as_map)
     number = number_of(said)
     if number == (faults[0].number if faults else 0) and bool(said) == bool(faults):
         return [*lines, said] if said else []
