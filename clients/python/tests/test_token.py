@@ -6,6 +6,8 @@ import unittest
 
 from support import LIFE, MAC, MAP, ORDER, StationCase, TokenProxy, life, ran, steps
 
+from commanding import ran as wanekupo
+
 import wanekupo_station as client
 from wanekupo_station import BadStateFile, NoReply, OutOfStep, Refused
 
@@ -60,6 +62,24 @@ class Tokens(StationCase):
         with self.assertRaises(BadStateFile):
             self.seat("old")
         self.assertEqual(steps(self.ledger()), LIFE)
+
+    def test_by_a_look(self):
+        """`number` takes the token over where it is the seat's, and goes without the word from then on."""
+        with self.seat("old") as seat:
+            seat.make_order(**ORDER)
+        self.rotated()
+        common = ("--url", self.proxy_of.url, "--state-file", self.folder / "a1.json", "--patience", 1)
+        for token, words, expected in (
+            ("new", ["number"], (2, "")),
+            ("other", ["--new-token", "number"], (2, "")),
+            ("new", ["--new-token", "number"], (0, '{"expected":2,"own":2}\n')),
+            ("new", ["number"], (0, '{"expected":2,"own":2}\n')),
+        ):
+            with self.subTest(f"{token} {words}"):
+                file = self.folder / f"{token}.token"
+                file.write_text(token, encoding="ascii")
+                file.chmod(0o600)
+                self.assertEqual(wanekupo(*common, "--token", file, *words)[:2], expected)
 
     def test_at_each_request_of_a_life(self):
         """The token changes at each of them, whether it was done or not: each is done once."""

@@ -250,6 +250,8 @@ def _add_number(parser: argparse.ArgumentParser) -> None:
 def number(station: Station, args: argparse.Namespace) -> Any:
     if args.resynchronize:
         station.resynchronize()
+    else:
+        station.take_token()
     return {"expected": station.expected_number(), "own": station.own_number()}
 
 

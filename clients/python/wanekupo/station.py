@@ -140,7 +140,8 @@ class Seat:
 
     # A new token.
 
-    def _take_token(self) -> None:
+    @_in_turn
+    def take_token(self) -> None:
         """Goes on with another token than before, which a person says is the same seat's, where the server shows it: it
         expects the number that this seat comes to, and knows the seat's last request."""
         if self._state.is_of_the_token():
@@ -184,7 +185,7 @@ class Seat:
     def post(self, path: str, members: Mapping[str, Any], reason: str = "") -> dict[str, Any]:
         """Has a request done, once, and gives its reply. The same request goes on where it is under way. `reason`
         stands in the journal's line of it, and isn't sent."""
-        self._take_token()
+        self.take_token()
         under_way = self._state.under_way
         if not under_way:
             self._begin(path, members, reason)
@@ -265,7 +266,7 @@ class Seat:
     @_in_turn
     def finish(self) -> Optional[Done]:
         """Sends what is under way again, as it was, and gives the last request that was accepted, if there is one."""
-        self._take_token()
+        self.take_token()
         if self._state.under_way:
             self._complete(is_repeat=True)
         last = self._state.last
