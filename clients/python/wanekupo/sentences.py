@@ -26,7 +26,10 @@ REFUSALS = {
     10: ("the request lacks something, or has a word of another form", "Look at the words: names, digits and numbers."),
     13: ("the customer has imported no such map", "Import the map first: wanekupo map FILE."),
     14: ("the customer has no order of this name", "Look at the name, or make the order first."),
-    15: ("the customer has no device of this chip", "Register the chip first, or look whose chip it is. Behind a restore look into the page on restoring before."),
+    15: (
+        "the customer has no device of this chip",
+        "Register the chip first, or look whose chip it is. Behind a restore of the store the page on restoring decides.",
+    ),
     16: ("it is there already", "Look at it: wanekupo device CHIP, or wanekupo order NAME."),
     17: ("the device's state doesn't allow it", "Look at it, and go on by its state: wanekupo device CHIP."),
     18: ("each place of the order is taken", "Take another order, or scrap a device that is lost."),
