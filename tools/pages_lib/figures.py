@@ -25,7 +25,7 @@ NUMBER = r"\d[\d,.]*\d|\d"
 NUMBERS = "no one two three four five six seven eight nine ten eleven twelve thirteen fourteen fifteen sixteen".split()
 MARK = re.compile(rf"(?P<number>{NUMBER}|\b[a-z]+)<!-- =(?P<name>\w+) -->")
 TESTS = ["crates/*_tests", "crates/test_*"]
-KIT = re.compile(r"rattle-kit-\S+ logic \w+")
+KIT = re.compile(r"rattle-kit-\S+ logic (?P<logic>\w+)")
 
 # A page or a crate's first lines, the words around a number, and which figure it is.
 PLACES = [
@@ -179,7 +179,14 @@ def kit() -> str | None:
 def with_figures(page: str, text: str, faults: list[str]) -> str:
     """A page with its figures and the toolchain's line."""
     text = marked(page, placed(page, text, faults), faults)
-    return KIT.sub(kit(), text) if kit() and page not in OF_THE_PAST else text
+    return KIT.sub(of_this_logic, text) if kit() and page not in OF_THE_PAST else text
+
+
+def of_this_logic(found: re.Match[str]) -> str:
+    """A page's line of the toolchain where this machine's has its logic, else this machine's. The logic is what a proof
+    is held to: kits of one logic prove the same."""
+    own = kit() or ""
+    return found[0] if own.endswith(f" logic {found['logic']}") else own
 
 
 def leads_at_fault() -> Iterator[str]:

@@ -28,7 +28,7 @@ REFUSALS = {
     14: ("the customer has no order of this name", "Look at the name, or make the order first."),
     15: (
         "the customer has no device of this chip",
-        "Register the chip first, or look whose chip it is. Behind a restore of the store the page on restoring decides.",
+        "Register the chip first, or look whose chip it is. Behind a restore of the store look into its page first.",
     ),
     16: ("it is there already", "Look at it: wanekupo device CHIP, or wanekupo order NAME."),
     17: ("the device's state doesn't allow it", "Look at it, and go on by its state: wanekupo device CHIP."),
