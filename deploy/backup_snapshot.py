@@ -9,6 +9,8 @@ What it has of a store is what a crash at that moment would have left, as both f
 import contextlib
 import json
 import os
+import shutil
+import signal
 import subprocess
 import time
 from collections.abc import Callable, Iterator
@@ -17,31 +19,42 @@ from pathlib import Path
 from backup_copy import BackupError
 
 NAME = "station_backup"
+MARK = "station:backup"  # a property of a snapshot of ZFS that a backup made
 PLACE = Path("/run/station-backup")
 SAFE = "nodev,nosuid,noexec"
 TRIES = 50
+STOPS = (signal.SIGTERM, signal.SIGINT, signal.SIGHUP)
+
+
+@contextlib.contextmanager
+def whole() -> Iterator[None]:
+    """A signal that would end this run waits: of a command that is killed in the middle a volume may stand still."""
+    before = signal.pthread_sigmask(signal.SIG_BLOCK, STOPS)
+    try:
+        yield
+    finally:
+        signal.pthread_sigmask(signal.SIG_SETMASK, before)
+
+
+def called(*words: str) -> subprocess.CompletedProcess[str]:
+    """A command that has ended."""
+    quiet = {**os.environ, "LVM_SUPPRESS_FD_WARNINGS": "1", "LC_ALL": "C.UTF-8"}
+    try:
+        with whole():
+            return subprocess.run(
+                words, stdin=subprocess.DEVNULL, capture_output=True, text=True, check=False, env=quiet
+            )  # fmt: skip
+    except OSError as error:
+        raise BackupError(f"{words[0]}: {error.strerror}") from error
 
 
 def ran(*words: str) -> str:
-    """What a command prints; where it fails, its last line is the error."""
-    quiet = {**os.environ, "LVM_SUPPRESS_FD_WARNINGS": "1"}
-    try:
-        done = subprocess.run(words, stdin=subprocess.DEVNULL, capture_output=True, text=True, check=False, env=quiet)
-    except OSError as error:
-        raise BackupError(f"{words[0]}: {error.strerror}") from error
+    """What a command prints. Where it fails, what it said is the error, in a line."""
+    done = called(*words)
     if done.returncode:
         said = (done.stderr or done.stdout).strip().splitlines() or [f"status {done.returncode}"]
-        raise BackupError(f"{' '.join(words[:2])}: {said[-1].strip()}")
+        raise BackupError(f"{words[0]}: {'; '.join(it.strip() for it in said)}")
     return done.stdout
-
-
-def does(*words: str) -> bool:
-    """Whether a command does it."""
-    try:
-        ran(*words)
-        return True
-    except BackupError:
-        return False
 
 
 def mounted_at(folder: Path) -> dict[str, str]:
@@ -57,7 +70,7 @@ def unmounted(folder: Path) -> bool:
         if not os.path.ismount(folder):
             return was
         was = True
-        if not does("umount", str(folder)):
+        if called("umount", str(folder)).returncode:
             time.sleep(0.1)  # who still reads there ends
     raise BackupError(f"{folder} stays mounted: somebody is in there")
 
@@ -92,20 +105,23 @@ class Lvm(Volume):
     def __init__(self, db: Path, size: str):
         super().__init__(db, size)
         self.mount = mounted_at(db.parent)
-        found = self._looked("vg_name,lv_name,lv_attr", below(self.mount["source"]))
-        if not found:
-            raise BackupError(f"{db.parent} is on {self.mount['source']}, which is no logical volume")
+        try:
+            (found,) = self._looked("vg_name,lv_name,lv_attr", below(self.mount["source"]))
+        except BackupError as error:
+            told = f"{db.parent} is on {self.mount['source']}, which is no logical volume"
+            raise BackupError(f"{told} ({error})") from error
         self.group, self.volume, attributes = found["vg_name"], found["lv_name"], found["lv_attr"]
         self.is_thin, self.name = attributes.startswith("V"), f"{self.group}/{NAME}"
 
     @staticmethod
-    def _looked(what: str, name: str) -> dict[str, str]:
-        """What LVM says of a volume; nothing where there is none."""
-        try:
-            told = json.loads(ran("lvs", "--reportformat", "json", "--options", what, name))
-        except BackupError:
-            return {}
-        return told["report"][0]["lv"][0]
+    def _looked(what: str, name: str) -> list[dict[str, str]]:
+        """What LVM says of a volume, or of those of a group."""
+        return json.loads(ran("lvs", "--reportformat", "json", "--options", what, name))["report"][0]["lv"]
+
+    def _found(self) -> dict[str, str]:
+        """What LVM says of the snapshot; nothing where there is none."""
+        all_of_them = self._looked("lv_name,origin,lv_tags,lv_attr,data_percent", self.group)
+        return next((it for it in all_of_them if it["lv_name"] == NAME), {})
 
     def made(self) -> Path:
         words = ["lvcreate", "--quiet", "--yes", "--snapshot", "--name", NAME, "--addtag", NAME]
@@ -122,7 +138,7 @@ class Lvm(Volume):
 
     def removed(self) -> str:
         was_mounted = unmounted(self.at)
-        found = self._looked("origin,lv_tags", self.name)
+        found = self._found()
         if not found:
             return str(self.at) if was_mounted else ""
         if found["origin"] != self.volume or NAME not in found["lv_tags"].split(","):
@@ -131,8 +147,12 @@ class Lvm(Volume):
         return f"the snapshot {self.name}"
 
     def fault(self) -> str:
-        found = self._looked("lv_attr,data_percent", self.name)
-        if not found or found["lv_attr"][4] in "IS" or (found["data_percent"] or "0").startswith("100"):
+        found = self._found()
+        if not found:
+            return f"the snapshot {self.name} is gone: somebody removed it meanwhile"
+        # A thin one is as full as its volume, and takes its room from the pool.
+        is_full = found["data_percent"].startswith("100") and not self.is_thin
+        if is_full or found["lv_attr"][4] in "IS":
             return f"the snapshot {self.name} is full, and so invalid: give it more room (--snapshot-size)"
         return ""
 
@@ -153,8 +173,8 @@ class Btrfs(Volume):
             self.subvolume = above
 
     def _at_the_top(self, call: Callable[[Path], None]) -> None:
-        ran("mount", "-t", "btrfs", "-o", f"subvolid=5,{SAFE}", self.source, str(self.top))
         try:
+            ran("mount", "-t", "btrfs", "-o", f"subvolid=5,{SAFE}", self.source, str(self.top))
             call(self.top / NAME)
         finally:
             unmounted(self.top)
@@ -180,29 +200,44 @@ class Btrfs(Volume):
 
 
 class Zfs(Volume):
-    """A dataset, whose snapshots are mounted read-only by ZFS itself, below the folder .zfs."""
+    """A dataset. Its snapshot is mounted by itself, as any other one: below .zfs the kernel would mount it where the
+    dataset is mounted, and leave it there."""
 
     def __init__(self, db: Path, size: str):
         super().__init__(db, size)
-        dataset, _, mounted = ran("zfs", "list", "-H", "-o", "name,mountpoint", str(db.parent)).strip().partition("\t")
-        self.name, self.mounted = f"{dataset}@{NAME}", Path(mounted)
+        self.mount = mounted_at(db.parent)
+        if self.mount["fstype"] != "zfs":
+            raise BackupError(f"{db.parent} is on {self.mount['fstype']}, and not on zfs")
+        self.dataset = self.mount["source"]
+        self.name = f"{self.dataset}@{NAME}"
 
     def made(self) -> Path:
-        ran("zfs", "snapshot", self.name)
-        return self.mounted / ".zfs/snapshot" / NAME / self.db.relative_to(self.mounted)
+        ran("zfs", "snapshot", "-o", f"{MARK}=yes", self.name)
+        ran("mount", "-t", "zfs", "-o", f"ro,{SAFE}", self.name, str(self.at))
+        below = self.db.relative_to(self.mount["target"])
+        return self.at / self.mount["fsroot"].strip("/") / below
 
     def removed(self) -> str:
-        if not does("zfs", "list", "-H", "-t", "snapshot", "-o", "name", self.name):
-            return ""
+        was_mounted = unmounted(self.at)
+        lines = ran("zfs", "list", "-H", "-t", "snapshot", "-d", "1", "-o", f"name,{MARK}", self.dataset).splitlines()
+        marks = dict(line.split("\t") for line in lines)
+        if self.name not in marks:
+            return str(self.at) if was_mounted else ""
+        if marks[self.name] != "yes":
+            raise BackupError(f"{self.name} is no snapshot of a backup's: rename it, as a backup needs that name")
         ran("zfs", "destroy", self.name)
         return f"the snapshot {self.name}"
 
 
 KINDS: dict[str, Callable[[Path, str], Volume]] = {"lvm": Lvm, "btrfs": Btrfs, "zfs": Zfs}
+NEEDED = {"lvm": ("lvs", "lvm2"), "btrfs": ("btrfs", "btrfs-progs"), "zfs": ("zfs", "zfsutils-linux")}
 
 
 def volume_of(kind: str, db: Path, size: str) -> Volume:
     """The volume of a store, and the places where its snapshot is mounted, which the store's user may pass through."""
+    command, package = NEEDED[kind]
+    if not shutil.which(command):
+        raise BackupError(f"there is no command {command}: Debian's package has the name {package}")
     for folder in (PLACE, PLACE / "mnt", PLACE / "top"):
         folder.mkdir(exist_ok=True)
     os.chmod(PLACE, 0o711)
@@ -222,4 +257,5 @@ def snapshot(volume: Volume) -> Iterator[Path]:
         if fault := volume.fault():
             raise BackupError(fault)
     finally:
-        volume.removed()
+        with whole():
+            volume.removed()
