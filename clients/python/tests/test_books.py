@@ -8,49 +8,23 @@ from __future__ import annotations
 
 import base64
 import contextlib
-import csv
 import gzip
 import hashlib
 import json
 import re
 import shutil
-import sqlite3
 import subprocess
 import unittest
 from unittest import mock
 
-from support import DIGEST, MAC, MAP, ORDER, PROGRAM, ROOT, SITE, StationCase, life
+from support import MAC, PROGRAM, ROOT, SITE
+from books_case import ALWAYS, DAY, PERIOD, BooksCase, device, lines_of, read, step
 from commanding import ran
 
-from wanekupo.journal import request_digest
 from wanekupo.yields import LOOKS, SENTENCE
 
-DAY = "2026-11-27T"
-PERIOD = ["--from", DAY + "06:00Z", "--to", DAY + "14:00Z"]
 YIELD_PAGE = ROOT / "clients" / "web" / "yield.html"
 MARKUP = "\x1b[2J<script>1</script>&"
-
-
-def lines_of(seat, *steps, operator="mara"):
-    """The lines of a journal: of each step its time, its path, what is asked beside `nr`, and its reply, which is one
-    of status 409 where it has `no`."""
-    for number, (at, path, asked, reply) in enumerate(steps, 1):
-        own, asked = {"seat": seat, "operator": operator}, {"nr": number, **asked}
-        yield {**own, "at": f"{DAY}{at}Z", "path": path, "asked": asked, "digest": request_digest(path, asked)}
-        if reply is not None:
-            yield {**own, "at": f"{DAY}{at}Z", "nr": number, "status": 409 if "no" in reply else 200, "reply": reply}
-
-
-def device(at, chip, order="o1"):
-    return at, "/v1/device", {"chip": chip, "order": order, "map": DIGEST, "blocks": []}, {"state": "registered"}
-
-
-def read(at, chip, outcome, state):
-    return at, "/v1/readback", {"chip": chip, "blocks": []}, {"outcome": outcome, "state": state, "rest": {}}
-
-
-def step(at, name, chip, **reply):
-    return at, f"/v1/{name}", {"chip": chip}, reply
 
 
 # Two stations of acme. By hand: c1 is passed first and takes 10 minutes, c2 matches at its second try and takes 40; c3
@@ -78,18 +52,7 @@ A2 = [device("09:00:00", "c4"), device("09:30:00", "c5", "o2"), step("09:31:00",
 A2 += [step("10:00:00", "scrap", "c4", state="scrapped")]
 
 
-class Books(StationCase):
-    """A folder with a program."""
-
-    def write(self, name, lines):
-        file = self.folder / name
-        file.write_text("".join(json.dumps(line) + "\n" for line in lines), encoding="ascii")
-        return file
-
-    def rows(self, name):
-        with open(self.folder / "csv" / f"{name}.csv", encoding="utf-8", newline="") as source:
-            return list(csv.DictReader(source))
-
+class Books(BooksCase):
     def test_a_shift(self):
         self.write("a1.journal", lines_of("a1", *A1))
         lines = list(lines_of("a2", *A2, operator="joe"))
@@ -129,16 +92,6 @@ class Books(StationCase):
         digest = hashlib.sha256(style.encode()).digest()
         self.assertIn(f"&#x27;sha256-{base64.b64encode(digest).decode()}&#x27;", policy)
 
-    def lived(self):
-        """A chip's life, with its journal; the store is copied behind it."""
-        with self.station(journal=self.journal()) as station:
-            station.make_order(**ORDER)
-            station.import_map(MAP)
-            life(station, self.chip())
-        (self.folder / "token").write_text("abc", encoding="ascii")
-        self.program.copied(self.folder / "copy")
-        return self.folder / "copy" / "books.db"
-
     def test_a_seal(self):
         """A customer's rows are a part of the plant's; a chain by hashlib; a changed note is found and named."""
         store = self.lived()
@@ -166,20 +119,6 @@ class Books(StationCase):
         status, out, _ = ran("seal", "--verify", plants, store)
         self.assertEqual(status, 1)
         self.assertIn(f"The entry 3 of {MAC} of acme: note was match, and is short.", out)
-
-    def sealed(self):
-        """Two seals of a life, in a folder of their own; an empty one lies beside it."""
-        store, seals = self.lived(), self.folder / "seals"
-        for folder in (seals, self.folder / "empty"):
-            folder.mkdir()
-        for _ in range(2):
-            self.assertEqual(ran("seal", seals, "--store", store)[0], 0)
-        return seals
-
-    def verified(self, *words):
-        status, out, told = ran("seal", "--verify", *words)
-        self.assertEqual(told, "")
-        return status, out
 
     def test_a_changed_byte(self):
         """Wherever a byte of rows is changed its file is named, and never a fault of the program's own."""
@@ -268,16 +207,10 @@ class Books(StationCase):
             told = "none is no folder. Make it first: the seals of one customer, or of a plant, stay there.\n"
             self.assertEqual(ran("seal", "none", "--store", "copy/books.db"), (2, "", told))
 
-    def forge(self, store, sql):
-        with contextlib.closing(sqlite3.connect(store)) as base:
-            self.assertEqual(base.execute(sql).rowcount, 1)
-            base.commit()
-
     def test_an_audit(self):
         """A life and its journal agree; a forged note, a cut journal and a changed line are each found and named."""
         store, journal = self.lived(), self.folder / "a1.journal"
-        period = ["--from", "2000-01-01", "--to", "2099-01-01"]
-        status, out, _ = ran("audit", store, journal, *period)
+        status, out, _ = ran("audit", store, journal, *ALWAYS)
         self.assertEqual((status, "6 entries of the period" in out), (0, True))
         self.assertIn("by its last request", out)
         whole = journal.read_bytes()
@@ -289,11 +222,11 @@ class Books(StationCase):
             (whole.replace(b'"prefix":"A"', b'"prefix":"B"', 1), ("journal", "line 1 of", "was changed")),
         ):
             journal.write_bytes(data)
-            status, out, _ = ran("audit", store, journal, *period)
+            status, out, _ = ran("audit", store, journal, *ALWAYS)
             self.assertEqual((status, [it for it in words if it not in out]), (1, []))
         journal.write_bytes(whole)
         self.forge(store, "UPDATE ledger SET seat = 'b1' WHERE n = 6")
-        status, out, _ = ran("audit", store, journal, *period)
+        status, out, _ = ran("audit", store, journal, *ALWAYS)
         self.assertEqual((status, "the seat is b1 in the store, and the line is of a1" in out), (1, True))
 
     def test_what_is_no_store(self):

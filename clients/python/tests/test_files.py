@@ -11,6 +11,7 @@ from unittest import mock
 from support import DIGEST, FLASH_KEY, MAC, MAP, ORDER, WISHES, StationCase, ran
 
 import wanekupo_station as client
+from wanekupo.files import replace_bytes
 from wanekupo_journal import BadJournal, Journal, lines_of, requests_of
 from wanekupo_station import NoReply, UnsafeFile
 
@@ -64,6 +65,14 @@ class Owners(StationCase):
         with self.station() as station:
             station.import_map(MAP)
             self.assertEqual(((self.folder / "a1.json").stat().st_mode & 0o777, new.exists()), (0o600, False))
+        self.assertEqual(self.victim.read_text(encoding="ascii"), "x")
+
+    def test_a_write_that_fails(self):
+        """As on a full disk: what was there stays, and nothing is left beside it."""
+        with mock.patch("os.fsync", side_effect=OSError(28, "No space left on device")):
+            with self.assertRaises(OSError):
+                replace_bytes(self.victim, b"y", 0o600)
+        self.assertEqual([it.name for it in self.folder.glob("victim*")], ["victim"])
         self.assertEqual(self.victim.read_text(encoding="ascii"), "x")
 
     def test_modes(self):

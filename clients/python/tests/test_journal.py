@@ -245,7 +245,8 @@ class Restore(StationCase):
 
     def test_several_journals(self):
         """They are read by their times, each in its own order."""
-        lines = [{"at": at, "path": "/v1/ship", "asked": {"nr": nr}} for nr, at in enumerate("abcdac", 1)]
+        times = [f"2026-11-27T06:00:0{second}Z" for second in (1, 2, 3, 4, 1, 3)]
+        lines = [{"at": at, "path": "/v1/ship", "asked": {"nr": nr}} for nr, at in enumerate(times, 1)]
         for name, places in (("one", (0, 3, 4)), ("two", (1, 2, 5))):
             text = "".join(json.dumps(lines[place]) + "\n" for place in places)
             (self.folder / name).write_text(text, encoding="ascii")

@@ -13,8 +13,9 @@ import subprocess
 import unittest
 from datetime import datetime
 from pathlib import Path
+from unittest import mock
 
-from support import DIGEST, MAC, MAP, ORDER, ROOT, SITE, StationCase, bit, life
+from support import DIGEST, MAC, MAP, ORDER, ROOT, SITE, Canned, StationCase, bit, life
 from commanding import ran
 
 from wanekupo.command_line import COMMANDS
@@ -172,9 +173,15 @@ class Metrics(StationCase):
             found, told = self.metrics(*words, "--status", f"{url}/status", **environment)
             self.assertEqual((found["wanekupo_connections_left"], told), (left, ""), seen)
             self.assertEqual(found["wanekupo_http_requests_total"], seen)
-        found, told = self.metrics(*words, "--status", self.canned(200, "text/html", b"<html>"), **environment)
-        self.assertIn("isn't nginx's page of its counts", told)
-        self.assertNotIn("wanekupo_connections_left", found)
+        mail = Canned(b"220 mail.example ESMTP\r\n")
+        self.addCleanup(mail.close)
+        for url, sentence in (
+            (self.canned(200, "text/html", b"<html>"), "isn't nginx's page of its counts"),
+            (mail.url, f"What {mail.url} answers is no HTTP. Look at --status"),
+        ):
+            found, told = self.metrics(*words, "--status", url, **environment)
+            self.assertIn(sentence, told)
+            self.assertNotIn("wanekupo_connections_left", found)
 
     def test_the_file(self):
         """It is replaced whole, who has the old one reads that, and the exporter's user may read it."""
@@ -195,7 +202,7 @@ class Metrics(StationCase):
     def test_what_is_kept(self):
         """A damaged file is written anew, with a line; another user's is refused as each file of a station is."""
         kept = self.folder / "kept.json"
-        for damaged in ("{", "[]"):
+        for damaged in ("{", "[]", '{"journals":[]}', 5000 * "["):
             kept.write_text(damaged, encoding="ascii")
             _, told = self.metrics("--kept", kept, "--shift", "Mon-Sun 00:00-24:00")
             self.assertEqual((told, kept.read_text()), (f"{kept} is damaged, and is written anew.\n", "{}"))
@@ -227,6 +234,9 @@ class Journals(StationCase):
         self.journals = self.folder / "journals"
         (self.journals / "acme").mkdir(parents=True)
         self.file = self.journals / "acme" / "a1-2026-11-29.journal"
+        now = mock.patch("wanekupo.journal_counts.now", return_value="2026-12-01T00:00:00Z")
+        now.start()
+        self.addCleanup(now.stop)
 
     def add(self, *lines, end="\n"):
         with open(self.file, "a", encoding="ascii") as out:
@@ -272,11 +282,38 @@ class Journals(StationCase):
         broken = self.file.with_name("b1.journal")
         broken.with_name("c1.journal").symlink_to(self.file)
         self.assertIn("c1.journal is a link, and isn't followed", self.metrics()[1])
-        broken.write_text('{"at": "2026-11-29T06:00:00Z"}\nnone\n', encoding="ascii")
+        broken.write_text('{"at": "2026-11-29T06:00:00Z", "resynchronized": 4}\nnone\n', encoding="ascii")
         for _ in range(2):
             found, told = self.metrics()
             self.assertEqual(found[1], 1)
-            self.assertIn(f"line behind byte 31 of {broken} is no line of a journal. Look at it in a copy", told)
+            self.assertIn(f"line behind byte 52 of {broken} is no line of a journal. Look at it in a copy", told)
+
+    def test_a_clock_that_is_ahead(self):
+        """A line of a time to come doesn't keep the later ones from counting."""
+        self.add({**ASKED, "at": "2036-01-01T00:00:00Z"}, {**DONE, "at": "2036-01-01T00:00:01Z"})
+        self.assertEqual(self.metrics(), ([0, 0, None], ""))
+        with mock.patch("wanekupo.journal_counts.now", return_value="2036-01-02T00:00:00Z"):
+            self.add(*({**line, "at": "2036-01-01T12:00:00Z"} for line in (ASKED, STOPPED)))
+            self.assertEqual(self.metrics(), ([0, 1, None], ""))
+
+    def test_a_folder_that_is_away(self):
+        """For a while, as one that another machine lends: what comes back counts once."""
+        lost = {**DONE, "reply": {"outcome": "stray", "rest": {}, "state": "quarantined"}}
+        self.add(ASKED, lost)
+        other = self.journals / "bolt" / "b1.journal"
+        other.parent.mkdir()
+        other.write_text("", encoding="ascii")
+        self.assertEqual(self.metrics()[0][0], 1)
+        self.file.parent.rename(self.folder / "away")
+        self.assertEqual(self.metrics()[0][0], 1)
+        (self.folder / "away").rename(self.file.parent)
+        self.assertEqual(self.metrics()[0][0], 1)
+
+    def test_a_name_that_is_none(self):
+        """A seat's name becomes a label: one that no server gives is that of its file."""
+        self.add({**ASKED, "seat": 4000 * "x"}, {**STOPPED, "seat": "a1"})
+        self.assertEqual(self.metrics()[0][1], 1)
+        self.assertEqual(list(json.loads((self.folder / "kept.json").read_text())["journals"]["seats"]), ["a1"])
 
     def test_by_a_station(self):
         """A seat that another one used, by its own journal."""

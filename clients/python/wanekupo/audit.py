@@ -6,15 +6,16 @@ import argparse
 from pathlib import Path
 from typing import Iterable
 
-from wanekupo.books import stored
 from wanekupo.books.audit import audit_of
 from wanekupo.books.audit_page import as_html, as_text, found_table
 from wanekupo.books.printed import write
-from wanekupo.books.shift import period_of
+from wanekupo.books.shift import Period, period_of
 from wanekupo.books.steps import Book, books_of
 from wanekupo.books.store import Store
+from wanekupo.books.stored import Books
 from wanekupo.command_row import Command
 from wanekupo.config import Settings
+from wanekupo.errors import NoPeriod
 from wanekupo.moments import tested_period
 from wanekupo.printing import Formulas, say
 from wanekupo.shift_report import add_period
@@ -41,13 +42,20 @@ def _read(store: Path, books: Iterable[Book]) -> list[tuple[str, int, str]]:
     return [(str(file), file.stat().st_size, digest_of_file(file)) for file in files if file.exists()]
 
 
+def _nothing_of(period: Period, journals: Iterable[Book]) -> tuple[str, str]:
+    """What is told where nothing of a period was held to anything."""
+    times = sorted(at for book in journals for at in book.times)
+    lines = f"These journals have lines of {times[0]} to {times[-1]}." if times else "These journals have no line."
+    happened = f"no entry and no line is of the period from {period.start} to {period.end}, so nothing was compared"
+    return happened, f"Look at --from and --to. {lines}"
+
+
 def _audit(_: Settings, args: argparse.Namespace) -> int:
     tested_period(args.from_time, args.to_time)
     path = Path(args.store)
+    journals, period = books_of(args.journals), period_of(args.from_time, args.to_time)
     with Store(path) as store:
-        books = stored.books_of(store)
-    journals = books_of(args.journals)
-    audit = audit_of(books, journals, period_of(args.from_time, args.to_time))
+        audit = audit_of(Books(store), journals, period)
     if args.html:
         write(Path(args.html), as_html(audit, _read(path, journals)))
     if args.csv:
@@ -55,6 +63,8 @@ def _audit(_: Settings, args: argparse.Namespace) -> int:
         Formulas().warn_of(table.columns, table.texts())
         write(Path(args.csv), table.as_csv())
     say(as_text(audit))
+    if not audit.found and not audit.entries and not audit.held_lines:
+        raise NoPeriod(*_nothing_of(period, journals))
     return FOUND if audit.found else DONE
 
 

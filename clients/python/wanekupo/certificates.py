@@ -29,15 +29,13 @@ from wanekupo.replies import Listed
 from wanekupo.sentences import sentence_of
 from wanekupo.spools import CERTIFICATE, REQUEST, SECRET, Request, certificates_of
 from wanekupo.spools import key_of_certificate, read_in, request_in
+from wanekupo.states import IN_USE
 from wanekupo.station import Station
 
 CERTIFY = """: it holds each request of the spool, SERIAL.csr, to the device's record, has a command sign it, and writes
 SERIAL.pem beside it. A record gets one certificate. Status 1 where a request was refused."""
 VERIFY = """: the key, the serial number, the validity and the form, and its chain to a certificate that is trusted.
 Status 1 where one isn't."""
-
-# A device with a certificate is of these states.
-IN_USE = ("identified", "shipped")
 
 # A chip, as a bench names it in the request's subject.
 CHIP = re.compile(r"[0-9a-f]{12}")
@@ -204,18 +202,29 @@ def verify(settings: Settings, args: argparse.Namespace) -> int:
         raise BadSettings(f"there is no file {trusted}", "It has the certificates that a chain may end at, as PEM.")
     if crl and not (crl.is_file() and b"-----BEGIN X509 CRL-----" in crl.read_bytes()):
         raise BadSettings(f"{crl} has no list of what a CA revoked, as PEM", "openssl ca -gencrl makes it.")
-    chains = {name: certificates_of(_read(Path(name)), Path(name)) for name in args.certificates}
-    serials = {name: _serial_of(chain[0]) for name, chain in chains.items()}
-    refused = 0
+    library("x509")
+    chains = {name: _chain_of(name) for name in dict.fromkeys(args.certificates)}
+    serials = {name: _serial_of(chain[0]) for name, chain in chains.items() if chain}
     with looking_station_of(settings) as station:
         books = Books(station, filter(None, serials.values()), args.issuer)
+        refused = sum(chain is None for chain in chains.values())
         for name, chain in chains.items():
             try:
-                say(f"{name}: {_verified(chain, serials[name], books, trusted, crl)}\n")
-            except NotCertified as error:
+                if chain:
+                    say(f"{name}: {_verified(chain, serials[name], books, trusted, crl)}\n")
+            except (NotCertified, BadKey) as error:
                 warn(f"{name}: {sentence_of(error)}")
                 refused += 1
     return REFUSED if refused else DONE
+
+
+def _chain_of(name: str) -> Optional[list[Any]]:
+    """The certificates of a file. One without any that can be read is told, and is refused as one that isn't right."""
+    try:
+        return certificates_of(_read(Path(name)), Path(name))
+    except (BadKey, UnsafeFile) as error:
+        warn(sentence_of(error))
+        return None
 
 
 def _read(file: Path) -> bytes:
@@ -227,8 +236,12 @@ def _read(file: Path) -> bytes:
 
 def _serial_of(certificate: Any) -> str:
     """The serial number in a certificate's subject, empty where it has none, or several."""
-    numbers = certificate.subject.get_attributes_for_oid(library("x509").NameOID.SERIAL_NUMBER)
-    return numbers[0].value if len(numbers) == 1 and SERIAL.fullmatch(numbers[0].value) else ""
+    try:
+        found = certificate.subject.get_attributes_for_oid(library("x509").NameOID.SERIAL_NUMBER)
+    except ValueError:
+        return ""
+    numbers = [str(it.value) for it in found]
+    return numbers[0] if len(numbers) == 1 and SERIAL.fullmatch(numbers[0]) else ""
 
 
 def _verified(chain: Sequence[Any], serial: str, books: Books, trusted: Path, crl: Optional[Path]) -> str:

@@ -7,15 +7,14 @@ Neither cloud was tried. AWS IoT Core takes a line of JSON for each thing, with 
 from __future__ import annotations
 
 import hashlib
+from collections import Counter
 from pathlib import Path
 from typing import Any, Callable, Mapping, Sequence
 
 from wanekupo.errors import StationError
 from wanekupo.spools import CERTIFICATE, CSR, certificate_in, der_of, pem_of, request_in
+from wanekupo.states import IN_USE
 from wanekupo.texts import compact_json
-
-# Whom a cloud is to trust: a device that was scrapped isn't there.
-IN_USE = ("identified", "shipped")
 
 Row = Mapping[str, Any]
 
@@ -44,16 +43,17 @@ def azure_line(spool: Path, row: Row) -> dict[str, Any]:
 
 
 def lines_of(line: Callable[[Path, Row], dict[str, Any]], spool: Path, rows: Sequence[Row]) -> str:
-    """The lines of the devices that are in use, all of one form, each serial number once."""
+    """The lines of the devices that are in use, all of one form, each serial number once. A cloud is to trust none that
+    was scrapped."""
     made = [line(spool, row) for row in rows if row["state"] in IN_USE]
     forms = {tuple(sorted(it)) for it in made}
     if len(forms) > 1:
         told = "Have all of them certified first, or none."
         raise StationError("some devices have a certificate in the spool, and others only a request for one", told)
-    names = [row["serial"] for row in rows if row["state"] in IN_USE]
-    twice = next((it for it in names if names.count(it) > 1), None) if len(set(names)) < len(names) else None
-    if twice:
-        raise StationError(f"two issuers have the serial number {twice}", "Make a list of each one's orders.")
+    names = Counter(row["serial"] for row in rows if row["state"] in IN_USE)
+    for serial, count in names.items():
+        if count > 1:
+            raise StationError(f"two issuers have the serial number {serial}", "Make a list of each one's orders.")
     return "".join(compact_json(it, sort_keys=True) + "\n" for it in made)
 
 

@@ -10,6 +10,7 @@ import errno
 import os
 import stat
 from pathlib import Path
+from typing import IO, Iterator
 
 from wanekupo.errors import UnsafeFile
 
@@ -49,12 +50,12 @@ def tested_folder(folder: Path) -> None:
         raise UnsafeFile(f"others can write the folder {folder}: chmod go-w it, or have these files in another one")
 
 
-def opened_plain(file: str | os.PathLike[str], flags: int) -> int:
-    """Opens a plain file, and makes it with mode 0600 where the flags say so; never through a link."""
+def opened_plain(file: str | os.PathLike[str], flags: int, follows_links: bool = False) -> int:
+    """Opens a plain file, and makes it with mode 0600 where the flags say so; through no link, but where it is said."""
     try:
-        opened = os.open(file, flags | NOFOLLOW | NONBLOCK, PRIVATE)
+        opened = os.open(file, flags | (0 if follows_links else NOFOLLOW) | NONBLOCK, PRIVATE)
     except OSError as error:
-        if NOFOLLOW and error.errno == errno.ELOOP:
+        if NOFOLLOW and not follows_links and error.errno == errno.ELOOP:
             raise UnsafeFile(f"{file} is a link, and isn't followed") from error
         raise
     if not stat.S_ISREG(os.fstat(opened).st_mode):
@@ -104,17 +105,30 @@ def replace_file(file: Path, text: str, mode: int = PRIVATE) -> None:
 
 
 def replace_bytes(file: Path, data: bytes, mode: int, is_exact: bool = False) -> None:
-    """The same of bytes, with a mode from which the umask takes unless it is exact. What stands in the new one's place
-    goes first, so that it is this call's, with its owner and its mode."""
+    """The same of bytes, with a mode from which the umask takes unless it is exact."""
+    with replaced(file, mode, is_exact) as out:
+        out.write(data)
+
+
+@contextlib.contextmanager
+def replaced(file: Path, mode: int, is_exact: bool = False) -> Iterator[IO[bytes]]:
+    """The same of what is written to the file that this gives: it takes the other one's place once all is written, and
+    goes where that fails. What stands in the new one's place goes first, so that it is this call's, with its owner and
+    its mode."""
     new = f"{file}.new"
     with contextlib.suppress(FileNotFoundError):
         os.unlink(new)
     flags = os.O_WRONLY | os.O_CREAT | os.O_EXCL | NOFOLLOW
-    with open(os.open(new, flags, mode), "wb") as out:
-        if IS_POSIX and is_exact:
-            os.fchmod(out.fileno(), mode)
-        out.write(data)
-        out.flush()
-        os.fsync(out.fileno())
-    os.replace(new, file)
+    try:
+        with open(os.open(new, flags, mode), "wb") as out:
+            if IS_POSIX and is_exact:
+                os.fchmod(out.fileno(), mode)
+            yield out
+            out.flush()
+            os.fsync(out.fileno())
+        os.replace(new, file)
+    except BaseException:
+        with contextlib.suppress(FileNotFoundError):
+            os.unlink(new)
+        raise
     synced_folder(file.parent)

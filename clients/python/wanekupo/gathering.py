@@ -10,7 +10,6 @@ from typing import Any, Callable, Iterable, Iterator, TypeVar
 
 from wanekupo.replies import Listed, device_of, entries_of, identity_of, order_of
 from wanekupo.station import Station
-from wanekupo.yields import STATES
 
 Row = TypeVar("Row")
 Reply = dict[str, Any]
@@ -45,16 +44,6 @@ def ledger(station: Station, chip: str) -> Reply:
     return _shown(station, "/v1/ledger", entries_of, chip=chip)
 
 
-def records(station: Station, listed: Iterable[Listed]) -> Iterator[Reply]:
-    """The record of each of these devices that has a serial number."""
-    return (record(station, it.chip) for it in listed if it.serial is not None)
-
-
-def ledgers(station: Station, listed: Iterable[Listed]) -> Iterator[Reply]:
-    """The ledger of each of these devices. nginx lets a customer have two in a second by its usual shares."""
-    return (ledger(station, it.chip) for it in listed)
-
-
 def watched(rows: Iterable[Row], told: Told, of: int, done: int = 0) -> Iterator[Row]:
     """The same rows, where `told` gets how many are done, those before this call included."""
     for row in rows:
@@ -63,13 +52,8 @@ def watched(rows: Iterable[Row], told: Told, of: int, done: int = 0) -> Iterator
         told(done, of)
 
 
-def number_of_devices(counts: dict[str, dict[str, int]]) -> int:
-    """How many devices a report counts, in whatever state."""
-    return sum(row[state] for row in counts.values() for state in STATES)
-
-
 def _shown(station: Station, path: str, read: Callable[[Any], Any], **parameters: str) -> Reply:
     """A reply's members, where they have the form of this path's."""
-    found = station.get(path, **parameters)
+    found: Reply = station.get(path, **parameters)
     read(found)
     return found

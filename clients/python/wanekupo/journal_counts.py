@@ -7,18 +7,21 @@ away.
 
 from __future__ import annotations
 
-import json
-import os
+import re
+from datetime import datetime, timezone
 from pathlib import Path
-from typing import Any, Iterator, Optional
+from typing import Any, Optional
 
 from wanekupo.errors import BadJournal, UnsafeFile
 from wanekupo.exposition import Samples
-from wanekupo.files import opened_plain
-from wanekupo.journal import LONGEST_LINE, OF_A_DAY, SUFFIX
-from wanekupo.moments import moment_of
+from wanekupo.journal import OF_A_DAY, SUFFIX
+from wanekupo.journal_lines import lines_of
+from wanekupo.moments import moment_of, text_of
+from wanekupo.states import LOST
 
-REASONS = ("lost", "stray", "key")
+# A seat's name, as the server's are: it becomes a label.
+NAME = re.compile(r"[A-Za-z0-9._-]{1,32}")
+
 OUT_OF_STEP = (11, 12)
 
 # How many seats have metrics of their own; a site has 64 of each of 64 customers. The others are counted as one.
@@ -32,12 +35,17 @@ def seat_named(file: Path) -> str:
     return (day[1].rstrip("-") if day else file.name.removesuffix(SUFFIX)) or file.parent.name
 
 
+def now() -> str:
+    return text_of(datetime.now(timezone.utc))
+
+
 class Counts:
     """What is known of the journals, in the part of the kept file that is theirs."""
 
     def __init__(self, kept: dict[str, Any]):
         self.read: dict[str, int] = kept.setdefault("read", {})
         self.seats: dict[str, dict[str, Any]] = kept.setdefault("seats", {})
+        self.now = now()
 
     def seat(self, name: str) -> dict[str, Any]:
         known = name if name in self.seats or len(self.seats) < MOST_SEATS else OTHERS
@@ -45,10 +53,13 @@ class Counts:
         return self.seats.setdefault(known, new)
 
     def take(self, line: dict[str, Any], otherwise: str) -> None:
-        """A line. One that is older than what is known of its seat only counts, as where an old journal comes late."""
-        at, seat = str(line["at"]), self.seat(str(line.get("seat", otherwise)))
+        """A line. One that is older than what is known of its seat only counts, as where an old journal comes late. One
+        of a time to come, by a clock that is ahead, is of now: else no later line of that seat would count."""
+        name = line.get("seat", "")
+        seat = self.seat(name if NAME.fullmatch(name) else otherwise)
+        at = min(line["at"], self.now)
         reply = line.get("reply")
-        if isinstance(reply, dict) and reply.get("outcome") in REASONS:
+        if isinstance(reply, dict) and reply.get("outcome") in LOST:
             seat["lost"][reply["outcome"]] = seat["lost"].get(reply["outcome"], 0) + 1
         if at < seat["at"]:
             return
@@ -60,38 +71,24 @@ class Counts:
             seat["is_out"] = isinstance(reply, dict) and reply.get("no") in OUT_OF_STEP
 
     def forget(self, files: list[Path]) -> None:
-        """Files that are gone are forgotten, and what they said isn't."""
-        there = set(map(str, files))
-        for file in [file for file in self.read if file not in there]:
+        """Files that are gone are forgotten, and what they said isn't. Where all of a folder are gone it may only be
+        away for a while, and what came back would count twice: these stay known."""
+        there, folders = set(map(str, files)), {file.parent for file in files}
+        for file in [file for file in self.read if file not in there and Path(file).parent in folders]:
             del self.read[file]
 
 
-def _new_lines(file: Path, start: int) -> Iterator[tuple[dict[str, Any], int]]:
-    """The whole lines of a file from a byte on, each with the byte behind it. A file that is shorter is another one,
-    and is read from its beginning. No link is followed: others write where journals come to."""
-    with open(opened_plain(file, os.O_RDONLY), "rb") as source:
-        start = start if os.fstat(source.fileno()).st_size >= start else 0
-        source.seek(start)
-        while data := source.readline(LONGEST_LINE):
-            if not data.endswith(b"\n") and len(data) < LONGEST_LINE:
-                return
-            line = json.loads(data)
-            if not isinstance(line, dict) or "at" not in line:
-                raise ValueError("no line of a journal")
-            start += len(data)
-            yield line, start
-
-
 def read_on(counts: Counts, file: Path) -> Optional[BadJournal]:
-    """Reads what is new in a journal, and gives what is wrong with it."""
+    """Reads what is new in a journal, and gives what is wrong with it. No link is followed: others write where journals
+    come to."""
     end = counts.read.setdefault(str(file), 0)
     try:
-        for line, end in _new_lines(file, end):
-            counts.take(line, seat_named(file))
-            counts.read[str(file)] = end
-    except (ValueError, TypeError, AttributeError, RecursionError):
-        told = f"the line behind byte {end} of {file} is no line of a journal"
-        return BadJournal(told, "Look at it in a copy: the rest of that file isn't counted.")
+        for line in lines_of(file, end, follows_links=False):
+            if line.fault:
+                told = f"the line behind byte {end} of {file} is no line of a journal"
+                return BadJournal(told, "Look at it in a copy: the rest of that file isn't counted.")
+            counts.take(line.members, seat_named(file))
+            counts.read[str(file)] = end = line.end
     except (OSError, UnsafeFile) as error:
         return BadJournal(f"{file} can't be read: {error}", "Look whose it is.")
     return None
@@ -112,7 +109,7 @@ def add_journals(samples: Samples, kept: dict[str, Any], folders: list[Path]) ->
 
 
 def _add_seat(samples: Samples, name: str, seat: dict[str, Any]) -> None:
-    for reason in REASONS:
+    for reason in LOST:
         samples.add("wanekupo_lost_chips_total", seat["lost"].get(reason, 0), seat=name, reason=reason)
     samples.add("wanekupo_seat_out_of_step", seat["is_out"], seat=name)
     if seat["asked"]:

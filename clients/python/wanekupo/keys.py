@@ -66,7 +66,8 @@ def _no_key(form: str) -> BadKey:
 
 def _info_of(key: Any) -> bytes:
     forms = library("hazmat.primitives.serialization")
-    return key.public_bytes(forms.Encoding.DER, forms.PublicFormat.SubjectPublicKeyInfo)
+    info: bytes = key.public_bytes(forms.Encoding.DER, forms.PublicFormat.SubjectPublicKeyInfo)
+    return info
 
 
 def _key_of_request(csr: bytes) -> bytes:

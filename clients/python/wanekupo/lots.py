@@ -16,6 +16,7 @@ from wanekupo import gathering
 from wanekupo.errors import NotTheServer, StationError
 from wanekupo.gathering import Reply
 from wanekupo.replies import Listed
+from wanekupo.states import WITH_RECORD
 from wanekupo.station import Station
 
 # The columns of a list, in their order.
@@ -32,9 +33,6 @@ COLUMNS = (
     "map",
     "order",
 )
-
-# The states in which a device may have a record; one that was scrapped before its identity has none.
-WITH_RECORD = ("identified", "shipped", "scrapped")
 
 # How often the list is read where devices get on meanwhile, and how many rows are asked for at a time: two seconds' by
 # nginx's usual shares, so that a list that is cut loses no more.
@@ -133,7 +131,7 @@ def addresses_of(mac: Any, macs: Any) -> Optional[list[str]]:
         return []
     if not isinstance(mac, str) or not CHIP.fullmatch(mac) or type(macs) is not int or not 0 < macs < 256:
         return None
-    return [f"{int(mac, 16) + place:012x}" for place in range(macs)]
+    return [f"{int(mac, 16) + place:012x}" for place in range(macs)] if int(mac, 16) + macs <= 1 << 48 else None
 
 
 def is_row(row: Mapping[str, Any]) -> bool:

@@ -4,6 +4,7 @@ backup. Nothing here asks the server itself, which tells nobody how many connect
 
 from __future__ import annotations
 
+import http.client
 import json
 import os
 import re
@@ -52,7 +53,8 @@ def start_of(pid: int) -> tuple[float, str]:
     """When a process was started, and what no other start of this machine is: the boot, the process, and its ticks."""
     ticks = Path(f"/proc/{pid}/stat").read_text(encoding="utf-8").rpartition(")")[2].split()[19]
     booted = re.search(r"^btime (\d+)$", Path("/proc/stat").read_text(encoding="ascii"), re.MULTILINE)
-    assert booted
+    if not booted:
+        raise StationError("/proc/stat doesn't say when the machine was started", "Look at the kernel's documentation.")
     boot = Path("/proc/sys/kernel/random/boot_id").read_text(encoding="ascii").strip()
     return int(booted[1]) + int(ticks) / os.sysconf("SC_CLK_TCK"), f"{boot} {pid} {ticks}"
 
@@ -114,8 +116,11 @@ def requests_of(url: str, context: Optional[ssl.SSLContext]) -> int:
     """How many requests nginx has had since its start, by the page of its module stub_status."""
     if not url.startswith(("http://", "https://")):
         raise ValueError(f"{url} is no address of a page")
-    with urllib.request.urlopen(url, timeout=LONGEST, context=context) as page:
-        text = page.read(LONGEST_PAGE).decode("ascii", "replace")
+    try:
+        with urllib.request.urlopen(url, timeout=LONGEST, context=context) as page:
+            text = page.read(LONGEST_PAGE).decode("ascii", "replace")
+    except http.client.HTTPException as error:
+        raise StationError(f"what {url} answers is no HTTP", "Look at --status, and at nginx.") from error
     found = re.search(r"^ \d+ \d+ (\d+) $", text, re.MULTILINE)
     if not found:
         raise StationError(f"{url} isn't nginx's page of its counts", "Look at location = /status of its nginx.conf.")
@@ -125,9 +130,9 @@ def requests_of(url: str, context: Optional[ssl.SSLContext]) -> int:
 def requests_since(kept: dict[str, Any], start: str, seen: int) -> int:
     """How many requests nginx has had since the server was started, at the most: of the look in front of the start and
     the one behind it all count. Where nginx was started anew its count begins anew."""
-    before = kept.get("seen", 0)
+    before = int(kept.get("seen", 0))
     more = seen - before if seen >= before else seen
-    counted = kept.get("counted", 0) + more if kept.get("start") == start else more
+    counted = int(kept.get("counted", 0)) + more if kept.get("start") == start else more
     kept.update({"seen": seen, "start": start, "counted": counted})
     return counted
 

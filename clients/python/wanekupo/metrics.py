@@ -53,11 +53,12 @@ class Kept:
         if file and file.exists():
             with open(opened_own(file, os.O_RDONLY), "rb") as source:
                 self.data = json.loads(source.read())
-            if not isinstance(self.data, dict):
+            if not isinstance(self.data, dict) or not all(isinstance(part, dict) for part in self.data.values()):
                 raise ValueError(f"{file} has another form")
 
     def part(self, name: str) -> dict[str, Any]:
-        return self.data.setdefault(name, {})
+        part: dict[str, Any] = self.data.setdefault(name, {})
+        return part
 
     def write(self) -> None:
         if self.file:
@@ -68,7 +69,7 @@ def _kept_of(file: Optional[Path]) -> Kept:
     """What was kept. A file that is damaged is begun anew: the counts of journals begin again with it."""
     try:
         return Kept(file)
-    except ValueError:
+    except (ValueError, RecursionError):
         warn(f"{file} is damaged, and is written anew.")
         kept = Kept(None)
         kept.file = file

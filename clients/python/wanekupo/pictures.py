@@ -6,7 +6,8 @@ from typing import Iterator
 from xml.sax.saxutils import escape
 
 from wanekupo.shifts import Shift, summed
-from wanekupo.yields import STATES, fill, patterns, share
+from wanekupo.states import REPORTED
+from wanekupo.yields import fill, patterns, share
 
 
 def as_svg(shift: Shift) -> str:
@@ -24,7 +25,7 @@ def as_svg(shift: Shift) -> str:
         parts.extend(_bars(row, axis, y + 18, scale))
         parts.append(f'<line x1="{axis:g}" y1="{y + 15}" x2="{axis:g}" y2="{y + 39}" stroke="#000" stroke-width="2"/>')
         parts.append(f'<text x="792" y="{y + 31}" text-anchor="end">{_per_cent(summed(row))}</text>')
-    total = summed({name: sum(row[name] for row in shift.rows.values()) for name in STATES})
+    total = summed({name: sum(row[name] for row in shift.rows.values()) for name in REPORTED})
     counts = ", ".join(f"{count} {name.replace('_', ' ')}" for name, count in total.items())
     parts.append(f'<text x="8" y="{bottom + 18}">all: {counts}</text>')
     parts.append(f'<text x="792" y="{bottom + 18}" text-anchor="end">{_per_cent(total)}</text>')
@@ -33,7 +34,7 @@ def as_svg(shift: Shift) -> str:
 
 
 def _legend() -> Iterator[str]:
-    for place, state in enumerate(STATES):
+    for place, state in enumerate(REPORTED):
         x = 8 + place * 100
         yield f'<rect x="{x}" y="32" width="12" height="12" fill="{fill(state)}" stroke="#333"/>'
         yield f'<text x="{x + 16}" y="43">{state}</text>'
@@ -42,7 +43,7 @@ def _legend() -> Iterator[str]:
 
 
 def _changes(row: dict[str, int]) -> str:
-    return ", ".join(f"{state} {row[state]:+d}" for state in STATES if row[state])
+    return ", ".join(f"{state} {row[state]:+d}" for state in REPORTED if row[state])
 
 
 def _per_cent(sums: dict[str, int]) -> str:
@@ -52,7 +53,7 @@ def _per_cent(sums: dict[str, int]) -> str:
 def _bars(row: dict[str, int], axis: float, y: int, scale: float) -> Iterator[str]:
     """A row's bars, each behind the one before on its side."""
     ends = {1: axis, -1: axis}
-    for state in STATES:
+    for state in REPORTED:
         side, width = (1 if row[state] > 0 else -1), abs(row[state]) * scale
         if width:
             x = ends[1] if side > 0 else ends[-1] - width

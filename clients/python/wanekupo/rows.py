@@ -22,7 +22,10 @@ def csv_of(rows: Iterable[tuple[str, str]]) -> str:
 def rows_of(text: str) -> Rows:
     """The rows of such a text, of any length. A U+FEFF in front and blank lines are passed over."""
     reader = csv.reader(io.StringIO(text.removeprefix("\ufeff")))
-    lines = [(reader.line_num, fields) for fields in reader if fields]
+    try:
+        lines = [(reader.line_num, fields) for fields in reader if fields]
+    except csv.Error as error:
+        raise ValueError(f"these are no comma-separated values: {error}") from error
     if not lines or lines[0][1] != ["serial", "key_sha256"]:
         raise ValueError("the first line isn't serial,key_sha256")
     for number, row in lines:

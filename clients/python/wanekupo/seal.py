@@ -10,7 +10,7 @@ from typing import Optional
 from wanekupo.books import folder, shown, stored
 from wanekupo.books.chain import Chain
 from wanekupo.books.compare import Text
-from wanekupo.books.lines import KEY, text_of
+from wanekupo.books.lines import KEY
 from wanekupo.books.stamp import Service
 from wanekupo.books.store import Store, is_store
 from wanekupo.command_row import Command
@@ -55,12 +55,6 @@ def _service_of(args: argparse.Namespace) -> Optional[Service]:
     return Service(args.tsa or "", Path(args.tsa_ca), Path(args.tsa_chain) if args.tsa_chain else None)
 
 
-def stored_lines(file: Path) -> list[str]:
-    """The lines of a copy of a store."""
-    with Store(file) as store:
-        return stored.lines_of(stored.books_of(store))
-
-
 def _seal(settings: Settings, args: argparse.Namespace) -> int:
     if args.verify:
         return _verify(args)
@@ -74,11 +68,12 @@ def _seal(settings: Settings, args: argparse.Namespace) -> int:
         chain.seals_of(args.customer or PLANT)
         at = moment_text(datetime.now(timezone.utc))
         if args.store:
-            lines = stored_lines(Path(args.store))
+            with Store(Path(args.store)) as store:
+                seal = chain.add(stored.lines_of(stored.Books(store)), at, PLANT, signer, service)
         else:
             with looking_station_of(settings) as station, Progress("devices") as told_of:
-                lines = shown.lines_of(station, args.customer, told_of)
-        seal = chain.add(text_of(lines), at, args.customer or PLANT, signer, service)
+                lines = sorted(shown.lines_of(station, args.customer, told_of))
+            seal = chain.add(lines, at, args.customer, signer, service)
     say(seal.line() + "\n")
     return DONE
 
@@ -88,12 +83,21 @@ def _seal(settings: Settings, args: argparse.Namespace) -> int:
 
 def rows_of(file: Path) -> Text:
     """The rows of a file of a seal, or of a copy of a store."""
-    return Text.of(sorted(stored_lines(file))) if is_store(file) else folder.rows_of(file.read_bytes(), file)
+    if not is_store(file):
+        return folder.rows_of(file.read_bytes(), file)
+    with Store(file) as store:
+        return Text.of(stored.lines_of(stored.Books(store)))
 
 
 def _verify(args: argparse.Namespace) -> int:
     places = [Path(it) for it in args.places]
+    if args.store or args.customer or args.tsa:
+        told = "With --verify what is named is compared alone: leave --store, --customer and --tsa away."
+        raise BadSettings("a word is given that only a seal takes", told)
     if len(places) == 2:
+        if args.minisign or args.cms or args.tsa_ca:
+            told = "Name the folder of the seals, or leave these words away."
+            raise BadSettings("two files of rows have no signature and no stamp that could be held", told)
         return _told(_between(*places))
     if len(places) != 1 or not places[0].is_dir():
         raise BadSettings("nothing is named that can be compared", "Give A B, two files of rows, or a FOLDER of seals.")

@@ -3,6 +3,7 @@
 from __future__ import annotations
 
 import argparse
+import os
 from datetime import datetime, timezone
 from pathlib import Path
 
@@ -42,8 +43,19 @@ def _add_arguments(parser: argparse.ArgumentParser) -> None:
 
 
 def owned(words: list[str]) -> list[Owned]:
-    """The journals of these words, each with its customer."""
-    return [(it.customer, book) for it in map(named, words) for book in books_of([it.path])]
+    """The journals of these words, each with its customer, and each once: also where a folder and a file in it are
+    named."""
+    places: dict[str, list[Path]] = {}
+    for it in map(named, words):
+        places.setdefault(it.customer, []).append(it.path)
+    found = [(customer, book) for customer, paths in places.items() for book in books_of(paths)]
+    whose: dict[str, str] = {}
+    for customer, book in found:
+        for file in (os.path.realpath(it) for it in book.files):
+            if whose.setdefault(file, customer) != customer:
+                told = f"{file} is named as a journal of {customer or 'no customer'}, and of {whose[file] or 'none'}"
+                raise BadSettings(told, "Name it once, with its customer.")
+    return found
 
 
 def _shift(settings: Settings, args: argparse.Namespace) -> int:

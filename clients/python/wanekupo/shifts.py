@@ -14,7 +14,7 @@ from typing import Iterator, Sequence
 from wanekupo.errors import NoReports, NotOneWatch
 from wanekupo.moments import file_of, moment_of, name_of, tested_period, text_of
 from wanekupo.texts import csv_lines, formulas_in, shown
-from wanekupo.watching import STATES
+from wanekupo.states import REPORTED
 from wanekupo.yields import share
 
 # The counts of a report, by customer and order.
@@ -38,11 +38,16 @@ def key_of(row: dict[str, str]) -> tuple[str, str]:
 
 
 def counts_of(row: dict[str, str]) -> dict[str, int]:
-    return {name: int(row[name]) for name in STATES}
+    return {name: int(row[name]) for name in REPORTED}
 
 
 def reports_of(path: Path) -> Iterator[tuple[str, Counts]]:
-    """The reports of a file, by their times. One that a crash cut is left out."""
+    """The counts of the reports of a file, by their times."""
+    return ((at, {key_of(row): counts_of(row) for row in rows}) for at, rows in kept_reports(path))
+
+
+def kept_reports(path: Path) -> Iterator[tuple[str, list[dict[str, str]]]]:
+    """The reports of a file, by their times, each its rows. One that a crash cut is left out."""
     found: dict[str, list[dict[str, str]]] = {}
     whole = path.read_text(encoding="utf-8").rpartition("\n")[0]
     for row in csv.DictReader(io.StringIO(whole)):
@@ -52,7 +57,7 @@ def reports_of(path: Path) -> Iterator[tuple[str, Counts]]:
         raise NotOneWatch(f"{path} has reports of {' and '.join(sorted(names))}, and not those of one watch")
     for at, rows in found.items():
         if int(rows[-1]["rows"]) <= len(rows):
-            yield at, {key_of(row): counts_of(row) for row in _last_of(path, rows)}
+            yield at, _last_of(path, rows)
 
 
 def _last_of(path: Path, rows: list[dict[str, str]]) -> list[dict[str, str]]:
@@ -83,11 +88,11 @@ def between(file: str | os.PathLike[str], start: datetime, end: datetime) -> Shi
     (begin, before), (finish, after) = firsts[-1], lasts[-1]
     if begin == finish:
         raise NoReports(f"{file} has no report between {text_of(start)} and {text_of(end)}, but one of {begin}")
-    nothing = dict.fromkeys(STATES, 0)
+    nothing = dict.fromkeys(REPORTED, 0)
     rows = {}
     for key, counts in sorted(after.items()):
         old = before.get(key, nothing)
-        rows[key] = {name: counts[name] - old[name] for name in STATES}
+        rows[key] = {name: counts[name] - old[name] for name in REPORTED}
     gone = [*(before.keys() - after.keys()), *(key for key, row in rows.items() if min(summed(row).values()) < 0)]
     if gone:
         told = f"has less of {' '.join(min(gone)).strip()} at {finish} than at {begin}"
@@ -119,12 +124,12 @@ def table(shift: Shift) -> list[list[str]]:
     """The rows of the yield, with their head and the sum over all orders."""
     rows = [*shift.rows.items()]
     if rows:
-        total = {name: sum(row[name] for row in shift.rows.values()) for name in STATES}
+        total = {name: sum(row[name] for row in shift.rows.values()) for name in REPORTED}
         rows.append((("all", ""), total))
-    lines = [["customer", "order", "begun", "shipped", "given_up", "yield", *(f"d_{name}" for name in STATES)]]
+    lines = [["customer", "order", "begun", "shipped", "given_up", "yield", *(f"d_{name}" for name in REPORTED)]]
     for (customer, order), row in rows:
         sums = summed(row)
-        changed = [f"{row[name]:+d}" if row[name] else "0" for name in STATES]
+        changed = [f"{row[name]:+d}" if row[name] else "0" for name in REPORTED]
         lines.append([customer, order, *(str(it) for it in sums.values()), share(sums), *changed])
     return lines
 

@@ -33,7 +33,7 @@ def _own_id(file: Path) -> str:
     """The number by which these journals are known, made where there is none."""
     tested_folder(file.parent)
     try:
-        with open(opened_own(file, os.O_RDONLY), encoding="ascii") as source:
+        with open(opened_own(file, os.O_RDONLY), encoding="ascii", errors="replace") as source:
             found = source.read().strip()
     except FileNotFoundError:
         found = secrets.token_hex(8)

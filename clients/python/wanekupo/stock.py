@@ -10,13 +10,15 @@ import tomllib
 from pathlib import Path
 from typing import Any, Mapping, Sequence
 
+from wanekupo import gathering
 from wanekupo.errors import StationError
 from wanekupo.exposition import Samples
 from wanekupo.station import Station
-from wanekupo.watching import STATES, report_rows
+from wanekupo.states import FINISHED, REPORTED
+from wanekupo.watching import report_rows
 
 # In these states a device is neither at its end nor lost.
-UNDER_WAY = ("registered", "planned", "settled", "identified")
+UNDER_WAY = tuple(state for state in REPORTED if state not in FINISHED)
 
 # How many orders are asked for in one run: a store may have 4,096 of each customer, and a line waits behind each.
 MOST_ASKED = 200
@@ -33,7 +35,7 @@ def table_of(report: str) -> list[dict[str, Any]]:
 
 def add_customer(samples: Samples, customer: str, rows: Sequence[Mapping[str, Any]], orders: int) -> None:
     """A customer's devices and serial numbers, of rows whose counts are added up."""
-    for state in STATES:
+    for state in REPORTED:
         samples.add("wanekupo_devices", sum(row[state] for row in rows), customer=customer, state=state)
     given_up = sum(row["quarantined"] + row["scrapped"] for row in rows)
     samples.add("wanekupo_given_up_devices_total", given_up, customer=customer)
@@ -48,7 +50,7 @@ def add_orders(samples: Samples, customer: str, rows: Sequence[Mapping[str, Any]
     is_open.sort(key=lambda row: not any(row[state] for state in UNDER_WAY))
     for row in is_open[:most]:
         names = {"customer": customer, "order": row["order"]}
-        for state in STATES:
+        for state in REPORTED:
             samples.add("wanekupo_order_devices", row[state], state=state, **names)
         samples.add("wanekupo_order_quantity", row["quantity"], **names)
         samples.add("wanekupo_order_serials_left", row["serials_left"], **names)
@@ -81,7 +83,7 @@ def learn_blocks(station: Station, names: Sequence[str], blocks: dict[str, Any])
     """Asks for the orders whose blocks aren't known yet; without addresses it is an empty one."""
     unknown = [name for name in names if name not in blocks]
     for name in unknown[:MOST_ASKED]:
-        order = station.get("/v1/order", name=name)
+        order = gathering.order(station, name)
         count = int(order["macs"]) * int(order["quantity"])
         blocks[name] = [int(order["mac"], 16), count] if order["mac"] and count else []
     if len(unknown) > MOST_ASKED:

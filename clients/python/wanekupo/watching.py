@@ -18,7 +18,7 @@ from wanekupo.errors import NotOneWatch, StationError
 from wanekupo.files import fcntl, opened_plain, synced_folder
 from wanekupo.moments import file_of, text_of
 from wanekupo.texts import csv_lines, csv_rows, formulas_in, shown
-from wanekupo.yields import STATES
+from wanekupo.states import REPORTED
 
 # What stands before a report's own columns: when it was asked for, how many rows it has, and whose it is.
 OWN = ["time", "rows", "customer"]
@@ -27,8 +27,8 @@ OWN = ["time", "rows", "customer"]
 def report_rows(report: str) -> list[list[str]]:
     """The rows of a report, its head first. What has other counts than whole numbers is none."""
     names, *rows = csv_rows(report) or [[]]
-    counts = [place for place, name in enumerate(names) if name in STATES]
-    is_one = set(STATES) <= set(names) and all(len(row) == len(names) for row in rows)
+    counts = [place for place, name in enumerate(names) if name in REPORTED]
+    is_one = set(REPORTED) <= set(names) and all(len(row) == len(names) for row in rows)
     if not is_one or not all(re.fullmatch("[0-9]+", row[place]) for row in rows for place in counts):
         raise ValueError(f"this is no report: {report[:60]!r}")
     return [names, *rows]

@@ -37,7 +37,7 @@ class Look:
     lines: str
 
 
-# The states of a report in the order of a device's life. `planned` has those that await a batch.
+# The states of a report in the order of a device's life (`wanekupo.states.REPORTED`).
 LOOKS = (
     Look("registered", "#e4e4e4", "#e4e4e4", ""),
     Look("planned", "#f2c14e", "#1a1a1a", "M1 2h2M5 6h2"),
@@ -47,11 +47,6 @@ LOOKS = (
     Look("quarantined", "#c7361b", "#ffffff", "M-2 2L2 -2M0 8L8 0M6 10L10 6"),
     Look("scrapped", "#404040", "#ffffff", "M0 0L8 8M0 8L8 0"),
 )
-STATES = [look.state for look in LOOKS]
-
-# The state of a report that has those which a device's own page names otherwise.
-PLANNED = {"awaiting1": "planned", "awaiting2": "planned"}
-
 
 def patterns() -> Iterator[str]:
     """The tiles of all states for an SVG, by the names that `fill` refers to."""

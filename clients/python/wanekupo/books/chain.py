@@ -1,28 +1,33 @@
 """A chain of seals in a folder: today's digest is over yesterday's (docs/reference/files.md#seals).
 
 Each seal has a file of rows, a line of its own that is signed, and the reply of a time-stamp service where there is
-one. The file `chain` has all lines, and is replaced whole, last of all: what a crash leaves beside it is written anew.
+one. The file `chain` has all lines, and is replaced whole, last of all. What a crash leaves beside it is set aside by
+the next seal.
 """
 
 from __future__ import annotations
 
 import contextlib
 import hashlib
+import itertools
 import os
 import re
 from dataclasses import dataclass
 from pathlib import Path
-from typing import Iterator, Optional
+from typing import Iterable, Iterator, Optional
 
 from wanekupo.books.stamp import Service
 from wanekupo.errors import StationError
-from wanekupo.files import PRIVATE, locked, opened_lock, replace_bytes, tested_folder
+from wanekupo.files import PRIVATE, locked, opened_lock, replace_bytes, replaced, synced_folder, tested_folder
 from wanekupo.signing import Signer
 
 # What the first seal has in the place of the one before it.
 NONE = 64 * "0"
 LINE = re.compile(r"(\d{6,}) (\S{20}) (\S{1,64}) (\d+) ([0-9a-f]{64}) ([0-9a-f]{64})")
 READABLE = 0o644
+
+# How a folder is named, behind a seal's number, that has the files of one that the chain doesn't have.
+ASIDE = "-aside-"
 
 
 class BadChain(StationError):
@@ -44,9 +49,8 @@ class Seal:
         return f"{self.number:06} {self.at} {self.whose} {self.rows} {self.text} {self.seal}"
 
 
-def sealed(last: str, number: int, at: str, whose: str, rows: int, text: bytes) -> Seal:
-    """The seal over the one before and a text."""
-    digest = hashlib.sha256(text).hexdigest()
+def sealed(last: str, number: int, at: str, whose: str, rows: int, digest: str) -> Seal:
+    """The seal over the one before and rows with this digest."""
     head = f"{number:06} {at} {whose} {rows} {digest}"
     return Seal(number, at, whose, rows, digest, hashlib.sha256(f"{last} {head}\n".encode()).hexdigest())
 
@@ -118,26 +122,56 @@ class Chain:
         finally:
             os.close(lock)
 
-    def add(self, text: bytes, at: str, whose: str, signer: Optional[Signer], service: Optional[Service]) -> Seal:
-        """Adds a seal over a text. Until the chain has it nothing was done."""
+    def add(
+        self, rows: Iterable[str], at: str, whose: str, signer: Optional[Signer], service: Optional[Service]
+    ) -> Seal:
+        """Adds a seal over rows, which come in the order of their bytes. Until the chain has it nothing was done."""
         before = self.seals_of(whose)
-        last = before[-1].seal if before else NONE
-        seal = sealed(last, len(before) + 1, at, whose, text.count(b"\n"), text)
+        last, number = before[-1].seal if before else NONE, len(before) + 1
+        self._set_aside(number)
         try:
-            self._write(seal, text, signer, service)
+            count, digest = self._write_rows(number, rows)
+            seal = sealed(last, number, at, whose, count, digest)
+            replace_bytes(self.seal_file(number), f"{seal.line()}\n".encode(), READABLE)
+            if signer:
+                signer.sign(self.seal_file(number))
+            if service:
+                replace_bytes(self.stamp_file(number), service.stamped(seal.seal), READABLE)
         except BaseException:
-            for file in self.folder.glob(f"{seal.number:06}.*"):
+            for file in self._files_of(number):
                 file.unlink()
             raise
         lines = "".join(f"{it.line()}\n" for it in [*before, seal])
         replace_bytes(self.folder / "chain", lines.encode(), READABLE)
         return seal
 
-    def _write(self, seal: Seal, text: bytes, signer: Optional[Signer], service: Optional[Service]) -> None:
-        """Writes a seal's own files."""
-        replace_bytes(self.rows_file(seal.number), text, PRIVATE)
-        replace_bytes(self.seal_file(seal.number), f"{seal.line()}\n".encode(), READABLE)
-        if signer:
-            signer.sign(self.seal_file(seal.number))
-        if service:
-            replace_bytes(self.stamp_file(seal.number), service.stamped(seal.seal), READABLE)
+    def _files_of(self, number: int) -> list[Path]:
+        return sorted(self.folder.glob(f"{number:06}.*"))
+
+    def _set_aside(self, number: int) -> None:
+        """Keeps files of a seal that the chain doesn't have, in a folder of their own. A seal that was killed leaves
+        such files; but where the chain was cut they are what shows it. A file that isn't whole yet shows nothing."""
+        files = self._files_of(number)
+        for file in files:
+            if file.suffix == ".new":
+                file.unlink()
+        files = [file for file in files if file.suffix != ".new"]
+        if files:
+            folders = (self.folder / f"{number:06}{ASIDE}{place}" for place in itertools.count(1))
+            folder = next(it for it in folders if not it.exists())
+            folder.mkdir(mode=0o700)
+            for file in files:
+                file.rename(folder / file.name)
+            synced_folder(folder)
+            synced_folder(self.folder)
+
+    def _write_rows(self, number: int, rows: Iterable[str]) -> tuple[int, str]:
+        """Writes the rows one after another; how many there are, and their digest."""
+        count, digest = 0, hashlib.sha256()
+        with replaced(self.rows_file(number), PRIVATE) as out:
+            for row in rows:
+                data = f"{row}\n".encode("ascii")
+                digest.update(data)
+                out.write(data)
+                count += 1
+        return count, digest.hexdigest()

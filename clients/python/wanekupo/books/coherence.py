@@ -4,66 +4,45 @@ from __future__ import annotations
 
 from typing import Any, Iterator, Sequence
 
+from wanekupo.states import LOST, NONE, after, left_by
+
 Row = dict[str, Any]
-
-# The states that a device may have behind its last entry, by the entry's event, or of a read-back by its outcome.
-BEHIND = {
-    "registered": ("registered",),
-    "planned": ("awaiting1", "awaiting2", "settled"),
-    "match": ("awaiting2", "settled"),
-    "short": ("awaiting1", "awaiting2"),
-    "lost": ("quarantined",),
-    "stray": ("quarantined",),
-    "key": ("quarantined",),
-    "identified": ("identified",),
-    "shipped": ("shipped",),
-    "scrapped": ("scrapped",),
-}
-
-# The events that a ledger may begin with, and those that may follow each.
-NEXT = {
-    "": ("registered",),
-    "registered": ("planned", "scrapped"),
-    "planned": ("read", "planned", "identified", "scrapped"),
-    "read": ("read", "planned", "identified", "scrapped"),
-    "identified": ("shipped", "scrapped"),
-    "shipped": (),
-    "scrapped": (),
-}
-
 
 def faults_of(device: Row, ledger: Sequence[Row], records: Sequence[Row]) -> Iterator[str]:
     """What contradicts what, in words."""
-    entries = sorted(ledger, key=lambda it: it["n"])
-    numbers = [it["n"] for it in entries]
-    if numbers != list(range(1, len(numbers) + 1)):
-        gone = sorted(set(range(1, max(numbers, default=1) + 1)) - set(numbers))
-        yield f"its ledger lacks the entry {', '.join(map(str, gone))}"
-    yield from _order_faults(entries)
-    yield from _state_faults(device, entries)
+    entries = sorted(ledger, key=lambda it: int(it["n"]))
+    yield from _number_faults([it["n"] for it in entries])
+    yield from _step_faults(device, entries)
     yield from _burnt_faults(device, entries)
     yield from _record_faults(device, entries, records)
 
 
-def _order_faults(entries: Sequence[Row]) -> Iterator[str]:
-    """Whether each step may follow the one before."""
-    before = ""
+def _number_faults(numbers: Sequence[int]) -> Iterator[str]:
+    """Whether the entries are numbered from 1 on, each once."""
+    gaps = []
+    for before, number in zip([0, *numbers], numbers or [2]):
+        if number > before + 1:
+            gaps.append(str(before + 1) if number == before + 2 else f"{before + 1} to {number - 1}")
+        elif number <= before:
+            yield f"its ledger has an entry {number}, where each is numbered once, from 1 on"
+    if gaps:
+        yield f"its ledger lacks the entry {', '.join(gaps)}"
+
+
+def _step_faults(device: Row, entries: Sequence[Row]) -> Iterator[str]:
+    """Whether each step may follow the ones before, and the device is in a state that the last one may leave."""
+    states, before, said = frozenset((NONE,)), "", ""
     for it in entries:
-        if it["event"] not in NEXT.get(before, ()):
+        said = it["note"] if it["event"] == "read" else it["event"]
+        found = after(states, said)
+        if not found:
             place = f"behind {before}" if before else "first"
             yield f"its ledger has {it['event']} {place}, at the entry {it['n']}"
-        before = it["event"]
-
-
-def _state_faults(device: Row, entries: Sequence[Row]) -> Iterator[str]:
-    last = entries[-1] if entries else {"event": "", "note": ""}
-    said = last["note"] if last["event"] == "read" else last["event"]
-    if device["state"] not in BEHIND.get(said, ()):
+        states, before = found or left_by(said), it["event"]
+    if device["state"] not in states:
         yield f"its state is {device['state']}, and the last entry of its ledger {said or 'missing'}"
-    outcomes = ("lost", "stray", "key")
-    reason = device["reason"]
-    if device["state"] == "quarantined" and (reason not in outcomes or reason != last["note"]):
-        yield f"its reason is {reason}, and its ledger says {last['note']}"
+    if device["state"] == "quarantined" and (device["reason"] not in LOST or device["reason"] != said):
+        yield f"its reason is {device['reason']}, and its ledger says {said}"
 
 
 def _burnt_faults(device: Row, entries: Sequence[Row]) -> Iterator[str]:
@@ -77,9 +56,9 @@ def _burnt_faults(device: Row, entries: Sequence[Row]) -> Iterator[str]:
         keys.update(entry["keys"])
     known = {(word["block"], word["word"]): int(word["mask"], 16) for word in device["bits"]}
     for block, word in sorted(bits.keys() | known.keys()):
-        ledger, own = bits.get((block, word), 0), known.get((block, word), 0)
-        if ledger != own:
-            yield f"word {word} of block {block} is {own:08x}, and by its ledger {ledger:08x}"
+        by_ledger, mask = bits.get((block, word), 0), known.get((block, word), 0)
+        if by_ledger != mask:
+            yield f"word {word} of block {block} is {mask:08x}, and by its ledger {by_ledger:08x}"
     for name in sorted(keys.keys() | device["keys"].keys()):
         own, said = device["keys"].get(name, "none"), keys.get(name, "none")
         if own != said:

@@ -12,20 +12,10 @@ from typing import Any, Iterable, Iterator, Optional
 
 from wanekupo.books.coherence import faults_of
 from wanekupo.books.lines import BadRow, parts_of
+from wanekupo.states import LATER
 
 Members = dict[str, Any]
 Key = tuple[str, tuple[str, ...]]
-
-# What a row may be later, by what it was: the steps of docs/reference/api.md#devices, one behind the other.
-BURNING = ("awaiting1", "awaiting2", "settled")
-LATER = {
-    "registered": ("registered", *BURNING, "identified", "shipped", "quarantined", "scrapped"),
-    **{state: (*BURNING, "identified", "shipped", "quarantined", "scrapped") for state in BURNING},
-    "identified": ("identified", "shipped", "scrapped"),
-    "quarantined": ("quarantined", "scrapped"),
-    "shipped": ("shipped",),
-    "scrapped": ("scrapped",),
-}
 
 # How a row is named in a sentence, by its kind and the parts of its key.
 NAMES = {

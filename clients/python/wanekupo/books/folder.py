@@ -13,7 +13,7 @@ from dataclasses import dataclass, field
 from pathlib import Path
 from typing import Iterator, Optional
 
-from wanekupo.books.chain import BadChain, Chain, Seal
+from wanekupo.books.chain import ASIDE, BadChain, Chain, Seal
 from wanekupo.books.compare import Text, contradictions, differences
 from wanekupo.books.stamp import Service, verified
 from wanekupo.errors import BadSettings
@@ -26,6 +26,7 @@ COMPRESSED = ".gz"
 # The files of a chain, and those of a seal behind its number.
 OF_CHAIN = ("chain", "chain.lock")
 OF_SEAL = re.compile(rf"(\d{{6,}})\.(rows|rows\{COMPRESSED}|seal|seal\{MINISIG}|seal\{CMS}|tsr)(\.new)?")
+SET_ASIDE = re.compile(rf"(\d{{6,}}){ASIDE}\d+")
 
 
 @dataclass(frozen=True)
@@ -62,8 +63,9 @@ def _counted(number: int, what: str) -> str:
 def rows_of(data: bytes, name: Path) -> Text:
     """The rows of a file of a seal, which may be compressed. A file in which no line is a row is another one."""
     text = _text_of(data)
-    if text.bad and not text.rows:
-        raise BadSettings(f"{name} is no file of rows", "Name NUMBER.rows of a seal, or the copy of a store.")
+    if not text.rows:
+        told = "is no file of rows" if text.bad else "has no row, so nothing can be compared"
+        raise BadSettings(f"{name} {told}", "Name NUMBER.rows of a seal, or the copy of a store.")
     return text
 
 
@@ -125,10 +127,11 @@ def _test_names(chain: Chain, names: list[str], made: Tested) -> None:
     others = []
     for name in names:
         its = OF_SEAL.fullmatch(name)
-        if its and not 0 < int(its[1]) <= made.seals:
-            told = "the chain was cut, or a seal was stopped, which the next one replaces"
+        number = int(its[1]) if its and its[1] == f"{int(its[1]):06}" else 0
+        if SET_ASIDE.fullmatch(name) or number > made.seals:
+            told = "the chain was cut, or a seal was stopped: look, and take it out of this folder"
             made.found.append(f"{chain.folder / name} is of a seal that the chain doesn't have: {told}.")
-        elif (not its or its[3]) and name not in OF_CHAIN:
+        elif (not number or its and its[3]) and name not in OF_CHAIN:
             others.append(name)
     if others:
         made.notes.append(f"Not tested, as no seal has such files: {', '.join(others)}.")

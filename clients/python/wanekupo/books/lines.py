@@ -77,11 +77,6 @@ def entry_line(customer: str, chip: str, members: Mapping[str, Any]) -> str:
     return line("entry", (customer, chip, f"{number:0{DIGITS}}"), members)
 
 
-def text_of(lines: list[str]) -> bytes:
-    """The text of these lines, in the order of their bytes."""
-    return "".join(f"{it}\n" for it in sorted(lines)).encode("ascii")
-
-
 # Reading.
 
 

@@ -2,7 +2,7 @@
 
 from __future__ import annotations
 
-from typing import Any, Iterator
+from typing import Any, Iterator, Optional
 
 from wanekupo.books.stored import Books, serial_of
 
@@ -18,13 +18,14 @@ def twice(store: Books) -> Iterator[Row]:
 
 
 def _numbers_twice(store: Books) -> Iterator[Row]:
-    for member, said in (("serial", "serial number"), ("key_sha256", "key")):
-        first: dict[tuple[str, str], dict[str, Any]] = {}
-        for customer, record in store.records:
-            other = first.setdefault((record["issuer"], record[member]), record)
-            if other is not record:
-                told = f"the {said} {record[member]} of {record['issuer']} stands twice: also with {_named(other)}"
-                yield "twice", "", customer, record["chip"] or "", told
+    for column, member, said in (("serial", "serial", "serial number"), ("key", "key_sha256", "key")):
+        first: dict[str, Any] = {}
+        for customer, record in store.twice(column):
+            if (first.get("issuer"), first.get(member)) != (record["issuer"], record[member]):
+                first = record
+                continue
+            told = f"the {said} {record[member]} of {record['issuer']} stands twice: also with {_named(first)}"
+            yield "twice", "", customer, record["chip"] or "", told
 
 
 def _named(record: dict[str, Any]) -> str:
@@ -33,42 +34,42 @@ def _named(record: dict[str, Any]) -> str:
 
 def _addresses_twice(store: Books) -> Iterator[Row]:
     """Addresses of two records. Each has as many from its own on as its order has for a number."""
-    spans = []
-    for customer, record in store.records:
-        if record["mac"]:
-            device = store.devices.get((customer, record["chip"]))
-            order = store.orders.get((customer, device["order"])) if device else None
-            first = int(record["mac"], 16)
-            spans.append((first, first + max(1, order["macs"] if order else 1), customer, record))
-    spans.sort(key=lambda it: it[:2])
-    for (_, end, _, before), (start, _, customer, record) in zip(spans, spans[1:]):
-        if start < end:
+    last, before = 0, dict[str, Any]()
+    for customer, record in store.addressed():
+        order = store.order_of(customer, record["chip"])
+        start = int(record["mac"], 16)
+        if start < last:
             told = f"the address {start:012x} stands twice: also with {_named(before)}"
             yield "twice", "", customer, record["chip"] or "", told
+        end = start + max(1, order["macs"] if order else 1)
+        if end > last:
+            last, before = end, record
 
 
 def _misplaced(store: Books) -> Iterator[Row]:
     """Records whose serial number isn't of their device's order, or whose address isn't that of the number."""
-    for customer, record in store.records:
-        device = store.devices.get((customer, record["chip"])) if record["chip"] else None
-        order = store.orders.get((customer, device["order"])) if device else None
+    for customer, record in store.records("WHERE g.chip IS NOT NULL"):
+        order = store.order_of(customer, record["chip"])
         if order is None:
             continue
-        place = _place_of(order, record["serial"])
-        if place is None or record["issuer"] != order["issuer"]:
-            told = f"the serial number {record['serial']} of {record['issuer']} isn't of its order {order['name']}"
-            yield "record", "", customer, record["chip"], told
-            continue
-        mac = f"{int(order['mac'], 16) + place * order['macs']:012x}" if order["mac"] else None
-        if record["mac"] != mac:
-            told = f"the record of {record['serial']} has the address {record['mac']}, and its order {mac}"
-            yield "record", "", customer, record["chip"], told
-        if record["not_before"] != order["not_before"]:
-            told = f"the record of {record['serial']} begins at {record['not_before']}, its order {order['not_before']}"
+        for told in _place_faults(record, order):
             yield "record", "", customer, record["chip"], told
 
 
-def _place_of(order: dict[str, Any], serial: str) -> Any:
+def _place_faults(record: dict[str, Any], order: dict[str, Any]) -> Iterator[str]:
+    """What of a record isn't as its order has it."""
+    place = _place_of(order, record["serial"])
+    if place is None or record["issuer"] != order["issuer"]:
+        yield f"the serial number {record['serial']} of {record['issuer']} isn't of its order {order['name']}"
+        return
+    mac = f"{int(order['mac'], 16) + place * order['macs']:012x}" if order["mac"] else None
+    if record["mac"] != mac:
+        yield f"the record of {record['serial']} has the address {record['mac']}, and its order {mac}"
+    if record["not_before"] != order["not_before"]:
+        yield f"the record of {record['serial']} begins at {record['not_before']}, its order {order['not_before']}"
+
+
+def _place_of(order: dict[str, Any], serial: str) -> Optional[int]:
     """Which number of an order a serial number is, from 0 on."""
     digits = serial.removeprefix(order["prefix"])
     if not digits.isdecimal():

@@ -3,7 +3,7 @@
 from __future__ import annotations
 
 import hashlib
-from typing import Any, Callable, Iterable, Iterator
+from typing import Callable, Iterable, Iterator
 
 from wanekupo.books.matching import Seated
 from wanekupo.books.shift import Period
@@ -13,34 +13,24 @@ from wanekupo.rows import rows_of
 
 # The kind, the time, the customer, the seat, the chip, and what it is in words.
 Row = tuple[str, str, str, str, str, str]
-Judge = Callable[[Seated, Step, "Index"], Iterator[tuple[str, str]]]
+Judge = Callable[[Seated, Step, Books], Iterator[tuple[str, str]]]
 
-RECORD = ("chip", "issuer", "serial", "key_sha256", "mac", "not_before")
-
-
-class Index:
-    """The store's rows by what lines name."""
-
-    def __init__(self, store: Books):
-        self.store = store
-        self.records = {(record["issuer"], record["serial"]): record for _, record in store.records}
-        self.maps = {(customer, digest): text_sha256 for customer, digest, text_sha256 in store.maps}
+RECORD = ("chip", "issuer", "serial", "key_sha256", "mac", "not_after", "not_before")
 
 
 def papers(journals: Iterable[Seated], store: Books, period: Period) -> Iterator[Row]:
     """Each accepted line of the period whose row of the store isn't there, or says something else."""
-    index = Index(store)
     for it in journals:
         for step in it.book.steps:
             judge = JUDGES.get(step.path)
             if judge and step.is_done() and period.has(step.at) and it.seat in store.seats:
-                for kind, told in judge(it, step, index):
+                for kind, told in judge(it, step, store):
                     yield kind, step.at, it.customer, it.seat, step.chip, f"{told} ({step.place()})"
 
 
-def _identity(_: Seated, step: Step, index: Index) -> Iterator[tuple[str, str]]:
+def _identity(_: Seated, step: Step, store: Books) -> Iterator[tuple[str, str]]:
     reply = step.reply
-    record = index.records.get((str(reply.get("issuer")), str(reply.get("serial"))))
+    record = store.record(str(reply.get("issuer")), str(reply.get("serial")))
     named = f"the record of {reply.get('serial')} of {reply.get('issuer')}"
     if record is None:
         yield "record", f"{named} isn't in the store"
@@ -57,8 +47,8 @@ def _identity(_: Seated, step: Step, index: Index) -> Iterator[tuple[str, str]]:
         yield "record", f"{named}: its key isn't the one that the journal has"
 
 
-def _registration(it: Seated, step: Step, index: Index) -> Iterator[tuple[str, str]]:
-    device = index.store.devices.get((it.customer, step.chip))
+def _registration(it: Seated, step: Step, store: Books) -> Iterator[tuple[str, str]]:
+    device = store.device(it.customer, step.chip)
     if device is None:
         yield "device", "the device isn't in the store"
         return
@@ -68,9 +58,9 @@ def _registration(it: Seated, step: Step, index: Index) -> Iterator[tuple[str, s
             yield "device", f"{name} is {device[name]} in the store, and {asked} in the journal"
 
 
-def _order(it: Seated, step: Step, index: Index) -> Iterator[tuple[str, str]]:
+def _order(it: Seated, step: Step, store: Books) -> Iterator[tuple[str, str]]:
     name = str(step.reply.get("name"))
-    order = index.store.orders.get((it.customer, name))
+    order = store.orders.get((it.customer, name))
     if order is None:
         yield "order", f"the order {name} isn't in the store"
         return
@@ -79,21 +69,22 @@ def _order(it: Seated, step: Step, index: Index) -> Iterator[tuple[str, str]]:
             yield "order", f"the order {name}: {member} is {order[member]} in the store, and {value} in the journal"
 
 
-def _map(it: Seated, step: Step, index: Index) -> Iterator[tuple[str, str]]:
+def _map(it: Seated, step: Step, store: Books) -> Iterator[tuple[str, str]]:
     digest = hashlib.sha256(str(step.asked.get("text", "")).encode("utf-8", "replace")).hexdigest()
-    if index.maps.get((it.customer, digest)) != digest:
+    if (it.customer, digest, digest) not in store.maps:
         yield "map", f"the map {digest} isn't in the store as it was imported"
 
 
-def _import(_: Seated, step: Step, index: Index) -> Iterator[tuple[str, str]]:
+def _import(_: Seated, step: Step, store: Books) -> Iterator[tuple[str, str]]:
     issuer = str(step.asked.get("issuer"))
     try:
         rows = rows_of(str(step.asked.get("csv", "")))
-    except ValueError:
-        rows = []
+    except ValueError as error:
+        yield "import", f"what was imported for {issuer} can't be read: {error}"
+        return
     for serial, digest in rows:
-        record: dict[str, Any] = index.records.get((issuer, serial), {})
-        if record.get("key_sha256") != digest.lower():
+        record = store.record(issuer, serial)
+        if record is None or record["key_sha256"] != digest.lower():
             yield "import", f"the imported serial number {serial} of {issuer} isn't in the store with its key"
 
 

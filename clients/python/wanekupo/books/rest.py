@@ -5,7 +5,6 @@ from __future__ import annotations
 import re
 from dataclasses import dataclass, replace
 from datetime import timedelta
-from pathlib import Path
 from typing import Iterable, Optional
 
 from wanekupo.books.shift import Counts, Key, Shift
@@ -13,7 +12,7 @@ from wanekupo.books.steps import named
 from wanekupo.config import Settings, looking_station_of
 from wanekupo.errors import NoReports
 from wanekupo.moments import file_of, moment_of, name_of, text_of
-from wanekupo.texts import csv_rows
+from wanekupo.shifts import kept_reports, key_of
 
 # How many days before a moment a kept report is looked for.
 DAYS = 8
@@ -40,24 +39,15 @@ def kept(files: Iterable[str], moment: str) -> dict[Key, int]:
 
 def _last_of(file: str, moment: str) -> dict[Key, int]:
     for days in range(DAYS):
-        day = text_of(moment_of(moment) - timedelta(days=days))[:10]
-        path = file_of(name_of(file), day)
-        rows = [row for row in _rows_of(path) if row["time"] <= moment] if path.exists() else []
-        if rows:
-            last = max(row["time"] for row in rows)
-            return {(row["customer"], row["order"]): int(row["serials_left"]) for row in rows if row["time"] == last}
+        path = file_of(name_of(file), text_of(moment_of(moment) - timedelta(days=days))[:10])
+        reports = kept_reports(path) if path.exists() else ()
+        found = {at: rows for at, rows in reports if at <= moment and any("order" in row for row in rows)}
+        if found:
+            rows = (row for row in found[max(found)] if re.fullmatch("[0-9]+", row.get("serials_left", "")))
+            return {key_of(row): int(row["serials_left"]) for row in rows}
     told = "Look at the file's name: it is the one that watch was given, of a customer and not of the site."
     happened = f"{file_of(file, 'DAY')} has no report by orders at or before {moment}, or in the week before"
     raise NoReports(happened, told)
-
-
-def _rows_of(path: Path) -> list[dict[str, str]]:
-    """The rows of a kept file that count an order. A last one that was cut is left out."""
-    head, *rows = csv_rows(path.read_text(encoding="utf-8").rpartition("\n")[0]) or [[]]
-    if not {"time", "customer", "order", "serials_left"} <= set(head):
-        return []
-    found = (dict(zip(head, row)) for row in rows if len(row) == len(head))
-    return [row for row in found if re.fullmatch("[0-9]+", row["serials_left"])]
 
 
 @dataclass(frozen=True)

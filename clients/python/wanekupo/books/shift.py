@@ -7,19 +7,16 @@ chip is counted by customer and name. `wanekupo.yields` says what the yield is.
 from __future__ import annotations
 
 import statistics
-from collections import Counter
+from collections import Counter, defaultdict
 from dataclasses import dataclass, field
 from datetime import datetime
 from typing import Iterable, Optional
 
-from wanekupo.books.steps import Book, Step
+from wanekupo.books.steps import SET_BACK, Book, Step
 from wanekupo.moments import moment_of, text_of
-from wanekupo.yields import PLANNED
+from wanekupo.states import FINISHED, reported
 
 Key = tuple[str, str]
-
-# The states in which nothing is to be done with a chip but to scrap it.
-FINISHED = ("shipped", "quarantined", "scrapped")
 
 
 @dataclass(frozen=True)
@@ -46,18 +43,19 @@ def period_of(start: datetime, end: datetime) -> Period:
 
 @dataclass(frozen=True)
 class Done:
-    """A step of a chip that was accepted, with the station that did it."""
+    """A step of a chip that was accepted, with the station that did it. `place` is where it stands among those of other
+    stations: its time, or where its station's clock was set back a little that of a step before."""
 
     at: str
     station: Key
     step: Step
+    place: str
 
     def state(self) -> str:
         """The state that it left the device in, as a report counts it."""
         if self.step.event == "identified":
             return "identified"
-        state = str(self.step.reply.get("state", ""))
-        return PLANNED.get(state, state)
+        return reported(str(self.step.reply.get("state", "")))
 
 
 @dataclass
@@ -187,29 +185,35 @@ Owned = tuple[str, Book]
 
 
 def chips_of(books: Iterable[Owned]) -> dict[Key, Chip]:
-    """The chips of journals, each with its accepted steps in the order of their times."""
+    """The chips of journals, each with its accepted steps in the order of their times. Those of a journal stay in their
+    order, also where its station's clock was set back a little."""
     found: dict[Key, Chip] = {}
     for customer, book in books:
-        station = customer, book.name()
+        station, last = (customer, book.name()), ""
         for step in book.steps:
             if step.event and step.is_done():
+                is_set_back = step.answered < last and seconds_between(step.answered, last) <= SET_BACK
+                last = last if is_set_back else step.answered
                 chip = found.setdefault((customer, step.chip), Chip(step.chip, customer))
-                chip.done.append(Done(step.answered, station, step))
+                chip.done.append(Done(step.answered, station, step, last))
     for chip in found.values():
-        chip.done.sort(key=lambda it: it.at)
+        chip.done.sort(key=lambda it: it.place)
     return found
 
 
 def shift_of(books: Iterable[Owned], period: Period) -> Shift:
     """What the journals say of a period."""
     owned = list(books)
-    shift = Shift(period)
+    shift, stations = Shift(period), defaultdict[Key, list[Book]](list)
     for customer, book in owned:
-        line = shift.stations.setdefault((customer, book.name()), Line())
-        line.stand = max(line.stand, _longest_stand(book, period))
-        shift.stopped += _stops(customer, book, period)
-        names = (it.operator for it in book.steps if it.operator and period.has(it.answered or it.at))
-        line.operators += [it for it in dict.fromkeys(names) if it not in line.operators]
+        stations[customer, book.name()].append(book)
+    for (customer, name), own in stations.items():
+        line = shift.stations.setdefault((customer, name), Line())
+        line.stand = _longest_stand(own, period)
+        shift.stopped += _stops(customer, own, period)
+        steps = (it for book in own for it in book.steps)
+        names = (it.operator for it in steps if it.operator and period.has(it.answered or it.at))
+        line.operators = list(dict.fromkeys(names))
     for chip in chips_of(owned).values():
         _count(shift, chip)
     shift.orders = dict(sorted(shift.orders.items()))
@@ -257,27 +261,33 @@ def _time(station: Line, chip: Chip, shipped: Done) -> None:
         station.seconds.append((seconds_between(begun.step.at, shipped.at), chip.name))
 
 
-def _longest_stand(book: Book, period: Period) -> tuple[float, str, str]:
-    """The longest time in which a station asked nothing and got no reply, with its beginning and its end. The time to
-    the first line counts, and that behind the last one."""
-    times = [period.start, *sorted(filter(period.has, book.times)), period.end]
+def _longest_stand(books: Iterable[Book], period: Period) -> tuple[float, str, str]:
+    """The longest time in which a station asked nothing and got no reply, by all its journals, with its beginning and
+    its end. The time to the first line counts, and that behind the last one."""
+    inside = sorted(at for book in books for at in book.times if period.has(at))
+    times = [period.start, *inside, period.end]
     stands = ((seconds_between(start, end), start, end) for start, end in zip(times, times[1:]))
     return max(stands, key=lambda it: it[0])
 
 
-def _stops(customer: str, book: Book, period: Period) -> list[Stopped]:
-    """When a station was out of step, and when it went on; and a request whose reply never came."""
-    went_on = sorted([it.answered for it in book.steps if it.is_done()] + [it.at for it in book.resynchronized])
+def _stops(customer: str, books: Iterable[Book], period: Period) -> list[Stopped]:
+    """When a station was out of step, and when it went on; and a request whose reply never came. A machine in the place
+    of another one has a journal of its own, in which the station goes on."""
+    own = sorted(books, key=lambda it: it.times[:1])
+    steps, name = [it for book in own for it in book.steps], own[0].name()
+    told_on = [it.at for book in own for it in book.resynchronized]
+    went_on = sorted([it.answered for it in steps if it.is_done()] + told_on)
     found = []
-    for step in book.steps:
+    for step in steps:
         if step.is_stop() and period.has(step.answered):
             no, expected = step.reply.get("no"), step.reply.get("expected")
             told = f"out of step ({no}): number {step.number}"
             told += f", and the server expects {expected}" if expected is not None else ""
             behind = next((at for at in went_on if at >= step.answered), "")
-            found.append(Stopped(step.answered, customer, book.name(), told, behind if behind < period.end else ""))
-    last = next((it for it in reversed(book.steps) if it.at < period.end), None)
-    if last and (last.status is None or last.answered >= period.end):
+            found.append(Stopped(step.answered, customer, name, told, behind if behind < period.end else ""))
+    last = next((it for it in reversed(steps) if it.at < period.end), None)
+    is_given_up = last is not None and any(last.at <= at < period.end for at in told_on)
+    if last and not is_given_up and (last.status is None or last.answered >= period.end):
         told = f"no reply to {last.path} with number {last.number}"
-        found.append(Stopped(last.at, customer, book.name(), told, ""))
+        found.append(Stopped(last.at, customer, name, told, ""))
     return found

@@ -7,9 +7,10 @@ from typing import Iterator, Optional, Sequence
 from wanekupo.books.printed import Table, bars, heading, looks, page, paragraph
 from wanekupo.books.rest import Rest
 from wanekupo.books.shift import Counts, Key, Shift
+from wanekupo.states import LOST
 from wanekupo.yields import SENTENCE, share
 
-REASONS = ("lost", "stray", "key", "scrapped")
+REASONS = (*LOST, "scrapped")
 COUNTS = ("begun", "first", "shipped", "given_up")
 NUMBERS = frozenset((*COUNTS, *REASONS, "yield", "identified", "left", "lasts_hours", "median_s", "slowest_s"))
 NUMBERS |= {"stand_s"}
@@ -17,7 +18,7 @@ NUMBERS |= {"stand_s"}
 ORDERS = ("customer", "order", *COUNTS, "yield", *REASONS, "identified")
 TIMES = ("median_s", "slowest_s", "slowest_chip", "stand_s", "stand_from")
 STATIONS = ("customer", "station", "operators", *COUNTS, *TIMES)
-LOST = ("time", "customer", "station", "operator", "order", "chip", "reason")
+GIVEN_UP = ("time", "customer", "station", "operator", "order", "chip", "reason")
 UNDER_WAY = ("customer", "order", "chip", "state", "since", "station")
 STOPPED = ("time", "customer", "station", "what", "went_on")
 RESTS = ("customer", "order", "left", "identified", "lasts_hours", "what")
@@ -34,7 +35,7 @@ def tables(shift: Shift, rests: Optional[Sequence[Rest]]) -> list[Table]:
     return [
         Table("orders", "Orders", ORDERS, list(_order_rows(shift)), NUMBERS, "No journal has an order's chip."),
         Table("stations", "Stations", STATIONS, list(_station_rows(shift)), NUMBERS),
-        Table("lost", "Chips given up", LOST, lost),
+        Table("lost", "Chips given up", GIVEN_UP, lost),
         Table("stopped", "Stations that stopped", STOPPED, stopped),
         Table("rest", "What the next shift runs out of", RESTS, _rest_rows(rests), NUMBERS, _no_rest(rests)),
         Table("under_way", "Under way", UNDER_WAY, under_way),

@@ -7,10 +7,8 @@ from typing import Any, Callable
 from wanekupo import gathering
 from wanekupo.books.lines import device_line, entry_line, order_line, record_line
 from wanekupo.errors import NotTheServer
+from wanekupo.states import FINAL
 from wanekupo.station import Station
-
-# The states that a device never leaves, so that its ledger is whole once it was seen in one.
-FINAL = ("shipped", "scrapped")
 
 # How often a device is asked for whose steps go on meanwhile.
 TRIES = 10
@@ -31,7 +29,8 @@ def lines_of(station: Station, customer: str, told: Callable[[int, int], None]) 
 
 
 def _of_one_moment(station: Station, chip: str) -> tuple[dict[str, Any], list[dict[str, Any]]]:
-    """A device and its ledger, between which nothing was done: behind the ledger the device shows the same."""
+    """A device and its ledger, between which nothing was done: behind the ledger the device shows the same, or it never
+    leaves the state that it was in."""
     device = gathering.device(station, chip)
     for _ in range(TRIES):
         entries = gathering.ledger(station, chip)["entries"]

@@ -2,9 +2,9 @@
 
 from __future__ import annotations
 
+import http.client
 import subprocess
 import tempfile
-import urllib.error
 import urllib.request
 from dataclasses import dataclass
 from pathlib import Path
@@ -44,17 +44,17 @@ class Service:
         asked = urllib.request.Request(self.url, query, {"Content-Type": KIND})
         try:
             with urllib.request.urlopen(asked, timeout=SECONDS) as reply:
-                return reply.read(LONGEST)
-        except (OSError, urllib.error.URLError, ValueError) as error:
+                body: bytes = reply.read(LONGEST)
+                return body
+        except (OSError, ValueError, http.client.HTTPException) as error:
             reason = getattr(error, "reason", error)
-            told = (reason.strerror if isinstance(reason, OSError) else "") or reason
+            told = (reason.strerror if isinstance(reason, OSError) else "") or reason or "what came is no HTTP"
             raise NoReply(f"no time stamp came from {self.url}: {told}", AGAIN) from error
 
     def is_verified(self, reply: Path, *words: str) -> bool:
         between = ["-untrusted", str(self.between)] if self.between else []
-        words = ("-verify", *words, "-in", str(reply), "-CAfile", str(self.trusted), *between)
         try:
-            _openssl(*words)
+            _openssl("-verify", *words, "-in", str(reply), "-CAfile", str(self.trusted), *between)
         except NotTheServer:
             return False
         return True

@@ -1,18 +1,17 @@
 """What journals say, read by who judges them: each request with its place, its times and its reply, and what is wrong.
 
-`wanekupo.journal` reads the journals of a restore, and stops at the first line that isn't right. Here such a line is
+`wanekupo.journal` reads the same lines for a restore, and stops at the first one that isn't right. Here such a line is
 something that was found: it is named, and what stands around it counts.
 """
 
 from __future__ import annotations
 
-import json
-import re
 from dataclasses import dataclass, field
 from pathlib import Path
 from typing import Any, Iterable, Iterator, Optional, Union
 
-from wanekupo.journal import Name, journals_of, request_digest
+from wanekupo.journal import journals_of, request_digest
+from wanekupo.journal_lines import Name, lines_of
 from wanekupo.moments import moment_of
 
 # By how many seconds a station's clock may be set back without a word, as a time service does it.
@@ -20,8 +19,6 @@ SET_BACK = 60
 
 # How many faulty lines of a journal are told by who doesn't judge it.
 MOST_TOLD = 5
-
-MOMENT = re.compile(r"\d{4}-\d\d-\d\dT\d\d:\d\d:\d\dZ")
 
 # The paths of the steps of a device, with the events that they are in its ledger.
 EVENTS = {
@@ -34,7 +31,7 @@ EVENTS = {
 }
 
 
-@dataclass
+@dataclass(slots=True)
 class Step:
     """A request of a journal with the place of its line, when it was asked and answered, and what the reply was.
     Without a status its reply never came. `reason` is why a chip was scrapped, where the station knew it."""
@@ -54,7 +51,7 @@ class Step:
 
     @property
     def number(self) -> int:
-        return self.asked["nr"]
+        return int(self.asked["nr"])
 
     @property
     def chip(self) -> str:
@@ -102,6 +99,9 @@ class Fault:
     at: str
     told: str
 
+    def place(self) -> str:
+        return f"line {self.line} of {self.file}"
+
 
 @dataclass
 class Book:
@@ -120,47 +120,14 @@ class Book:
         return self.seat or Path(self.files[0]).name
 
 
-Line = dict[str, Any]
+Members = dict[str, Any]
 
 
-def _lines_of(file: Path, faults: list[Fault]) -> Iterator[tuple[int, Line]]:
-    """The lines of a file by their numbers. A last one without its line feed was cut by a crash: it says nothing."""
-    whole, feed, _ = file.read_bytes().rpartition(b"\n")
-    last = ""
-    for number, line in enumerate(whole.split(b"\n") if feed else [], 1):
-        try:
-            found = json.loads(line)
-        except (ValueError, RecursionError):
-            found = None
-        told = _form_of(found)
-        if told:
-            faults.append(Fault(str(file), number, last, told))
-        else:
-            last = found["at"]
-            yield number, found
-
-
-def _form_of(line: Any) -> str:
-    """What is wrong with the form of a line; nothing where it is one of a journal."""
-    if not isinstance(line, dict) or not isinstance(line.get("at"), str) or not MOMENT.fullmatch(line["at"]):
-        return "is no line of a journal"
-    if any(not isinstance(line.get(name, ""), str) for name in ("seat", "operator", "path", "digest", "reason")):
-        return "has a member of another form"
-    if "asked" in line:
-        asked = line["asked"]
-        is_one = isinstance(asked, dict) and type(asked.get("nr")) is int and isinstance(asked.get("chip", ""), str)
-        return "" if is_one and "path" in line else "is no request of a journal"
-    if "status" in line:
-        is_one = type(line.get("nr")) is int and type(line["status"]) is int and isinstance(line.get("reply"), dict)
-        return "" if is_one else "is no reply of a journal"
-    return "" if type(line.get("resynchronized")) is int else "is no line of a journal"
-
-
-def _tested_digest(file: str, number: int, line: Line) -> Optional[Fault]:
+def _tested_digest(file: str, number: int, line: Members) -> Optional[Fault]:
     """A request whose digest isn't that of what it asks was changed behind the station's back."""
     try:
         found = request_digest(line["path"], line["asked"])
-    except (ValueError, UnicodeEncodeError):
+    except (ValueError, RecursionError):
         found = ""
     if line.get("digest") == found:
         return None
@@ -177,7 +144,7 @@ def _tested_clock(book: Book, file: str, number: int, at: str) -> None:
             book.faults.append(Fault(file, number, at, told))
 
 
-def _take(book: Book, file: str, number: int, line: Line) -> None:
+def _take(book: Book, file: str, number: int, line: Members) -> None:
     """Adds a line to a journal's requests."""
     _tested_clock(book, file, number, line["at"])
     book.times.append(line["at"])
@@ -212,8 +179,13 @@ def book_of(files: Iterable[Path]) -> Book:
     paths = list(files)
     book = Book([str(it) for it in paths])
     for path in paths:
-        for number, line in _lines_of(path, book.faults):
-            _take(book, str(path), number, line)
+        last = ""
+        for line in lines_of(path):
+            if line.fault:
+                book.faults.append(Fault(str(path), line.number, last, line.fault))
+            else:
+                last = line.members["at"]
+                _take(book, str(path), line.number, line.members)
     return book
 
 
@@ -241,6 +213,6 @@ def named(word: Union[str, Path]) -> Named:
 def told_faults(book: Book) -> Iterator[str]:
     """What is wrong with a journal, for who doesn't judge it: the first lines, and how many more."""
     for fault in book.faults[:MOST_TOLD]:
-        yield f"line {fault.line} of {fault.file} {fault.told}"
+        yield f"{fault.place()} {fault.told}"
     if len(book.faults) > MOST_TOLD:
         yield f"{len(book.faults) - MOST_TOLD} more lines of {book.files[0]}: wanekupo audit names them"

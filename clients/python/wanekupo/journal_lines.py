@@ -1,0 +1,94 @@
+"""The lines of journals, read one at a time: each with its number, the byte behind it, and what is wrong with it.
+
+All who read journals read them here: who restores a store by them (`journal`), who judges them (`books.steps`), and who
+counts what is new in them (`journal_counts`). A journal may be another machine's, so each line is tested for its form.
+"""
+
+from __future__ import annotations
+
+import json
+import os
+import re
+from dataclasses import dataclass, field
+from datetime import datetime
+from typing import IO, Any, Iterator, Union
+
+from wanekupo.files import opened_plain
+
+Name = Union[str, "os.PathLike[str]"]
+
+# More than a line has: a body, of which two bytes of a letter are six there, and what stands beside it.
+LONGEST_LINE = 1 << 18
+
+MOMENT = re.compile(r"\d{4}-\d\d-\d\dT\d\d:\d\d:\d\dZ")
+NO_LINE = "is no line of a journal"
+
+
+@dataclass(frozen=True, slots=True)
+class Line:
+    """A line: its number from where reading began, the byte behind it, and its members; or what is wrong with it."""
+
+    number: int
+    end: int
+    members: dict[str, Any] = field(default_factory=dict)
+    fault: str = ""
+
+
+def lines_of(file: Name, start: int = 0, follows_links: bool = True) -> Iterator[Line]:
+    """The whole lines of a file from a byte on. A last one without its line feed was cut by a crash, or is being
+    written: it says nothing. A file that is shorter is another one, and is read from its beginning."""
+    with open(opened_plain(file, os.O_RDONLY, follows_links), "rb") as source:
+        end = start if os.fstat(source.fileno()).st_size >= start else 0
+        source.seek(end)
+        number = 0
+        while (found := _next(source))[0]:
+            data, length = found
+            number, end = number + 1, end + length
+            yield _line_of(data, number, end)
+
+
+def _next(source: IO[bytes]) -> tuple[bytes, int]:
+    """The next line with its line feed, and its length; of one that is too long the first bytes. Nothing where it was
+    cut, or there is none."""
+    line = part = source.readline(LONGEST_LINE)
+    length = len(part)
+    while len(part) == LONGEST_LINE and not part.endswith(b"\n"):
+        part = source.readline(LONGEST_LINE)
+        length += len(part)
+    return (line, length) if part.endswith(b"\n") else (b"", 0)
+
+
+def _line_of(data: bytes, number: int, end: int) -> Line:
+    try:
+        found = json.loads(data) if data.endswith(b"\n") else None
+    except (ValueError, RecursionError):
+        found = None
+    fault = form_fault(found)
+    return Line(number, end, fault=fault) if fault else Line(number, end, found)
+
+
+def form_fault(line: Any) -> str:
+    """What is wrong with the form of a line; nothing where it is one of a journal."""
+    if not isinstance(line, dict) or not _is_moment(line.get("at")):
+        return NO_LINE
+    if any(not isinstance(line.get(name, ""), str) for name in ("seat", "operator", "path", "digest", "reason")):
+        return "has a member of another form"
+    if "asked" in line:
+        asked = line["asked"]
+        is_one = isinstance(asked, dict) and type(asked.get("nr")) is int and isinstance(asked.get("chip", ""), str)
+        return "" if is_one and "path" in line else "is no request of a journal"
+    if "status" in line:
+        is_one = type(line.get("nr")) is int and type(line["status"]) is int and isinstance(line.get("reply"), dict)
+        return "" if is_one else "is no reply of a journal"
+    return "" if type(line.get("resynchronized")) is int else NO_LINE
+
+
+def _is_moment(at: Any) -> bool:
+    """Whether this is a moment as a station writes it, of a day and a time that there are."""
+    if not isinstance(at, str) or not MOMENT.fullmatch(at):
+        return False
+    try:
+        datetime.fromisoformat(at[:-1])
+    except ValueError:
+        return False
+    return True
