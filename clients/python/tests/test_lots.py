@@ -126,6 +126,7 @@ class Manifest(StationCase):
             (["o2", "--minisign", "x", "--cms", "y", "--cms-key", "z"], [], "wo are said to sign"),
             (["o2", "--cms", "y"], [], "isn't said who signs"),
             (["o2", "--aws", "x"], [], "nly a file is signed"),
+            (["o2", "--out", "x", "--aws", "./x"], [], "ne file is named twice"),
             (["--all"], [(rb"o2,2,0,0,0,1,1,", rb"o2,2,0,0,0,2,1,")], "list has 1 devices of o2 that are identified"),
             (["--all"], [(rb'"serial":"A999"', b'"serial":null')], "is identified, and its serial number is"),
             (["--all"], [(rb'("o2","reason":null,"serial":)"A998"', rb'\1"A997"')], "isn't that of the list"),
@@ -234,17 +235,36 @@ class Manifest(StationCase):
 
     @NEEDS_KEYS
     def test_a_signature_that_fails(self):
-        """Nothing stands under the list's name then, and the part is there. All that is written has one mode."""
+        """Nothing new stands under the list's name then: an earlier list stays with its signature, and the part is
+        there. All that is written has one mode."""
         self.addCleanup(os.umask, os.umask(0o077))
         for name in ("one", "two"):
             made_key(self.folder, name)
         words = ["openssl", *"req -x509 -key one.key -subj /CN=lots -out lots.pem".split()]
         subprocess.run(words, cwd=self.folder, check=True)
-        for key, expected in (("two", [".part"]), ("one", ["", ".p7s", ".sha256"])):
-            more = ("--cms", self.folder / "lots.pem", "--cms-key", self.folder / f"{key}.key")
-            status, _, err = self.manifest("--all", "--out", self.folder / "lot.csv", *more)
-            there = {it.name[len("lot.csv") :]: it.stat().st_mode & 0o777 for it in self.folder.glob("lot.csv*")}
-            self.assertEqual((status, there), (2 if key == "two" else 0, dict.fromkeys(expected, 0o600)), err)
+        whole = ["", ".p7s", ".sha256"]
+        cases = ("two", "o2", [".part"]), ("one", "o2", whole), ("two", "--all", [*whole, ".part"])
+        for key, order, expected in cases:
+            before = {it: it.read_bytes() for it in self.folder.glob("lot.csv*") if it.suffix != ".part"}
+            status, there, err = self.signed(key, order)
+            self.assertEqual((status, there), (2 if key == "two" else 0, dict.fromkeys(sorted(expected), 0o600)), err)
+            if key == "two":
+                self.assertEqual({it: it.read_bytes() for it in before}, before, "what was there stays")
+        (self.folder / "lot.csv.new").mkdir()
+        (self.folder / "lot.csv.new" / "lot.csv.p7s.new").write_bytes(b"of a kill")
+        (self.folder / "lot.csv.minisig").write_bytes(b"of another list")
+        status, there, err = self.signed("one", "--all")
+        self.assertEqual((status, there), (0, dict.fromkeys(whole, 0o600)), err)
+        words = "openssl cms -verify -binary -inform DER -in lot.csv.p7s -content lot.csv -certfile lots.pem -nointern"
+        words = [*words.split(), *"-noverify -out /dev/null".split()]
+        subprocess.run(words, cwd=self.folder, check=True, stderr=subprocess.DEVNULL)
+
+    def signed(self, key, order):
+        """A list that is signed by a key: the status, the modes of what is there by its ending, and what was told."""
+        more = ("--cms", self.folder / "lots.pem", "--cms-key", self.folder / f"{key}.key")
+        status, _, err = self.manifest(order, "--out", self.folder / "lot.csv", *more)
+        files = sorted(self.folder.glob("lot.csv*"))
+        return status, {it.name[len("lot.csv") :]: it.stat().st_mode & 0o777 for it in files}, err
 
     @NEEDS_KEYS
     def test_a_spool(self):

@@ -13,17 +13,18 @@ import hashlib
 import json
 import os
 from pathlib import Path
-from typing import IO, Any, Callable, Iterator, Optional, Sequence
+from typing import IO, Any, Callable, Iterator, Mapping, Optional, Sequence
 
 from wanekupo import clouds
 from wanekupo.command_row import Command
 from wanekupo.config import Settings, looking_station_of, token_of
 from wanekupo.errors import BadKey, BadSettings
-from wanekupo.files import locked, opened_own, replace_bytes
+from wanekupo.files import locked, opened_own, replace_bytes, synced_folder
 from wanekupo.lots import COLUMNS, Lot, Row, is_row, lot_of, rows_of
 from wanekupo.printing import Progress, say, say_json, table_lines, warn
-from wanekupo.signing import Signer, add_signer, digest_file, signer_of
+from wanekupo.signing import CMS, DIGEST, MINISIG, Signer, add_signer, beside, digest_file, signer_of
 from wanekupo.spools import certificate_in, der_of, key_of_certificate, request_in
+from wanekupo.states import WITH_RECORD
 from wanekupo.texts import formulas_in
 
 SAID = "list a lot: a line for each record of orders, with its digest and its signature beside it"
@@ -55,6 +56,9 @@ def _check(settings: Settings, args: argparse.Namespace) -> Optional[Signer]:
     signer = signer_of(args)
     if args.out is None and (signer or args.aws or args.azure):
         raise BadSettings("only a file is signed, or goes with a cloud's", "Give --out FILE.")
+    named = [os.path.realpath(it) for it in (args.out, args.aws, args.azure) if it is not None]
+    if len(set(named)) < len(named):
+        raise BadSettings("one file is named twice", "Give the list, and each cloud's file, a name of its own.")
     if (args.aws or args.azure) and settings.spool is None:
         raise BadSettings("a cloud's file is made of a spool, and none is named", "Give --spool FOLDER.")
     if settings.spool is not None and not settings.spool.is_dir():
@@ -72,19 +76,17 @@ def main(settings: Settings, args: argparse.Namespace) -> int:
             with _part_of(file, settings) as part:
                 rows = gathered((station, second), lot, part, told)
     rows = sorted(rows, key=lambda row: (row["order"], row["serial"]))
-    names = COLUMNS
+    names: tuple[str, ...] = COLUMNS
     if settings.spool is not None:
         names, rows = (*COLUMNS, *SPOOLED), [row | _spooled(settings.spool, row) for row in rows]
     text = text_of(names, rows, args.json)
     if file is None:
         say(text)
         return 0
-    written = _clouds_files(settings.spool, rows, args) | {file: text}
-    for name, its in written.items():
-        write(name, its, signer)
+    write_all(_clouds_files(settings.spool, rows, args) | {file: text}, signer)
     with contextlib.suppress(FileNotFoundError):
         _part_name(file).unlink()
-    counts = {state: sum(row["state"] == state for row in rows) for state in ("identified", "shipped", "scrapped")}
+    counts = {state: sum(row["state"] == state for row in rows) for state in WITH_RECORD}
     say_json({"file": str(file), "orders": len(lot.orders), "records": len(rows), **counts})
     return 0
 
@@ -108,25 +110,54 @@ def _warn_of_formulas(names: Sequence[str], lines: Sequence[Sequence[str]]) -> N
             warn(f"warning: {first}" + (f"; so do {more} more of this column" if more else ""))
 
 
-def write(file: Path, text: str, signer: Optional[Signer]) -> None:
-    """Writes a file whole, and behind it its digest and its signature. One that couldn't be signed goes again."""
-    replace_bytes(file, text.encode("utf-8"), WRITTEN)
-    digest = digest_file(file)
+def write_all(files: Mapping[Path, str], signer: Optional[Signer]) -> None:
+    """Writes files whole, each with its digest and its signature beside it. None takes the place of an earlier one
+    before all are signed: until then each lies in a folder of its own, FILE.new, under its own name."""
+    rooms = {file: beside(file, ".new") for file in files}
     try:
-        if signer:
-            signer.sign(file)
-    except BaseException:
-        for made in (file, digest):
-            made.unlink(missing_ok=True)
-        raise
+        for file, text in files.items():
+            _clear(rooms[file], file.name)
+            rooms[file].mkdir(mode=0o700)
+            made = rooms[file] / file.name
+            replace_bytes(made, text.encode("utf-8"), WRITTEN)
+            digest_file(made)
+            if signer:
+                signer.sign(made)
+        for file, room in rooms.items():
+            _put_in_place(file, room)
+    finally:
+        for file, room in rooms.items():
+            _clear(room, file.name)
+
+
+def _clear(room: Path, name: str) -> None:
+    """Removes such a folder with what this command writes there, also what a kill left; or a file in its place."""
+    if room.is_dir() and not room.is_symlink():
+        for ending in ("", DIGEST, MINISIG, CMS):
+            for made in (beside(room / name, ending), beside(room / name, f"{ending}.new")):
+                made.unlink(missing_ok=True)
+        room.rmdir()
+    else:
+        room.unlink(missing_ok=True)
+
+
+def _put_in_place(file: Path, room: Path) -> None:
+    """Has a file and what is beside it take the places of earlier ones. What was beside an earlier one goes first, so
+    that no signature stands beside another file than its own."""
+    for ending in (DIGEST, MINISIG, CMS):
+        beside(file, ending).unlink(missing_ok=True)
+    for made in (room / file.name, *sorted(it for it in room.iterdir() if it.name != file.name)):
+        os.replace(made, file.with_name(made.name))
+    synced_folder(file.parent)
 
 
 def _spooled(spool: Path, row: Row) -> dict[str, Optional[str]]:
     """What the spool has of a record, in base64 of DER, where the key is the record's."""
     request, certificate = request_in(spool, row["serial"]), certificate_in(spool, row["serial"])
-    keys = {"csr": request and request.public_key, "certificate": certificate and key_of_certificate(certificate)}
+    keys: dict[str, bytes] = {} if request is None else {"csr": request.public_key}
+    keys |= {} if certificate is None else {"certificate": key_of_certificate(certificate)}
     for name, key in keys.items():
-        if key is not None and hashlib.sha256(key).hexdigest() != row["key_sha256"]:
+        if hashlib.sha256(key).hexdigest() != row["key_sha256"]:
             told = f"{spool} has a {name} of {row['serial']} with another key than the record of the chip {row['chip']}"
             raise BadKey(told, "Look whose it is, and whether this is the spool of these orders.")
     found = {"csr": request and request.der, "certificate": certificate and der_of(certificate)}
