@@ -11,6 +11,7 @@ import subprocess
 import sys
 import time
 import unittest
+from unittest import mock
 
 from support import DIGEST, HOST, MAP, ROOT, StationCase, free_port
 from commanding import CLIENT, NEEDS_KEYS, ran
@@ -383,6 +384,16 @@ class Certificates(StationCase):
                 again = f"was asked for the certificate of {serial}, and gave none" if told else ""
                 self.assertIn(told if told and "status" in told else again, runs[1][2])
 
+    def test_a_command_without_an_end(self):
+        """It is ended, and the sentence is of the certificate and not of a chip."""
+        self.device()
+        (self.folder / "sign").write_text("#!/bin/sh\nexec sleep 20\n", encoding="ascii")
+        (self.folder / "sign").chmod(0o755)
+        with mock.patch("wanekupo.authority.LONGEST", 1):
+            status, counts, err = self.certify("--sign-with", self.folder / "sign")
+        self.assertEqual((status, counts), (2, {"issued": 0, "present": 0, "refused": 0}), err)
+        self.assertIn("didn't end within 1 seconds. No other one was asked for. Look in the CA", err)
+
     # verify
 
     def test_verify(self):
@@ -426,6 +437,24 @@ class Certificates(StationCase):
                 finally:
                     os.chdir(here)
                 self.assertEqual((status, told is None or told in err), (1 if told else 0, True), err)
+
+    def test_verify_of_what_is_none(self):
+        """What can't be read as a certificate is refused as any other, and the ones behind it are looked at."""
+        fine = self.spool / f"{self.device()}.pem"
+        self.counted(1, 0, 0)
+        (self.folder / "more").write_text("1.2.3.4=critical,ASN1:NULL\n1.2.3.5=ASN1:NULL\n", encoding="ascii")
+        made = f"openssl x509 -in {fine} -signkey pairs/240ac4000001.key -extfile more -outform DER -out strange.der"
+        need(self.folder, made)
+        strange = (self.folder / "strange.der").read_bytes()
+        (self.folder / "twice.der").write_bytes(strange.replace(b"\x06\x03\x2a\x03\x05", b"\x06\x03\x2a\x03\x04"))
+        (self.folder / "hello").write_text("hello", encoding="ascii")
+        names = ("hello", "strange.der", "twice.der")
+        files = [self.folder / name for name in names]
+        status, out, err = self.command("verify", *files, fine, "--trusted", self.ca / "ca.pem")
+        self.assertEqual((status, out.count(": as its record\n"), len(err.splitlines())), (1, 1, 3), err)
+        said = ("hello has no certificate that can be read", "(1.2.3.4), critical", "its extensions can't be read")
+        for line, told in zip(err.splitlines(), said):
+            self.assertIn(told, line)
 
     def test_a_client_by_its_certificate(self):
         """A device's handshake of TLS, as a client, with a server that wants a certificate of this CA."""

@@ -37,7 +37,6 @@ OF_DEVICE = re.compile(r"/serialNumber=([A-Z0-9-]{1,64})")
 # A key that stays in a token, as a configuration names it.
 TOKEN = re.compile(r"""^\s*private_key\s*=\s*["']?pkcs11:""", re.MULTILINE)
 
-
 # A line of openssl's errors: thread, "error", number, library, function and reason, with colons between.
 ERROR, REASON = 1, 5
 
@@ -218,6 +217,10 @@ class Authority:
             )
         except FileNotFoundError:
             raise BadSettings(f"there is no command {words[0]}", "Look at its name.") from None
+        except subprocess.TimeoutExpired:
+            told = "No other one was asked for. Look in the CA whether it was signed, and begin again."
+            ended = f"{words[0]} didn't end within {LONGEST} seconds"
+            raise BadSigner(f"the certificate of {what} wasn't had: {ended}", told) from None
         if done.returncode:
             with contextlib.suppress(FileNotFoundError):
                 (self.issued / f"{what}.asked").unlink()

@@ -50,11 +50,11 @@ def faults_of(certificate: Any, record: Mapping[str, Any]) -> Iterator[str]:
         yield "it isn't of version 3"
     if hashlib.sha256(key_of_certificate(certificate)).hexdigest() != record["key_sha256"]:
         yield "it has another key than the record"
-    numbers = [it.value for it in certificate.subject.get_attributes_for_oid(x509.NameOID.SERIAL_NUMBER)]
+    numbers = [str(it.value) for it in certificate.subject.get_attributes_for_oid(x509.NameOID.SERIAL_NUMBER)]
     if numbers != [record["serial"]]:
         yield f"its subject has {' and '.join(numbers) or 'none'} as serialNumber, and not {record['serial']}"
-    begins, ends = (it.strftime(TIME) for it in validity_of(certificate))
-    if record["not_before"] not in (None, begins.rjust(15, "0")):
+    begins, ends = (it.strftime(TIME).rjust(15, "0") for it in validity_of(certificate))
+    if record["not_before"] not in (None, begins):
         yield f"it begins at {begins}, and the record at {record['not_before']}"
     if ends != record["not_after"]:
         yield f"it ends at {ends}, and the record at {record['not_after']}"
@@ -63,16 +63,18 @@ def faults_of(certificate: Any, record: Mapping[str, Any]) -> Iterator[str]:
 
 def _extension_faults(certificate: Any, x509: Any) -> Iterator[str]:
     try:
-        found = {it.oid._name: it for it in certificate.extensions}
-    except ValueError as error:
+        extensions = list(certificate.extensions)
+    except Exception as error:  # the library has errors of many kinds for these
         yield f"its extensions can't be read: {error}"
         return
+    found = {it.oid._name: it for it in extensions}
     for name, is_critical in EXTENSIONS.items():
         if name not in found:
             yield f"it has no {name}"
         elif found[name].critical != is_critical:
             yield f"its {name} is {'not ' if is_critical else ''}critical"
-    yield from (f"it has {name}, critical" for name in found if name not in EXTENSIONS and found[name].critical)
+    others = (it for it in extensions if it.oid._name not in EXTENSIONS and it.critical)
+    yield from (f"it has {it.oid._name} ({it.oid.dotted_string}), critical" for it in others)
     if "basicConstraints" in found and found["basicConstraints"].value.ca:
         yield "it is a CA's"
     usage = x509.KeyUsage(True, False, False, False, False, False, False, False, False)

@@ -90,7 +90,7 @@ def certificates_of(data: bytes, file: Path) -> list[Any]:
             return [x509.load_der_x509_certificate(data)]
         ends = re.findall(rb"-----BEGIN CERTIFICATE-----.*?-----END CERTIFICATE-----", data, re.DOTALL)
         found = [x509.load_pem_x509_certificate(it) for it in ends]
-    except ValueError as error:
+    except Exception as error:  # the library has errors of many kinds for what is no certificate
         raise BadKey(f"{file} has no certificate that can be read", "Look what wrote it.") from error
     if not found:
         raise BadKey(f"{file} has no certificate", "Look what wrote it.")
@@ -98,13 +98,18 @@ def certificates_of(data: bytes, file: Path) -> list[Any]:
 
 
 def der_of(thing: Any) -> bytes:
-    return thing.public_bytes(library("hazmat.primitives.serialization").Encoding.DER)
+    der: bytes = thing.public_bytes(library("hazmat.primitives.serialization").Encoding.DER)
+    return der
 
 
 def key_of_certificate(certificate: Any) -> bytes:
     """The SubjectPublicKeyInfo in DER."""
     forms = library("hazmat.primitives.serialization")
-    return certificate.public_key().public_bytes(forms.Encoding.DER, forms.PublicFormat.SubjectPublicKeyInfo)
+    try:
+        key: bytes = certificate.public_key().public_bytes(forms.Encoding.DER, forms.PublicFormat.SubjectPublicKeyInfo)
+    except Exception as error:  # as above
+        raise BadKey("the certificate has a key that can't be read", "Look what wrote it.") from error
+    return key
 
 
 def certificate_in(spool: Path, serial: str) -> Optional[Any]:
