@@ -17,15 +17,15 @@ KEYS = {"Enter": (13, "\r"), "Tab": (9, ""), "Backspace": (8, "")}
 
 
 class Browser:
-    """One page, of one size."""
+    """One page, of one size. `more` are further words of the program's command line."""
 
-    def __init__(self, width=1200, height=760):
+    def __init__(self, width=1200, height=760, more=()):
         self.folder = tempfile.TemporaryDirectory()
         ours, theirs = os.pipe(), os.pipe()
         words = [PROGRAM, "--headless=new", "--no-sandbox", "--disable-gpu", "--hide-scrollbars", "--no-first-run"]
         words += [f"--window-size={width},{height}", f"--user-data-dir={self.folder.name}", "--remote-debugging-pipe"]
         shell = f'exec "$@" 3<&{ours[0]} 4>&{theirs[1]}'
-        command = ["bash", "-c", shell, "bash", *words, "about:blank"]
+        command = ["bash", "-c", shell, "bash", *words, *more, "about:blank"]
         options = {"stdout": subprocess.DEVNULL, "stderr": subprocess.DEVNULL}
         self.process = subprocess.Popen(command, pass_fds=(ours[0], theirs[1]), **options)
         os.close(ours[0])
@@ -93,9 +93,11 @@ class Browser:
             self.press(letter)
         self.press("Enter")
 
-    def picture(self, file):
-        """A picture of all that the page shows."""
+    def picture(self, file, most=100_000):
+        """A picture of the page from its top on, of all that it shows or of so many pixels."""
+        self.value("window.scrollTo(0, 0)")
         height = self.value("Math.ceil(document.documentElement.getBoundingClientRect().height)")
+        height = min(most, height)
         clip = {"x": 0, "y": 0, "width": 1200, "height": height, "scale": 1}
         png = self.call("Page.captureScreenshot", format="png", clip=clip, captureBeyondViewport=True)
         file.write_bytes(base64.b64decode(png["data"]))

@@ -84,7 +84,7 @@ class Audits(BooksCase):
             other.make_order("b", "bolt-ca", "B", 3, 1, 5)
         self.program.copied(self.folder / "later")
         out = self.found(self.folder / "later" / "books.db", journal)
-        self.assertRegex(out, "no_journal +bolt +b1 +no journal of this seat was given: its 1 requests are of no device")
+        self.assertRegex(out, "no_journal +bolt +b1 +no journal of this seat was given: its 1 requests are of no")
 
     def test_years(self):
         """Each year compares as it should, and a moment that can't be told is an error in words."""

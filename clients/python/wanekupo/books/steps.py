@@ -6,6 +6,7 @@ something that was found: it is named, and what stands around it counts.
 
 from __future__ import annotations
 
+import sys
 from dataclasses import dataclass, field
 from pathlib import Path
 from typing import Any, Iterable, Iterator, Optional, Union
@@ -29,6 +30,10 @@ EVENTS = {
     "/v1/ship": "shipped",
     "/v1/scrap": "scrapped",
 }
+
+# Of what such a step asks, and of its reply, what is looked at.
+ASKED = frozenset(("nr", "chip", "order", "map"))
+REPLIED = frozenset(("state", "outcome", "serial", "no", "error", "expected"))
 
 
 @dataclass(slots=True)
@@ -67,6 +72,12 @@ class Step:
         """The note that the ledger has of it."""
         member = {"read": "outcome", "identified": "serial"}.get(self.event, "")
         return str(self.reply.get(member, "")) if member else ""
+
+    def slim(self) -> None:
+        """Leaves away what nobody asks for of a step but an identity, as the digests of blocks: journals are long."""
+        if self.event not in ("", "identified"):
+            self.asked = {name: it for name, it in self.asked.items() if name in ASKED}
+            self.reply = {name: it for name, it in self.reply.items() if name in REPLIED}
 
     def is_done(self) -> bool:
         return self.status == 200
@@ -159,8 +170,11 @@ def _take(book: Book, file: str, number: int, line: Members) -> None:
             book.faults.append(fault)
         is_again = last and last.status is None and (last.path, last.asked) == (line["path"], line["asked"])
         if not is_again:
-            names = seat or book.seat, line.get("operator", "")
-            step = Step(file, number, line["at"], line["path"], line["asked"], line.get("digest", ""), *names)
+            if last:
+                last.slim()
+            names = sys.intern(seat or book.seat), sys.intern(line.get("operator", ""))
+            path, digest = sys.intern(line["path"]), line.get("digest", "")
+            step = Step(file, number, line["at"], path, line["asked"], digest, *names)
             step.reason = line.get("reason", "")
             book.steps.append(step)
     elif "status" in line:
