@@ -343,7 +343,7 @@ def main(settings: Settings, arguments: argparse.Namespace) -> int:
         tell.append(bench.tell)
         page = Page(bench, port) if has_page else None
         ending = _ended_by_signals()
-        shown = [*([page] if page else []), Screen(bench, page.url if page else "")]
+        shown: list[Page | Screen] = [*([page] if page else []), Screen(bench, page.url if page else "")]
         for it in shown:
             it.start()
             stack.callback(it.close)

@@ -79,8 +79,8 @@ def parser() -> argparse.ArgumentParser:
     made.add_argument("--version", action="version", version=f"wanekupo {__version__}")
     subparsers = made.add_subparsers(dest="command", required=True, metavar="COMMAND")
     for row in COMMANDS:
-        words = {"help": row.said, "description": f"{row.said}{row.more}", "parents": [common], "allow_abbrev": False}
-        one = subparsers.add_parser(row.name, **words)
+        more = f"{row.said}{row.more}"
+        one = subparsers.add_parser(row.name, help=row.said, description=more, parents=[common], allow_abbrev=False)
         row.add_arguments(one)
         one.set_defaults(run=row.run)
     return made
@@ -100,7 +100,7 @@ def main(words: Optional[Sequence[str]] = None) -> int:
     args = parser().parse_args(words)
     try:
         settings = settings_of(vars(args), os.environ, FILES)
-        status = args.run(settings, args)
+        status = int(args.run(settings, args))
         sys.stdout.flush()
         return status
     except BrokenPipeError:

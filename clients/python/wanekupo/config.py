@@ -67,9 +67,10 @@ def _text(given: Any, _: Path) -> str:
 
 
 def _name(given: Any, folder: Path) -> str:
-    if not NAME.fullmatch(_text(given, folder)):
+    name = _text(given, folder)
+    if not NAME.fullmatch(name):
         raise ValueError("has 32 letters, digits, dots, low lines and hyphens at most")
-    return given
+    return name
 
 
 def _truth(given: Any, _: Path) -> bool:
@@ -182,7 +183,7 @@ def station_of(settings: Settings, **options: Any) -> Station:
     """The seat of these settings, with its journal; to close it closes both. Options are those of `Station`."""
     token, context = token_of(settings), context_of(settings)
     journal = Journal(settings.journal, settings.seat, settings.operator) if settings.journal else None
-    usual = {"patience": settings.patience, "context": context, "insecure": settings.insecure, "journal": journal}
+    usual: dict[str, Any] = {"patience": settings.patience, "context": context, "insecure": settings.insecure, "journal": journal}
     try:
         return Station(settings.url, token, settings.state, closes_journal=True, **{**usual, **options})
     except BaseException:

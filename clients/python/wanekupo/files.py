@@ -99,6 +99,18 @@ def locked(opened: int) -> None:
         fcntl.flock(opened, fcntl.LOCK_EX | fcntl.LOCK_NB)
 
 
+def wait_locked(opened: int) -> None:
+    """The same, once no other process has it."""
+    if fcntl:
+        fcntl.flock(opened, fcntl.LOCK_EX)
+
+
+def tested_unlocked(opened: int) -> None:
+    """Whether no program has a lock of SQLite's on an opened file; else OSError."""
+    if fcntl:
+        fcntl.lockf(opened, fcntl.LOCK_SH | fcntl.LOCK_NB)
+
+
 def replace_file(file: Path, text: str, mode: int = PRIVATE) -> None:
     """Replaces a file of ASCII: whole or not at all, whenever the power fails. Its mode is this, whatever the umask."""
     replace_bytes(file, text.encode("ascii"), mode, is_exact=True)

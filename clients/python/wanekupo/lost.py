@@ -6,7 +6,8 @@ from datetime import datetime
 from pathlib import Path
 from typing import Any, Iterable, Iterator, Optional, Sequence
 
-from wanekupo.journal import Name, journals_of, placed_lines_of
+from wanekupo.journal import journals_of, placed_lines_of
+from wanekupo.journal_lines import Name
 from wanekupo.moments import tested_period, text_of
 from wanekupo.texts import csv_lines, formulas_in, shown
 

@@ -59,8 +59,8 @@ def _order_again(station: Station, it: Asked) -> bool:
         if refused.no != EXISTS:
             raise Differs(f"order {members['name']}: refused as {refused}") from refused
         is_new, reply = False, station.get(it.path, name=members["name"])
-    expected = it.reply if it.is_done() else members
-    for name in sorted(expected or {}):
+    expected = (it.reply if it.is_done() else members) or {}
+    for name in sorted(expected):
         if name != "next" and reply.get(name) != expected[name]:
             raise Differs(f"order {members['name']}: {name} is {reply.get(name)}, and was {expected[name]}")
     return is_new

@@ -94,18 +94,11 @@ def signer_of(args: argparse.Namespace) -> Optional[Signer]:
         raise BadSettings("two are said to sign", told)
     if args.minisign is None and None in (args.cms, args.cms_key):
         raise BadSettings("it isn't said who signs", told)
-    named = [args.minisign, args.cms, None if (args.cms_key or "").startswith("pkcs11:") else args.cms_key]
+    named: list[Optional[str]] = [args.minisign, args.cms, None if (args.cms_key or "").startswith("pkcs11:") else args.cms_key]
     for file in filter(None, named):
         if not os.path.isfile(file):
             raise BadSettings(f"there is no key's file {file}", "Look at its name.")
     return Signer(args.minisign and Path(args.minisign), args.cms and Path(args.cms), args.cms_key)
-
-
-def add_trusted(parser: argparse.ArgumentParser) -> None:
-    """The words of the command line that say whose signature is to be there."""
-    group = parser.add_argument_group("whose signature is to be there")
-    group.add_argument("--minisign", metavar="PUBLIC", help="FILE.minisig is to be of this public key of minisign's")
-    group.add_argument("--cms", metavar="CERT", help="FILE.p7s is to be of this certificate's key")
 
 
 def verify(file: Path, minisign: Optional[Path] = None, cms: Optional[Path] = None) -> None:

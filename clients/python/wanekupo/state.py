@@ -22,7 +22,7 @@ MOST_LATE = 16
 
 def members_of(asked: Mapping[str, str]) -> dict[str, Any]:
     """The members of a kept request, without its number."""
-    members = json.loads(asked["body"])
+    members: dict[str, Any] = json.loads(asked["body"])
     del members["nr"]
     return members
 
@@ -89,7 +89,7 @@ class State:
 
     def is_of_the_token(self) -> bool:
         """Whether the file is of the token that is given now."""
-        return self._data["token"] == self.token
+        return bool(self._data["token"] == self.token)
 
     def _locked(self) -> int:
         lock = opened_lock(f"{self.file}.lock")
@@ -130,7 +130,7 @@ class State:
         """Changes the state, in the file first: whole or not at all, whenever the power fails."""
         if not self.file:
             raise BadStateFile("without a state file nothing is sent that changes anything")
-        state = {**self._data, "late": self.late, **changes}
+        state: dict[str, Any] = {**self._data, "late": self.late, **changes}
         state["last"] = _kept(state["last"])
         replace_file(self.file, compact_json(state))
         self._data = state

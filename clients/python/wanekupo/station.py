@@ -323,7 +323,7 @@ class Station(Seat):
 
     def import_map(self, text: str) -> str:
         """The map's digest, by which devices are registered."""
-        return self.post("/v1/map", {"text": text})["map"]
+        return str(self.post("/v1/map", {"text": text})["map"])
 
     def register(self, chip: str, order: str, map: str, blocks: Blocks) -> Device:
         shown = {"map": map, "blocks": checked(chip, blocks)}
@@ -341,10 +341,10 @@ class Station(Seat):
         return identity_of(self.post("/v1/identity", {"chip": chip, "public_key": public_key.hex()}))
 
     def ship(self, chip: str) -> str:
-        return self.post("/v1/ship", {"chip": chip})["state"]
+        return str(self.post("/v1/ship", {"chip": chip})["state"])
 
     def scrap(self, chip: str, reason: str = "") -> str:
-        return self.post("/v1/scrap", {"chip": chip}, reason)["state"]
+        return str(self.post("/v1/scrap", {"chip": chip}, reason)["state"])
 
     def import_serials(self, issuer: str, rows: Iterable[tuple[str, str]]) -> Imported:
         """Serial numbers that were handed out elsewhere, with the SHA-256 of their keys; 500 at the most."""

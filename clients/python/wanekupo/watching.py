@@ -15,7 +15,7 @@ from pathlib import Path
 from typing import Callable, Optional
 
 from wanekupo.errors import NotOneWatch, StationError
-from wanekupo.files import fcntl, opened_plain, synced_folder
+from wanekupo.files import opened_plain, synced_folder, wait_locked
 from wanekupo.moments import file_of, text_of
 from wanekupo.texts import csv_lines, csv_rows, formulas_in, shown
 from wanekupo.states import REPORTED
@@ -44,8 +44,7 @@ def add_report(file: str | os.PathLike[str], moment: datetime, report: str, cust
     before = [at, str(len(rows)), *([] if is_site else [customer])]
     text = csv_lines(before + row for row in rows or [[""] * len(names)])
     with open(opened_plain(path, os.O_RDWR | os.O_CREAT), "r+b") as out:
-        if fcntl:
-            fcntl.flock(out, fcntl.LOCK_EX)
+        wait_locked(out.fileno())
         whole = out.read().rpartition(b"\n")[0]
         if not whole:
             text = head + text

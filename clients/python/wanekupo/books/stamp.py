@@ -48,7 +48,7 @@ class Service:
                 return body
         except (OSError, ValueError, http.client.HTTPException) as error:
             reason = getattr(error, "reason", error)
-            told = (reason.strerror if isinstance(reason, OSError) else "") or reason or "what came is no HTTP"
+            told = str((reason.strerror if isinstance(reason, OSError) else "") or reason) or "what came is no HTTP"
             raise NoReply(f"no time stamp came from {self.url}: {told}", AGAIN) from error
 
     def is_verified(self, reply: Path, *words: str) -> bool:

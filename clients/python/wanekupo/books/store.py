@@ -13,7 +13,7 @@ from pathlib import Path
 from typing import Any, Iterator, Optional
 
 from wanekupo.errors import StationError
-from wanekupo.files import fcntl
+from wanekupo.files import tested_unlocked
 
 MAGIC = b"SQLite format 3\0"
 SCHEMA = 3
@@ -113,11 +113,9 @@ class Store:
 
 def _tested_lock(file: Path) -> None:
     """Whether no program has the file. A server locks it for itself as long as it runs."""
-    if not fcntl:
-        return
     with open(file, "rb") as source:
         try:
-            fcntl.lockf(source, fcntl.LOCK_SH | fcntl.LOCK_NB)
+            tested_unlocked(source.fileno())
         except OSError as error:
             raise BadStore(f"a program has {file}", COPY) from error
 
