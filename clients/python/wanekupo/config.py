@@ -183,7 +183,8 @@ def station_of(settings: Settings, **options: Any) -> Station:
     """The seat of these settings, with its journal; to close it closes both. Options are those of `Station`."""
     token, context = token_of(settings), context_of(settings)
     journal = Journal(settings.journal, settings.seat, settings.operator) if settings.journal else None
-    usual: dict[str, Any] = {"patience": settings.patience, "context": context, "insecure": settings.insecure, "journal": journal}
+    usual: dict[str, Any] = {"patience": settings.patience, "context": context, "insecure": settings.insecure}
+    usual["journal"] = journal
     try:
         return Station(settings.url, token, settings.state, closes_journal=True, **{**usual, **options})
     except BaseException:

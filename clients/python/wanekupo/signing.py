@@ -94,7 +94,8 @@ def signer_of(args: argparse.Namespace) -> Optional[Signer]:
         raise BadSettings("two are said to sign", told)
     if args.minisign is None and None in (args.cms, args.cms_key):
         raise BadSettings("it isn't said who signs", told)
-    named: list[Optional[str]] = [args.minisign, args.cms, None if (args.cms_key or "").startswith("pkcs11:") else args.cms_key]
+    key = None if (args.cms_key or "").startswith("pkcs11:") else args.cms_key
+    named: list[Optional[str]] = [args.minisign, args.cms, key]
     for file in filter(None, named):
         if not os.path.isfile(file):
             raise BadSettings(f"there is no key's file {file}", "Look at its name.")
