@@ -23,6 +23,9 @@ LONGEST_LINE = 1 << 18
 MOMENT = re.compile(r"\d{4}-\d\d-\d\dT\d\d:\d\d:\d\dZ")
 NO_LINE = "is no line of a journal"
 
+# Members that are texts, where a line has them.
+TEXTS = ("seat", "operator", "path", "digest", "reason")
+
 
 @dataclass(frozen=True, slots=True)
 class Line:
@@ -71,8 +74,9 @@ def form_fault(line: Any) -> str:
     """What is wrong with the form of a line; nothing where it is one of a journal."""
     if not isinstance(line, dict) or not _is_moment(line.get("at")):
         return NO_LINE
-    if any(not isinstance(line.get(name, ""), str) for name in ("seat", "operator", "path", "digest", "reason")):
-        return "has a member of another form"
+    for name in TEXTS:
+        if name in line and not isinstance(line[name], str):
+            return "has a member of another form"
     if "asked" in line:
         asked = line["asked"]
         is_one = isinstance(asked, dict) and type(asked.get("nr")) is int and isinstance(asked.get("chip", ""), str)

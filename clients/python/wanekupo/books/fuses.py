@@ -2,6 +2,8 @@
 
 from __future__ import annotations
 
+import functools
+import struct
 import tomllib
 from dataclasses import dataclass
 from typing import Any
@@ -28,14 +30,22 @@ class Layout:
 
     def bits(self, column: bytes) -> list[dict[str, Any]]:
         """Each word outside key fields that isn't zero, as a reply has it."""
-        hidden, found, place = {block for _, block in self.keys}, [], 0
-        for block, words in enumerate(self.blocks):
-            for word in range(words):
-                mask = int.from_bytes(column[place : place + 4].ljust(4, b"\0"), "little")
-                place += 4
-                if mask and block not in hidden:
-                    found.append({"block": block, "mask": f"{mask:08x}", "word": word})
-        return found
+        length = self.bits_length()
+        masks = struct.unpack(f"<{length // 4}I", column[:length].ljust(length, b"\0")) if any(column) else ()
+        return [
+            {"block": block, "mask": f"{mask:08x}", "word": word}
+            for (block, word), mask in zip(self._words, masks)
+            if mask and block not in self._hidden
+        ]
+
+    @functools.cached_property
+    def _words(self) -> list[tuple[int, int]]:
+        """Each word, its block and its number there, in the order of the columns."""
+        return [(block, word) for block, words in enumerate(self.blocks) for word in range(words)]
+
+    @functools.cached_property
+    def _hidden(self) -> frozenset[int]:
+        return frozenset(block for _, block in self.keys)
 
     def known_keys(self, column: bytes) -> dict[str, str]:
         """The SHA-256 of each key that is known, by its field."""
