@@ -404,12 +404,9 @@ class Certificates(StationCase):
         files = [self.spool / f"{it}.pem" for it in (serial, other)]
         trusted = ("--trusted", self.ca / "ca.pem")
         status, out, err = self.command("verify", *files, *trusted)
-        self.assertEqual((status, err), (0, ""))
-        expected = [
-            f"{files[0]}: {serial}, the chip 240ac4000001 of o1, identified: as its record",
-            f"{files[1]}: {other}, the chip 240ac4000002 of o2, shipped: as its record",
-        ]
-        self.assertEqual(out.splitlines(), expected)
+        expected = [f"{files[0]}: {serial}, the chip 240ac4000001 of o1, identified: as its record"]
+        expected.append(f"{files[1]}: {other}, the chip 240ac4000002 of o2, shipped: as its record")
+        self.assertEqual((status, err, out.splitlines()), (0, "", expected))
         need(self.folder, "openssl req -x509 -newkey ed25519 -noenc -subj /CN=other -keyout other.key -out other.pem")
         need(self.folder, f"openssl x509 -in {files[0]} -signkey pairs/240ac4000001.key -out self.pem -clrext")
         need(self.folder, f"openssl x509 -in {files[0]} -outform DER -out one.der")
