@@ -6,7 +6,7 @@ import json
 import re
 
 from support import MAP, ORDER, StationCase
-from test_command import ran
+from commanding import ran
 
 from wanekupo.errors import NoReply, Refused
 from wanekupo.journal import Journal
