@@ -115,6 +115,16 @@ class Manifest(StationCase):
         status, out, _ = self.manifest("o2")
         self.assertEqual((status, out), (0, "".join(f"{','.join(it)}\n" for it in [COLUMNS, *shown[2:]])))
 
+    def test_given_elsewhere(self):
+        """Serial numbers that an import gave are no device's here, as behind a restore: the list says how many."""
+        rows = [("-B003", "11" * 32), ("-B009", "22" * 32), ("C1", "33" * 32)]
+        self.seat.import_all("acme-ca", rows)
+        for words, told in ((["--", "-1"], True), (["o2"], False), (["--all"], True)):
+            with self.subTest(words):
+                status, _, err = self.manifest(*words)
+                said = "warning: 2 serial numbers of -1 are given and not in this list"
+                self.assertEqual((status, said in err), (0, told), err)
+
     def test_what_is_refused(self):
         """Words, and a list that isn't the report's; nothing is left but the part."""
         proxy = self.proxy(kind=Forging)

@@ -42,7 +42,11 @@ NAME = re.compile(r"[A-Za-z0-9._-]{1,32}")
 SERIAL = re.compile(r"[A-Z0-9-]{1,64}")
 CHIP, DIGEST, TIME = re.compile(r"[0-9a-f]{12}"), re.compile(r"[0-9a-f]{64}"), re.compile(r"[0-9]{14}Z")
 
+# The columns of a report by which the serial numbers are counted that are given.
+GIVEN = ("quantity", "serials_left")
+
 Row = dict[str, Any]
+Counts = Mapping[str, Mapping[str, int]]
 
 
 class Miscounted(StationError):
@@ -59,36 +63,47 @@ class Unsteady(StationError):
 
 @dataclass(frozen=True)
 class Lot:
-    """Orders by their names, and their devices that have a serial number, in the order of the chips."""
+    """Orders by their names, and their devices that have a serial number, in the order of the chips. `missing` is how
+    many serial numbers of an order are given, and to none of these devices: by an import, as a restore makes it of the
+    journals, too. Orders without such are left out."""
 
     orders: Mapping[str, Reply]
     listed: Sequence[Listed]
+    missing: Mapping[str, int]
 
 
 def lot_of(station: Station, names: Sequence[str]) -> Lot:
     """The devices of these orders, or of all of them where none is named, as they were at one moment."""
     orders = {name: gathering.order(station, name) for name in names or station.report()}
-    counts = _counts(station, orders)
+    counts = _counts(station.report(), orders, WITH_RECORD)
     for _ in range(LOOKS):
         listed = [it for it in gathering.devices(station) if it.order in orders]
-        before, counts = counts, _counts(station, orders)
+        report = station.report()
+        before, counts = counts, _counts(report, orders, WITH_RECORD)
         if counts == before:
             _count(listed, counts)
-            return Lot(orders, [it for it in listed if it.serial is not None])
+            with_serial = [it for it in listed if it.serial is not None]
+            return Lot(orders, with_serial, _missing(with_serial, _counts(report, orders, GIVEN)))
     raise Unsteady(f"devices got on while their list was read, {LOOKS} times")
 
 
-def _counts(station: Station, orders: Mapping[str, Reply]) -> dict[str, dict[str, int]]:
-    """How many devices of each order a report counts in each state with a record. None of these sums, nor one behind
-    another, falls and rises again: where all are as before, no device got one or went on."""
-    report = station.report()
+def _counts(report: Counts, orders: Mapping[str, Reply], names: Sequence[str]) -> Counts:
+    """Some columns of a report, for each order: by the states with a record, how many devices are in each. None of
+    these sums, nor one behind another, falls and rises again: where all are as before, no device got one or went on."""
     try:
-        return {name: {state: report[name][state] for state in WITH_RECORD} for name in orders}
+        return {order: {name: report[order][name] for name in names} for order in orders}
     except KeyError as error:
         raise NotTheServer(f"the report lacks {error}", "Look what answers at the server's address.") from error
 
 
-def _count(listed: Sequence[Listed], counts: Mapping[str, Mapping[str, int]]) -> None:
+def _missing(listed: Sequence[Listed], counts: Counts) -> dict[str, int]:
+    """How many serial numbers of each order are given, and to none of these devices."""
+    own = Counter(it.order for it in listed)
+    missing = {order: it["quantity"] - it["serials_left"] - own[order] for order, it in counts.items()}
+    return {order: number for order, number in missing.items() if number > 0}
+
+
+def _count(listed: Sequence[Listed], counts: Counts) -> None:
     """Compares the list with the report, and serial numbers with states."""
     found = Counter((it.order, it.state) for it in listed)
     for order, expected in counts.items():

@@ -73,6 +73,7 @@ def main(settings: Settings, args: argparse.Namespace) -> int:
         with Progress("records") as told:
             told.waits("the report and the list of devices")
             lot = lot_of(station, args.orders)
+            _warn_of_missing(lot)
             with _part_of(file, settings) as part:
                 rows = gathered((station, second), lot, part, told)
     rows = sorted(rows, key=lambda row: (row["order"], row["serial"]))
@@ -89,6 +90,13 @@ def main(settings: Settings, args: argparse.Namespace) -> int:
     counts = {state: sum(row["state"] == state for row in rows) for state in WITH_RECORD}
     say_json({"file": str(file), "orders": len(lot.orders), "records": len(rows), **counts})
     return 0
+
+
+def _warn_of_missing(lot: Lot) -> None:
+    """Tells of serial numbers that are given, and of whose devices the store knows nothing."""
+    for order, number in sorted(lot.missing.items()):
+        told = "they were imported, or a restore of the store brought them back without their devices"
+        warn(f"warning: {number} serial numbers of {order} are given and not in this list: {told} (wanekupo issued)")
 
 
 def text_of(names: Sequence[str], rows: Sequence[Row], as_json: bool) -> str:
