@@ -153,6 +153,7 @@ class Image:
             else:
                 self.put(path, str(path), 0o644)
         (self.tree / "usr/bin/python3").symlink_to("python3.11")
+        (self.tree / "usr/bin/env").symlink_to("/bin/busybox")
         self.put_scripts()
         return self.pack()
 
