@@ -119,7 +119,7 @@ class Pair:
             if time.monotonic() > end:
                 log = guest.ask("dmesg | tail -25")
                 raise SilentGuest(f"{guest.name} is {state} and not {form} after {seconds:.0f} s: {log}")
-            time.sleep(0.3)
+            time.sleep(0.7)
         return state
 
     def wait_for(self, is_so: Callable[[], bool], seconds: float, told: str) -> None:
