@@ -27,8 +27,9 @@ def one_comes_back(place: Place) -> None:
         place.swap()
     place.pair.start(place.second)
     place.tell(f"alone: {place.pair.wait_state(place.second, 'Consistent/DUnknown|UpToDate/DUnknown', SEEN)}")
+    seen = time.monotonic() - moment
     place.refused("one comes back, without a word", place.second, "", NO_WORD)
-    place.taken_over("power of both, one comes back", moment, place.off())
+    place.taken_over("power of both, one comes back", seen, place.off())
     back(place, place.first)
     place.swap()
 
@@ -40,7 +41,7 @@ def killed(place: Place) -> None:
     moment = time.monotonic()
     place.first.cut()
     place.pair.address.move(None)
-    is_alone(place, place.second, moment)
+    seen = is_alone(place, place.second, moment)
     words = f"takeover --witness /run/witness {place.off()}"
     place.pair.script(place.second, f"takeover {place.off()}")
     place.second.put(place.line.witness(), "/run/witness")
@@ -55,7 +56,7 @@ def killed(place: Place) -> None:
     place.second.cut()
     place.pair.start(place.second)
     place.refused("killed, and rebooted, without a word", place.second, "", NO_WORD)
-    place.taken_over("a takeover was killed, and its machine", moment, place.off())
+    place.taken_over("a takeover was killed, and its machine", seen, place.off())
     back(place, place.first)
     place.swap()
 
@@ -79,9 +80,9 @@ def both_written(place: Place) -> None:
     """Two words that weren't true: the second takes over from a frozen first, and the first is told to go on. Nothing
     is thrown away, nobody takes over, and the page's section joins both by the half that has the witness's numbers."""
     place.work()
-    moment, numbers = place.cable_cut(), place.numbers()
-    is_alone(place, place.second, moment)
-    place.taken_over("both written: the second", moment, place.off())
+    seen, numbers = place.cable_cut(), place.numbers()
+    is_alone(place, place.second, time.monotonic())
+    place.taken_over("both written: the second", seen, place.off())
     place.line.wait_for(3 * BEHIND, ANSWERS)
     place.word()
     written = [it for it in place.answers(place.first, numbers) if "POST" in it and " 200 " in it]
@@ -101,7 +102,6 @@ def both_written(place: Place) -> None:
 def joined_by_the_page(place: Place, newer: Guest, older: Guest) -> None:
     """`Where both were written`: what the page has the operator type."""
     place.pair.address.move(None)
-    moment = time.monotonic()
     for guest in (newer, older):
         place.tell(place.pair.ask_script(guest, "stepdown --alone"))
         guest.put(place.line.witness(), "/run/witness")
@@ -115,4 +115,4 @@ def joined_by_the_page(place: Place, newer: Guest, older: Guest) -> None:
     newer.ask("drbdadm disconnect station; drbdadm connect station", 120)
     place.pair.wait_joined()
     place.swap() if place.second is not newer else None
-    place.taken_over("both written: joined", moment, "")
+    place.taken_over("both written: joined", 0.0, "")

@@ -49,7 +49,7 @@ def moved(place: Place) -> None:
             place.tell(place.pair.ask_script(place.first, "stepdown"))
             place.tell(place.pair.ask_script(place.second, "takeover"))
             router.move(own, place.second.port)
-            cut = Cut("a part moves", taken=time.monotonic() - moment)
+            cut = Cut("a part moves", takeover=time.monotonic() - moment)
             place.line.wait_for(BEHIND, ANSWERS)
             cut.replied = place.line.longest_stand(moment)
             stand = max(line.longest_stand(moment) for line in rest)

@@ -32,15 +32,14 @@ DISK_FAILS = (
 
 @dataclass
 class Cut:
-    """What came of one thing that befell: from then on in seconds, until DRBD saw it, until the store was taken over,
-    and until the next reply; of these how long `takeover` took, and of a processor's time in that."""
+    """What came of one thing that befell, in seconds: until DRBD saw it, how long `takeover` took, the time of a
+    processor in that, and from then on until the next reply. What the operator takes in between is none of these."""
 
     name: str
     seen: float = 0.0
-    taken: float = 0.0
-    replied: float = 0.0
     takeover: float = 0.0
     used: float = 0.0
+    replied: float = 0.0
 
 
 @dataclass
@@ -87,19 +86,16 @@ class Place:
         """The words of `takeover` on the second, which say that the first is off."""
         return f"--other-is-off {self.first.name}"
 
-    def taken_over(self, name: str, moment: float, words: str) -> None:
+    def taken_over(self, name: str, seen: float, words: str) -> None:
         """The second takes the store over, and the line goes on. What was measured is kept."""
-        cut = Cut(name, seen=time.monotonic() - moment)
         start, used = time.monotonic(), self.second.used()
         status, said = self.pair.take_over(self.second, self.line.witness, words)
-        cut.takeover, cut.taken = time.monotonic() - start, time.monotonic() - moment
-        cut.used = self.second.used() - used
+        end, used = time.monotonic(), self.second.used() - used
         self.tell(said)
         if status:
-            raise SystemExit(f"FAILED: {name}: {self.second.name}: {said}")
+            raise SystemExit(f"{name}: {self.second.name}: {said}")
         self.line.wait_for(BEHIND, ANSWERS)
-        cut.replied = self.line.first_after(moment + cut.taken) - moment
-        self.cuts.append(cut)
+        self.cuts.append(Cut(name, seen, end - start, used, self.line.first_after(end) - end))
 
     def refused(self, name: str, guest: Guest, words: str, told: str) -> None:
         """A takeover that has to be refused with these words, and to change nothing."""
@@ -113,11 +109,17 @@ class Place:
         self.refusals += status == 1
 
     def cable_cut(self) -> float:
-        """Cuts the cable, waits until the writes of the first are frozen, and returns when it was cut."""
+        """Cuts the cable, waits until the writes of the first are frozen, and returns how long that took."""
         moment = time.monotonic()
         self.pair.cable.cut()
         self.pair.wait_state(self.first, "^frozen", SEEN)
-        return moment
+        return time.monotonic() - moment
+
+    def next_reply(self) -> float:
+        """Waits until the line goes on, and returns how long the next reply took."""
+        moment = time.monotonic()
+        self.line.wait_for(BEHIND, ANSWERS)
+        return self.line.first_after(moment) - moment
 
     def word(self) -> None:
         """A person says on the first that the second is off."""

@@ -3,6 +3,7 @@
 import io
 import sqlite3
 import tarfile
+import time
 from pathlib import Path
 
 from standby_place.books import given_twice
@@ -31,13 +32,13 @@ def newer_half_lost(place: Place) -> None:
     """The first goes on alone, and is lost with its disk. The second is refused, and is restored, as the page says. No
     number and no address comes twice, and those that were given are there."""
     place.work()
-    moment = place.cable_cut()
+    place.cable_cut()
     place.word()
     place.line.wait_for(2 * BEHIND, ANSWERS)
     place.line.end()
     place.first.cut()
     place.pair.address.move(None)
-    is_alone(place, place.second, moment)
+    is_alone(place, place.second, time.monotonic())
     place.refused("the newer half is lost", place.second, place.off(), OLDER)
     stick(place)
     for words in TYPED.strip().splitlines():

@@ -28,9 +28,9 @@ def power_cut(place: Place) -> None:
     moment = time.monotonic()
     place.first.cut()
     place.pair.address.move(None)
-    is_alone(place, place.second, moment)
+    seen = is_alone(place, place.second, moment)
     place.refused("without a word", place.second, "", NO_WORD)
-    place.taken_over("power of the first", moment, place.off())
+    place.taken_over("power of the first", seen, place.off())
     back(place, place.first)
     place.swap()
 
@@ -39,7 +39,7 @@ def cable_then_power(place: Place) -> None:
     """(c): the cable is cut, the first is told that the second is off, goes on alone, and loses its power. The second
     is refused. The first comes back, goes on, and the second follows."""
     place.work()
-    moment = place.cable_cut()
+    seen = place.cable_cut()
     frozen = place.line.count()
     time.sleep(3)
     place.expect(place.line.count() == frozen, "(c): a frozen machine has answered")
@@ -47,12 +47,12 @@ def cable_then_power(place: Place) -> None:
     place.line.wait_for(BEHIND, ANSWERS)
     place.first.cut()
     place.pair.address.move(None)
-    is_alone(place, place.second, moment)
+    is_alone(place, place.second, time.monotonic())
     place.refused("(c)", place.second, place.off(), OLDER)
     place.pair.start(place.first)
     place.swap()
     place.refused("(c), the first", place.second, "", NO_WORD)
-    place.taken_over("cable, then power of the first", moment, place.off())
+    place.taken_over("cable, then power of the first", seen, place.off())
     place.swap()
     place.pair.cable.mend()
     place.pair.wait_joined()
@@ -65,6 +65,7 @@ def cable_then_both(place: Place) -> None:
     moment = time.monotonic()
     place.second.cut()
     place.pair.wait_state(place.first, "^frozen", SEEN)
+    seen = time.monotonic() - moment
     place.word()
     place.line.wait_for(BEHIND, ANSWERS)
     place.first.cut()
@@ -75,7 +76,7 @@ def cable_then_both(place: Place) -> None:
     place.pair.start(place.first)
     place.pair.wait_joined()
     place.swap()
-    place.taken_over("the second off, then power of the first", moment, "")
+    place.taken_over("the second off, then power of the first", seen, "")
     place.swap()
 
 
@@ -83,10 +84,9 @@ def both_alone(place: Place) -> None:
     """(d): the cable is cut, and both think that they are alone. The first is frozen, and the second takes over by a
     word that isn't true. The first must not answer, and nothing is thrown away by itself."""
     place.work()
-    moment = place.cable_cut()
-    numbers = place.numbers()
-    is_alone(place, place.second, moment)
-    place.taken_over("cable, and the first frozen", moment, place.off())
+    seen, numbers = place.cable_cut(), place.numbers()
+    is_alone(place, place.second, time.monotonic())
+    place.taken_over("cable, and the first frozen", seen, place.off())
     place.pair.wait_address_gone(place.first, SEEN)
     found = place.answers(place.first, numbers)
     place.expect(not found, f"(d): the frozen machine answers {found}")
@@ -107,14 +107,14 @@ def both_alone(place: Place) -> None:
 def both_alone_and_told(place: Place) -> None:
     """(d) with a first that was told, too: it has acknowledged what the second lacks, and the second is refused."""
     place.work()
-    moment = place.cable_cut()
+    cut = Cut("cable, and the first told", seen=place.cable_cut())
     place.word()
-    place.line.wait_for(BEHIND, ANSWERS)
-    is_alone(place, place.second, moment)
+    cut.replied = place.next_reply()
+    is_alone(place, place.second, time.monotonic())
     place.refused("(d), told", place.second, place.off(), OLDER)
     place.pair.cable.mend()
     place.pair.wait_joined()
-    place.cuts.append(Cut("cable, and the first told", seen=time.monotonic() - moment))
+    place.cuts.append(cut)
 
 
 def disk_fails(place: Place) -> None:
@@ -123,9 +123,10 @@ def disk_fails(place: Place) -> None:
     moment = time.monotonic()
     place.second.ask(DISK_FAILS, 60)
     place.pair.wait_state(place.first, "/(Diskless|Failed|DUnknown)$", SEEN)
-    place.line.wait_for(BEHIND, ANSWERS)
+    cut = Cut("disk of the second", seen=time.monotonic() - moment)
+    cut.replied = place.next_reply()
     place.tell(f"the disk failed: {place.pair.state(place.first)}")
-    place.cuts.append(Cut("disk of the second", seen=time.monotonic() - moment))
+    place.cuts.append(cut)
     status, said = place.pair.script(place.first, "stepdown")
     place.tell(said)
     place.expect(status == 1 and "isn't up to date" in said, f"(e): stepdown is {status}: {said}")
@@ -147,13 +148,13 @@ def disk_of_the_first_fails(place: Place) -> None:
     place.line.wait_for(BEHIND, ANSWERS)
     place.tell(place.pair.ask_script(place.first, "stepdown"))
     place.refused("(e), the first without a disk", place.first, "", "This half is Diskless")
-    place.taken_over("disk of the first", moment, "")
-    place.cuts[-1].seen = seen
-    place.first.cut()
-    is_alone(place, place.second, moment)
+    place.taken_over("disk of the first", seen, "")
     place.swap()
-    if place.pair.state(place.first).startswith("frozen"):
-        place.word()
+    place.second.ask("drbdadm down station", 120)
+    place.second.cut()
+    place.line.wait_for(BEHIND, ANSWERS)
+    state = place.pair.state(place.first)
+    place.expect(not state.startswith("frozen"), f"(e): taken down in order, the other one is {state}")
     new_disk(place, place.second)
     place.line.wait_for(BEHIND, ANSWERS)
 
@@ -167,9 +168,10 @@ def both_cut(place: Place) -> None:
     place.pair.address.move(None)
     place.pair.start(place.first, place.second)
     place.pair.wait_joined()
+    seen = time.monotonic() - moment
     if place.chance.random() < 0.5:
         place.swap()
-    place.taken_over("power of both", moment, "")
+    place.taken_over("power of both", seen, "")
     place.swap()
 
 
@@ -181,8 +183,8 @@ def hangs(place: Place) -> None:
     place.first.hang()
     numbers = place.numbers()
     place.pair.address.move(None)
-    is_alone(place, place.second, moment)
-    place.taken_over("the first hangs", moment, place.off())
+    seen = is_alone(place, place.second, moment)
+    place.taken_over("the first hangs", seen, place.off())
     place.first.wake()
     found = [it for it in place.answers(place.first, numbers) if "POST" in it and " 200 " in it]
     place.expect(not found, f"(g): the machine that woke up accepts {found}")
@@ -213,7 +215,7 @@ def upgrade(place: Place) -> None:
         place.second.ask("ln -sf /opt/station-2 /usr/local/bin/station")
         moment = time.monotonic()
         place.tell(place.pair.ask_script(place.first, "stepdown"))
-        place.taken_over("stepdown and takeover", moment, "")
+        place.taken_over("stepdown and takeover", time.monotonic() - moment, "")
         served = place.second.ask("readlink /proc/$(cat /run/station.pid)/exe")
         place.expect(served == "/opt/station-2", f"(h): {served} serves, and not the new program")
         place.pair.wait_joined()

@@ -6,9 +6,9 @@ from collections.abc import Iterable
 from standby_place.place import Cut
 from standby_place.runs import Run
 
-COLUMNS = ["Times", "Replies", "Serials", "Refused", "Seen", "Taken over", "Next reply", "`takeover`", "Processor"]
+COLUMNS = ["Times", "Replies", "Serials", "Refused", "Seen", "`takeover`", "Processor", "Reply"]
 HEAD = f"| What befell | {' | '.join(COLUMNS)} |\n|---|{len(COLUMNS) * '---:|'}"
-TIMES = ("seen", "taken", "replied", "takeover", "used")
+TIMES = ("seen", "takeover", "used", "replied")
 
 
 def seconds(values: Iterable[float]) -> str:

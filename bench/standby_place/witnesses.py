@@ -35,7 +35,7 @@ def bad_witnesses(place: Place) -> None:
     before, moment = place.line.witness(), time.monotonic()
     place.first.cut()
     place.pair.address.move(None)
-    is_alone(place, place.second, moment)
+    seen = is_alone(place, place.second, moment)
     place.refused("without a word", place.second, "", NO_WORD)
     own = f"--other-is-off {place.second.name}"
     place.refused("the name of another", place.second, own, "The other machine of this")
@@ -49,6 +49,6 @@ def bad_witnesses(place: Place) -> None:
         place.tell(f"a witness {what}: {said}")
         place.expect(status == 1 and told in said, f"a witness {what} isn't refused by {told!r}: {status}: {said}")
         place.refusals += status == 1
-    place.taken_over("power of the first", moment, place.off())
+    place.taken_over("power of the first", seen, place.off())
     back(place, place.first)
     place.swap()

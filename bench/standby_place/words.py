@@ -4,7 +4,7 @@ plant's own power switch, or a person who comes later than DRBD's tool waits."""
 import time
 
 from standby_place.pair import SCRIPTS, SEEN
-from standby_place.place import ANSWERS, BEHIND, Cut, Place, back, is_alone
+from standby_place.place import Cut, Place, back, is_alone
 from standby_place.power import PowerSwitch
 from standby_place.scenarios import NO_WORD
 
@@ -20,22 +20,18 @@ def cable_mended(place: Place) -> None:
     place.work()
     cut = Cut("cable, mended", seen=place.cable_cut())
     place.pair.wait_address_gone(place.first, SEEN)
-    cut.seen = time.monotonic() - cut.seen
     found = place.answers(place.first, place.numbers())
     place.expect(not found, f"the frozen machine answers {found}")
     status, said = place.pair.script(place.first, "stepdown")
     place.expect(status == 1 and "frozen" in said, f"stepdown of a frozen machine is {status}: {said}")
-    moment = time.monotonic()
+    mended(place, cut)
+
+
+def mended(place: Place, cut: Cut) -> None:
+    """The cable is whole: both halves become one, and the line goes on."""
     place.pair.cable.mend()
-    mended(place, moment, cut)
-
-
-def mended(place: Place, moment: float, cut: Cut) -> None:
-    """The cable is whole since a moment: both halves become one, and the line goes on."""
+    cut.replied = place.next_reply()
     place.pair.wait_joined()
-    cut.taken = time.monotonic() - moment
-    place.line.wait_for(BEHIND, ANSWERS)
-    cut.replied = place.line.first_after(moment) - moment
     place.cuts.append(cut)
 
 
@@ -45,9 +41,8 @@ def fenced(place: Place) -> None:
     with PowerSwitch(place.pair) as switch:
         switch.install(place.first, place.second)
         place.work()
-        moment = place.cable_cut()
-        place.line.wait_for(BEHIND, ANSWERS)
-        cut = Cut("cable, the switch asked by the first", replied=place.line.first_after(moment + 1) - moment)
+        cut = Cut("cable, the switch asked by the first", seen=place.cable_cut())
+        cut.replied = place.next_reply()
         place.cuts.append(cut)
         place.expect(not place.second.is_on(), "the power switch wasn't asked")
         place.pair.cable.mend()
@@ -57,8 +52,8 @@ def fenced(place: Place) -> None:
         moment = time.monotonic()
         place.first.cut()
         place.pair.address.move(None)
-        is_alone(place, place.second, moment)
-        place.taken_over("power of the first, the switch asked", moment, "")
+        seen = is_alone(place, place.second, moment)
+        place.taken_over("power of the first, the switch asked", seen, "")
         place.expect(switch.asked[-1] == place.first.name, f"the power switch was asked for {switch.asked}")
         back(place, place.first)
         place.swap()
@@ -70,8 +65,8 @@ def fence_fails(place: Place) -> None:
         switch.is_working = False
         switch.install(place.first, place.second)
         place.work()
-        moment = place.cable_cut()
-        is_alone(place, place.second, moment)
+        cut = Cut("cable, the switch is dead", seen=place.cable_cut())
+        is_alone(place, place.second, time.monotonic())
         place.refused("the switch doesn't answer", place.second, "", NO_WORD)
         place.pair.wait_for(lambda: len(switch.asked) > 1, SEEN, "the power switch wasn't asked by both")
         count = place.line.count()
@@ -80,8 +75,8 @@ def fence_fails(place: Place) -> None:
         place.expect(place.second.is_on(), "the power switch cut power that it didn't say")
         place.second.cut()
         place.word()
-        place.line.wait_for(BEHIND, ANSWERS)
-        place.cuts.append(Cut("cable, the switch is dead", replied=place.line.first_after(moment + 1) - moment))
+        cut.replied = place.next_reply()
+        place.cuts.append(cut)
         place.pair.cable.mend()
         back(place, place.second)
 
@@ -91,40 +86,35 @@ def frozen_long(place: Place) -> None:
     for guest in (place.first, place.second):
         guest.ask(f"grep -q '^{WAITS}$' {SCRIPTS}/fence-peer && sed -i 's/^{WAITS}$/{SHORT}/' {SCRIPTS}/fence-peer")
     place.work()
-    frozen_until_ended(place)
-    moment = time.monotonic()
-    place.pair.cable.mend()
-    mended(place, moment, Cut("cable, mended behind the handler's end"))
+    mended(place, Cut("cable, mended behind the handler's end", seen=frozen_until_ended(place)))
     place.work()
-    frozen_until_ended(place)
-    moment = time.monotonic()
+    cut = Cut("cable, a word behind the handler's end", seen=frozen_until_ended(place))
     place.second.cut()
     place.word()
     place.tell(f"a word behind the handler's end: {place.pair.state(place.first)}")
-    place.line.wait_for(BEHIND, ANSWERS)
-    place.cuts.append(Cut("cable, a word behind the handler's end", replied=place.line.first_after(moment) - moment))
+    cut.replied = place.next_reply()
+    place.cuts.append(cut)
     place.pair.cable.mend()
     back(place, place.second)
 
 
-def frozen_until_ended(place: Place, seconds: float = 120) -> None:
-    """The cable is cut, and DRBD's tool has no handler any more that waits for a word."""
-    place.cable_cut()
+def frozen_until_ended(place: Place, seconds: float = 120) -> float:
+    """The cable is cut, and DRBD's tool has no handler any more that waits for a word. Returns as `cable_cut`."""
+    seen = place.cable_cut()
     form = "ps w | grep -q '[d]rbdadm fence-peer'"
     place.pair.wait_for(lambda: place.first.run(form)[0] == 1, seconds, "the handler waits still")
     place.tell(f"the handler has ended: {place.pair.state(place.first)}")
     place.expect(place.pair.state(place.first).startswith("frozen"), "the first isn't frozen behind the handler's end")
+    return seen
 
 
 def frozen_ten_minutes(place: Place) -> None:
     """The same with the ten minutes that are deployed."""
     place.work()
-    frozen_until_ended(place, 900)
-    moment = time.monotonic()
+    cut = Cut("cable, a word behind ten minutes", seen=frozen_until_ended(place, 900))
     place.second.cut()
     place.word()
-    place.line.wait_for(BEHIND, ANSWERS)
-    cut = Cut("cable, a word behind ten minutes", replied=place.line.first_after(moment) - moment)
+    cut.replied = place.next_reply()
     place.cuts.append(cut)
     place.pair.cable.mend()
     back(place, place.second)
