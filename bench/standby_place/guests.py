@@ -8,6 +8,7 @@ import secrets
 import select
 import signal
 import subprocess
+import threading
 import time
 from pathlib import Path
 
@@ -20,12 +21,14 @@ TRANSLATED = 192
 BOOT = 400
 
 
-# All machines of this run.
+# All machines of this run, and whether no more may be switched on.
 ALL: list["Guest"] = []
+OVER = threading.Event()
 
 
 def cut_all() -> None:
     """Cuts the power of all machines, where the script is stopped."""
+    OVER.set()
     for guest in ALL:
         guest.wake()
         guest.signal(signal.SIGKILL)
@@ -74,6 +77,8 @@ class Guest:
 
     def start(self) -> "Guest":
         """Switches it on, and waits until it is up."""
+        if OVER.is_set():
+            raise SilentGuest(f"{self.name} isn't switched on, as the script is stopped")
         self.heard, self.started = b"", time.monotonic()
         pipe, both = subprocess.PIPE, subprocess.STDOUT
         self.process = subprocess.Popen(self.words(), stdin=pipe, stdout=pipe, stderr=both, start_new_session=True)
