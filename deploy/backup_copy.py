@@ -5,13 +5,13 @@ Then sqlite3 counts, in its safe mode, in which it runs no command and writes no
 """
 
 import contextlib
+import errno
 import hashlib
 import json
 import os
 import pwd
 import shutil
 import subprocess
-import tempfile
 import time
 from collections.abc import Iterator
 from pathlib import Path
@@ -20,6 +20,9 @@ from whole_file import put_whole, sync
 
 FILES = ("books.db", "books.db-wal")
 ABOUT = "about.json"
+
+# The causes of a disk without room, and the bytes that a step may need beside copies: a disk with fewer is full.
+FULL, BESIDE = (errno.ENOSPC, errno.EDQUOT), 1 << 20
 
 # What is compared, a line each.
 COUNTED = """
@@ -34,10 +37,30 @@ class BackupError(Exception):
 
 
 def said_of(error: BaseException) -> str:
-    """What went wrong, in words: of a call to the machine the file and the cause."""
+    """What went wrong, in words: of a call to the machine the file, or both of a copy, and the cause."""
     if isinstance(error, OSError) and error.strerror:
-        return ": ".join(str(it) for it in (error.filename, error.strerror) if it)
+        files = " to ".join(str(it) for it in (error.filename, error.filename2) if it)
+        return ": ".join(it for it in (files, error.strerror) if it)
     return str(error) or type(error).__name__
+
+
+def size_of(*paths: Path) -> int:
+    return sum(it.stat().st_size for it in paths if it.exists())
+
+
+@contextlib.contextmanager
+def told_if_full(folder: Path, size: int, what: str) -> Iterator[None]:
+    """Where the disk of a folder has no room for a step, the error says so, and how much the step needs. Some files
+    are made by others, as sqlite3, whose words for a full disk are their own: so a disk that is full then is told."""
+    try:
+        yield
+    except (BackupError, OSError) as error:
+        is_full = isinstance(error, OSError) and error.errno in FULL
+        if not is_full and shutil.disk_usage(folder).free >= BESIDE:
+            raise
+        needed = -(-(size + BESIDE) // 10**6)
+        told = f"No space left at {folder}: {what} needs {needed} MB there"
+        raise BackupError(told if is_full else f"{said_of(error)}. {told}") from error
 
 
 def now() -> str:
@@ -102,13 +125,16 @@ def opened_by(program: str, site: str | Path, db: Path) -> bool:
 
 
 def _tried(program: str, site: str, folder: Path, store: str) -> list[str]:
-    """The numbers of the copy, which have to be the same once the program has opened a copy of it."""
-    with tempfile.TemporaryDirectory(prefix="trial.", dir=folder) as trial:
-        for name in FILES:
-            shutil.copyfile(folder / name, Path(trial, name))
-        if not opened_by(program, site, Path(trial, FILES[0])):
-            raise BackupError("the program refuses the copy")
-        before, after = counts_of(folder / FILES[0], store), counts_of(Path(trial, FILES[0]), store)
+    """The numbers of the copy, which have to be the same once the program has opened a copy of it. Where anything
+    fails, that copy goes with the folder."""
+    trial = folder / "trial"
+    trial.mkdir()
+    for name in FILES:
+        shutil.copyfile(folder / name, trial / name)
+    if not opened_by(program, site, trial / FILES[0]):
+        raise BackupError("the program refuses the copy")
+    before, after = counts_of(folder / FILES[0], store), counts_of(trial / FILES[0], store)
+    shutil.rmtree(trial)
     if before != after:
         raise BackupError(f"the copy has other rows once the program has opened it: {before} before, {after} after")
     return after
@@ -131,15 +157,16 @@ def about_of(program: str, folder: Path, counts: list[str], taken: str) -> str:
 
 
 @contextlib.contextmanager
-def _new_folder(folder: Path) -> Iterator[None]:
-    """A folder that wasn't there. Where anything fails within it is gone again."""
+def _new_folder(folder: Path, size: int) -> Iterator[None]:
+    """A folder that wasn't there, for files of so many bytes. Where anything fails within it is gone again."""
     try:
         folder.mkdir(mode=0o700)
     except OSError as error:
         told = f"{folder}: make the backup in a folder that wasn't there ({error.strerror})"
         raise BackupError(told) from error
     try:
-        yield
+        with told_if_full(folder.parent, size, "a backup"):
+            yield
     except BaseException:
         shutil.rmtree(folder, ignore_errors=True)
         raise
@@ -148,8 +175,9 @@ def _new_folder(folder: Path) -> Iterator[None]:
 def copy_for_trial(store: str, folder: Path) -> None:
     """Both files of a store in a snapshot, for a start that tries them and throws them away: nothing is counted."""
     db = look_at(store)
-    with _new_folder(folder):
-        for source, name in ((db, FILES[0]), (Path(f"{db}-wal"), FILES[1])):
+    log = Path(f"{db}-wal")
+    with _new_folder(folder, size_of(db, log)):
+        for source, name in zip((db, log), FILES):
             shutil.copyfile(source, folder / name)
 
 
@@ -158,8 +186,9 @@ def copy_store(program: str, site: str, store: str, folder: Path, taken: str = "
     db = look_at(store)
     if is_served(db):
         raise BackupError(f"{store} is locked: stop its server")
-    with _new_folder(folder):
-        for source, name in ((db, FILES[0]), (Path(f"{db}-wal"), FILES[1]), (Path(site), "site.toml")):
+    log = Path(f"{db}-wal")
+    with _new_folder(folder, 2 * size_of(db, log)):
+        for source, name in ((db, FILES[0]), (log, FILES[1]), (Path(site), "site.toml")):
             shutil.copyfile(source, folder / name)
             sync(folder / name)
         counts = _tried(program, site, folder, store)

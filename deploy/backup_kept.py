@@ -25,7 +25,7 @@ from collections.abc import Iterable
 from pathlib import Path
 from typing import Any
 
-from backup_copy import BackupError, now
+from backup_copy import BackupError, now, size_of, told_if_full
 from whole_file import held, put_whole, sync
 
 NAME = re.compile(r"(\d{4}-\d\d-\d\dT\d{6}Z)(?:\.tar\.age)?")
@@ -101,7 +101,10 @@ def encrypted(begun: Path, name: str, recipients: list[str]) -> Path:
 
 def placed(begun: Path, folder: Path, name: str, recipients: list[str]) -> Path:
     """The backup under its name. Of one that is encrypted nothing stays in plain."""
-    ready = encrypted(begun, name, recipients) if recipients else begun
+    ready = begun
+    if recipients:
+        with told_if_full(folder, bytes_of(begun), "its encryption"):
+            ready = encrypted(begun, name, recipients)
     path = folder / (f"{name}.tar.age" if recipients else name)
     os.rename(ready, path)
     if recipients:
@@ -111,7 +114,7 @@ def placed(begun: Path, folder: Path, name: str, recipients: list[str]) -> Path:
 
 
 def bytes_of(path: Path) -> int:
-    return sum(it.stat().st_size for it in path.iterdir()) if path.is_dir() else path.stat().st_size
+    return size_of(*path.iterdir()) if path.is_dir() else path.stat().st_size
 
 
 def copy_off(command: str, path: Path) -> None:
