@@ -30,8 +30,13 @@ def put_whole(path: Path, text: str) -> None:
     """Puts a text in a file's place, whole or not at all. Who calls it is alone with the file."""
     new = path.with_name(path.name + ".new")
     new.unlink(missing_ok=True)  # of a run that was cut
-    make_file(new, text)
-    os.replace(new, path)
+    try:
+        make_file(new, text)
+        os.replace(new, path)
+    except BaseException:
+        with contextlib.suppress(OSError):
+            new.unlink(missing_ok=True)
+        raise
     sync(path.parent)
 
 
