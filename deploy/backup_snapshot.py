@@ -26,6 +26,10 @@ TRIES = 50
 STOPS = (signal.SIGTERM, signal.SIGINT, signal.SIGHUP)
 
 
+class SnapshotStaysError(BackupError):
+    """A snapshot that was whole to its end, and can't be removed."""
+
+
 @contextlib.contextmanager
 def whole() -> Iterator[None]:
     """A signal that would end this run waits: of a command that is killed in the middle a volume may stand still."""
@@ -248,6 +252,7 @@ def volume_of(kind: str, db: Path, size: str) -> Volume:
 def snapshot(volume: Volume) -> Iterator[Path]:
     """The store's file in a snapshot, which is gone behind it. Where the snapshot isn't whole at the end, what was read
     of it is nothing."""
+    is_whole = False
     try:
         db = volume.made()
         try:
@@ -256,6 +261,10 @@ def snapshot(volume: Volume) -> Iterator[Path]:
             raise BackupError(volume.fault() or str(error)) from error
         if fault := volume.fault():
             raise BackupError(fault)
+        is_whole = True
     finally:
         with whole():
-            volume.removed()
+            try:
+                volume.removed()
+            except BackupError as error:
+                raise (SnapshotStaysError if is_whole else BackupError)(str(error)) from error
