@@ -23,7 +23,7 @@ from collections.abc import Iterator
 from pathlib import Path
 from typing import Any
 
-from backup_copy import FILES, digest_of_file
+from backup_copy import ABOUT, FILES, digest_of_file, size_of
 from restore_plan import RestoreError
 from whole_file import held, put_whole, sync
 
@@ -110,14 +110,31 @@ class Place:
 
     def state(self) -> dict[str, Any]:
         try:
-            return json.loads(self.begun.read_text(encoding="utf-8"))
+            found = json.loads(self.begun.read_text(encoding="utf-8"))
         except FileNotFoundError:
             return {}
+        except ValueError:
+            found = None
+        if not isinstance(found, dict) or not isinstance(found.get("lost", ""), str):
+            raise RestoreError(f"{self.begun} is damaged: {self._mended()}, and begin again")
+        return found
+
+    def _mended(self) -> str:
+        """What to do with a file that doesn't say any more where the lost store's files are."""
+        names = [it.name for it in self.folder.glob("lost-*") if all((it / own.name).exists() for own in self.own_files())]
+        return f"""write {json.dumps({"lost": max(names)})} into it""" if names else "remove it"
 
     def keep(self, **changes: Any) -> None:
         put_whole(self.begun, json.dumps({**self.state(), **changes}) + "\n")
 
     # The files.
+
+    def needs(self, backup: Path) -> int:
+        """The bytes that a restore adds here: the backup's, and those of the lost store, of which it makes a copy and
+        whose rows it brings back."""
+        lost = self.lost()
+        files = [*self.own_files(), *((lost, Path(f"{lost}-wal")) if lost else ())]
+        return size_of(*(backup / name for name in FILES)) + 2 * size_of(*files)
 
     def begin(self, backup: Path) -> None:
         """The backup's files in the folder of this restore, under other names than the store's."""
@@ -173,16 +190,38 @@ class Place:
 # The program over the restored store.
 
 
+def check_folders(backup: Path, backups: Path) -> None:
+    """Refuses what is no backup's folder, and a folder that takes no backup of the restored store at the end."""
+    if backup.name.endswith(".age"):
+        raise RestoreError(f"{backup} is encrypted: decrypt it first, where its key is, and give the folder that is in it")
+    if backup.is_file():
+        raise RestoreError(f"{backup} is no folder: give the folder of a backup")
+    if not os.access(backups, os.W_OK | os.X_OK):
+        told = f"the restored store is backed up in {backups}, which isn't there, is read-only or is another user's"
+        raise RestoreError(f"{told}: name another folder by --backups. Nothing was moved")
+
+
+def said_in(backup: Path) -> dict[str, Any]:
+    """What a backup says of itself; nothing of one by an earlier program."""
+    try:
+        about = json.loads((backup / ABOUT).read_text(encoding="utf-8"))
+    except FileNotFoundError:
+        return {}
+    except ValueError:
+        about = None
+    digests, counts = (about.get(it) for it in ("sha256", "counts")) if isinstance(about, dict) else (None, None)
+    if not isinstance(digests, dict) or not set(FILES) <= set(digests) or not isinstance(counts, list):
+        raise RestoreError(f"{backup / ABOUT} is damaged: take another backup")
+    return about
+
+
 def check_backup(backup: Path) -> dict[str, Any]:
-    """What a backup says of itself, where its files are those that it names; nothing of one by an earlier program."""
+    """What a backup says of itself, where its files are those that it names."""
     for name in FILES:
         if not (backup / name).is_file() or not (backup / name).stat().st_size:
             raise RestoreError(f"{backup} has no {name}, or an empty one: it is no backup")
-    try:
-        about = json.loads((backup / "about.json").read_text(encoding="utf-8"))
-    except FileNotFoundError:
-        return {}
-    for name in FILES:
+    about = said_in(backup)
+    for name in FILES if about else ():
         if digest_of_file(backup / name) != about["sha256"][name]:
             raise RestoreError(f"{backup / name} isn't as it was made: take another backup")
     return about

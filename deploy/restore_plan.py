@@ -12,6 +12,7 @@ from dataclasses import dataclass, field
 from pathlib import Path
 from typing import Any
 
+from backup_copy import BackupError
 from token_file import TokenError, read, tokens_of
 from wanekupo.errors import StationError
 from wanekupo.journal import OF_A_DAY, SUFFIX, Asked, journals_of, merged, placed_lines_of, serials_of
@@ -20,7 +21,7 @@ from wanekupo.journal import OF_A_DAY, SUFFIX, Asked, journals_of, merged, place
 OWN = "restore"
 
 
-class RestoreError(Exception):
+class RestoreError(BackupError):
     """Why a restore doesn't go on; nothing was put in place."""
 
 
