@@ -121,8 +121,9 @@ class Place:
 
     def _mended(self) -> str:
         """What to do with a file that doesn't say any more where the lost store's files are."""
-        names = [it.name for it in self.folder.glob("lost-*") if all((it / own.name).exists() for own in self.own_files())]
-        return f"""write {json.dumps({"lost": max(names)})} into it""" if names else "remove it"
+        own = [it.name for it in self.own_files()]
+        names = [it.name for it in self.folder.glob("lost-*") if all((it / name).exists() for name in own)]
+        return f"write {json.dumps({'lost': max(names)})} into it" if names else "remove it"
 
     def keep(self, **changes: Any) -> None:
         put_whole(self.begun, json.dumps({**self.state(), **changes}) + "\n")
@@ -193,7 +194,8 @@ class Place:
 def check_folders(backup: Path, backups: Path) -> None:
     """Refuses what is no backup's folder, and a folder that takes no backup of the restored store at the end."""
     if backup.name.endswith(".age"):
-        raise RestoreError(f"{backup} is encrypted: decrypt it first, where its key is, and give the folder that is in it")
+        told = f"{backup} is encrypted: decrypt it first, where its key is"
+        raise RestoreError(f"{told} (age -d -i KEY FILE | tar -x), and give the folder that comes of it")
     if backup.is_file():
         raise RestoreError(f"{backup} is no folder: give the folder of a backup")
     if not os.access(backups, os.W_OK | os.X_OK):
