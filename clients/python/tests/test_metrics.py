@@ -224,6 +224,23 @@ class Metrics(StationCase):
         (backups / "last-backup.json").write_text("[]", encoding="utf-8")
         self.assertIn("doesn't say how the last backup ended", self.metrics("--backups", backups)[1])
 
+    def test_a_backup_that_took_no_note(self):
+        """The unit failed behind the note of a good one, as where the disk is full: systemd knows it."""
+        note = {"at": "2026-11-29T02:00:07Z", "ok": True, "bytes": 12_000, "said": "fine"}
+        (self.folder / "last-backup.json").write_text(json.dumps(note), encoding="utf-8")
+        pid = self.program.process.pid
+        for result, at, expected in (
+            ("exit-code", "@1795917608", 0),
+            ("timeout", "@1796004007", 0),
+            ("exit-code", "@1795917606", 1),
+            ("success", "@1796004007", 1),
+            ("success", "", 1),
+        ):
+            server = {"MainPID": pid, "NRestarts": 0, "MemoryMax": "infinity"}
+            environment = self.systemctl(**server, Result=result, ExecMainExitTimestamp=at)
+            found, told = self.metrics("--unit", "station", "--backups", self.folder, **environment)
+            self.assertEqual((found["wanekupo_backup_success"], told), (expected, ""), (result, at))
+
 
 class Journals(StationCase):
     """What is read of journals, and only once."""

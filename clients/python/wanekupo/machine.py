@@ -25,16 +25,16 @@ LARGE_PAGE = 4096
 # How long another program may take to answer, in seconds, and the most that is read of a page of nginx.
 LONGEST, LONGEST_PAGE = 10, 4096
 
-# The file that the tool for backups leaves in their folder.
-LAST_BACKUP = "last-backup.json"
+# The file that the tool for backups leaves in their folder, and the unit that runs it.
+LAST_BACKUP, BACKUP_UNIT = "last-backup.json", "station-backup"
 
 
 # The process.
 
 
-def properties_of(unit: str) -> dict[str, str]:
-    """What systemd says of the server's unit."""
-    words = ["systemctl", "show", unit, "--property=MainPID,NRestarts,MemoryMax"]
+def properties_of(unit: str, *names: str) -> dict[str, str]:
+    """What systemd says of a unit; of a moment the seconds since 1970 behind an @."""
+    words = ["systemctl", "show", unit, "--timestamp=unix", f"--property={','.join(names)}"]
     try:
         done = subprocess.run(words, capture_output=True, text=True, check=True, timeout=LONGEST)
     except (OSError, subprocess.SubprocessError) as error:
@@ -68,7 +68,7 @@ def _kilobytes(file: str, name: str) -> int:
 
 def add_server(samples: Samples, unit: str) -> str:
     """The server's process; gives what this start of it is known by."""
-    properties = properties_of(unit)
+    properties = properties_of(unit, "MainPID", "NRestarts", "MemoryMax")
     pid = pid_of(properties)
     moment, start = start_of(pid)
     samples.add("wanekupo_server_start_time_seconds", moment)
@@ -155,12 +155,21 @@ def add_requests(
 # The last backup.
 
 
-def add_backup(samples: Samples, folder: Path) -> None:
+def failed_behind(moment: float) -> bool:
+    """Whether the backups' unit failed behind a moment: a disk that is full or read-only takes no note of that."""
+    shown = properties_of(BACKUP_UNIT, "Result", "ExecMainExitTimestamp")
+    at = re.fullmatch(r"@(\d+)", shown.get("ExecMainExitTimestamp", ""))
+    return at is not None and shown.get("Result") != "success" and int(at[1]) > moment
+
+
+def add_backup(samples: Samples, folder: Path, has_unit: bool) -> None:
+    """The last backup, by its note, and where systemd runs the backups by their unit's failure behind that."""
     file = folder / LAST_BACKUP
     try:
         last = json.loads(file.read_text(encoding="utf-8"))
         ended = moment_of(last["at"]).timestamp()
-        values = {"timestamp_seconds": ended, "success": last["ok"] is True, "bytes": int(last["bytes"] or 0)}
+        is_fine = last["ok"] is True and not (has_unit and failed_behind(ended))
+        values = {"timestamp_seconds": ended, "success": is_fine, "bytes": int(last["bytes"] or 0)}
     except (ValueError, KeyError, TypeError) as error:
         raise StationError(f"{file} doesn't say how the last backup ended", "Make a backup.") from error
     for name, value in values.items():

@@ -104,7 +104,7 @@ class Run:
         if args.status:
             yield "requests", "", self._requests
         if args.backups:
-            yield "backup", "", partial(add_backup, folder=args.backups)
+            yield "backup", "", partial(add_backup, folder=args.backups, has_unit=bool(args.unit))
         if args.journals:
             yield "journals", "", partial(add_journals, kept=self.kept.part("journals"), folders=args.journals)
         if args.shift:
