@@ -2,6 +2,7 @@
 in front of several programs."""
 
 import contextlib
+import random
 import select
 import signal
 import socket
@@ -15,7 +16,9 @@ HOST = "127.0.0.1"
 FRAME, PART = 1 << 16, 1 << 16
 
 
-# The ports that were handed out: a scenario beside this one may not have begun to listen.
+# Ports that no machine gives by itself, and those of them that were handed out: a scenario beside this one may not have
+# begun to listen.
+PORTS = range(20000, 32000)
 GIVEN: set[int] = set()
 GIVING = threading.Lock()
 
@@ -25,12 +28,12 @@ def free_ports(count: int, kind: int = socket.SOCK_STREAM) -> list[int]:
     found: list[int] = []
     with GIVING:
         while len(found) < count:
-            with socket.socket(socket.AF_INET, kind) as each:
-                each.bind((HOST, 0))
-                port = each.getsockname()[1]
-            if port not in GIVEN:
-                GIVEN.add(port)
-                found.append(port)
+            port = random.choice(PORTS)
+            with socket.socket(socket.AF_INET, kind) as each, contextlib.suppress(OSError):
+                each.bind((HOST, port))
+                if port not in GIVEN:
+                    GIVEN.add(port)
+                    found.append(port)
     return found
 
 
@@ -41,12 +44,12 @@ class Cable:
     frame, and nobody is told."""
 
     def __init__(self) -> None:
-        own, other = free_ports(2, socket.SOCK_DGRAM), []
+        ports = free_ports(4, socket.SOCK_DGRAM)
+        own, other = ports[:2], ports[2:]
         self.sockets = [socket.socket(socket.AF_INET, socket.SOCK_DGRAM) for _ in own]
-        for each in self.sockets:
+        for each, port in zip(self.sockets, other):
             each.setsockopt(socket.SOL_SOCKET, socket.SO_RCVBUF, 1 << 22)
-            each.bind((HOST, 0))
-            other.append(each.getsockname()[1])
+            each.bind((HOST, port))
         self.ends = list(zip(own, other))
         self.is_whole, self.is_over, self.lost, self.cuts = True, False, 0, 0
         self.thread = threading.Thread(target=self.hand_on, daemon=True)
