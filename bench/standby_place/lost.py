@@ -63,7 +63,7 @@ def killed(place: Place) -> None:
 
 def killed_at_start(place: Place, words: str) -> None:
     """A takeover whose process is killed as it starts the server. It has become primary, and begun again it goes on."""
-    own = place.second.ask(f"cat {SETTINGS}")
+    own = place.second.ask(f"cat {SETTINGS}") + "\n"
     place.second.put(own.replace("/sbin/server start", "/sbin/kill-parent"), SETTINGS)
     status, said = place.pair.script(place.second, words)
     place.tell(said)
