@@ -12,7 +12,9 @@ STANDBY = "usr/share/wanekupo/standby"
 RESOURCE = "etc/drbd.d/station.res"
 # Takes away the takeover's test of what DRBD runs with.
 UNTESTED: Edit = (f"{STANDBY}/takeover", "    needed.test(half)\n", "")
+# DRBD itself refuses A beside this fencing, and takes B.
 PROTOCOL_A: Edit = (RESOURCE, "protocol C;", "protocol A;")
+PROTOCOL_B: Edit = (RESOURCE, "protocol C;", "protocol B;")
 DONT_CARE: Edit = (RESOURCE, "fencing resource-and-stonith;", "fencing dont-care;")
 DISCARD: Edit = (RESOURCE, "after-sb-0pri disconnect;", "after-sb-0pri discard-least-changes;")
 
@@ -29,8 +31,9 @@ class Plant:
 # What stands in the place of a test.
 NEVER = "    if False:\n"
 PLANTS = {
-    "protocol-a": Plant((PROTOCOL_A,), "a", "`protocol` is A"),
-    "protocol-a-untested": Plant((PROTOCOL_A, UNTESTED), "d", "This half is an older one"),
+    "protocol-a": Plant((PROTOCOL_A,), "a", "only with prot B or C allowed"),
+    "protocol-b": Plant((PROTOCOL_B,), "a", "`protocol` is B"),
+    "protocol-a-untested": Plant((PROTOCOL_A, DONT_CARE, UNTESTED), "d", "not ^frozen"),
     "dont-care": Plant((DONT_CARE,), "a", "`fencing` is dont-care"),
     "dont-care-untested": Plant((DONT_CARE, UNTESTED), "d", "not ^frozen"),
     "discard": Plant((DISCARD,), "a", "`after-sb-0pri` is discard-least-changes"),
