@@ -150,11 +150,11 @@ def disk_of_the_first_fails(place: Place) -> None:
     place.refused("(e), the first without a disk", place.first, "", "This half is Diskless")
     place.taken_over("disk of the first", seen, "")
     place.swap()
+    # A half without a disk can't note that it is the older one, so the other machine freezes here too.
     place.second.ask("drbdadm down station", 120)
     place.second.cut()
-    place.line.wait_for(BEHIND, ANSWERS)
-    state = place.pair.state(place.first)
-    place.expect(not state.startswith("frozen"), f"(e): taken down in order, the other one is {state}")
+    place.pair.wait_state(place.first, "^frozen", SEEN)
+    place.word()
     new_disk(place, place.second)
     place.line.wait_for(BEHIND, ANSWERS)
 
