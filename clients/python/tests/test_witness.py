@@ -5,8 +5,8 @@ from __future__ import annotations
 import json
 import re
 
-from support import MAP, ORDER, StationCase
 from commanding import ran
+from support import MAP, ORDER, StationCase
 
 from wanekupo.errors import NoReply, Refused
 from wanekupo.journal import Journal
