@@ -139,7 +139,7 @@ def filling(bench, junk):
 
 def test_full(bench):
     """The pool fills up in the middle of a backup: that backup is whole, and the server's stations wait. Of a full pool
-    no snapshot is made, and one that was left goes. Once there is room, all goes on."""
+    one is made too, as ZFS keeps room for a snapshot's own words. Once there is room, all goes on."""
     junk = bench.db.parent / "junk"
     bench.leave()
     done = bench.backup(program=filling(bench, junk))
@@ -149,8 +149,11 @@ def test_full(bench):
     if not until(lambda: bench.load.unkept):
         raise Failed("the pool isn't full")
     print(f"zfs: the pool fills up meanwhile: {done.stdout.splitlines()[-1]}")
-    refused(bench, "out of space")
-    bench.is_clean(None)
+    done = bench.backup()
+    if done.returncode:
+        raise Failed(f"of a full pool: {done}")
+    bench.is_clean(done)
+    print("zfs: of a full pool a backup is made")
     for path in junk.parent.glob("junk*"):
         path.unlink()
     acknowledged = bench.load.acknowledged
