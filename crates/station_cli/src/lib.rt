@@ -43,7 +43,8 @@
 //!
 //! So a store that `serve_site` opened, served over and left has a life (`served_files_have_lives`).
 //! The life begins with the tables of its file, and leaves what is found in the files that come back.
-//! A start that opens these is of a site that grew from this one (`later_starts_are_of_growths`).
+//! A start that opens these is of a site that grew from this one (`later_starts_are_of_growths`). A
+//! stream that `replay_stored` served over a store is such a start (`replays_are_starts`).
 //!
 //! A connection's two directions are served apart (`Duplex`), and tell what their streams tell. Where
 //! these tell their bytes, what was sent begins with the requests that were answered, and what the
@@ -89,7 +90,7 @@ pub use duplex::Duplex;
 pub use failure::Failure;
 pub use first_page::{PAGE_BYTES, empty_database};
 pub use job::{Job, StoreName, VERSION, WordsFault, job_from_env, read_job};
-pub use lives::{later_starts_are_of_growths, served_files_have_lives};
+pub use lives::{later_starts_are_of_growths, replays_are_starts, served_files_have_lives};
 pub use patience::Bounds;
 pub use private::make_store_file;
 pub use reporting::report;

@@ -1,12 +1,14 @@
 // What a store in a file comes to in one start of the program.
 ghost use Rattle.std.specs.Prelude.{◌≡◌};
+ghost use Rattle.http_frames.specs.Prelude.{requests_with_answers};
+ghost use Rattle.http_frames.specs.declared.serving.Served.{Served};
 ghost use Rattle.sqlite.specs.WalFiles.{image_at};
 ghost use Rattle.site_core.specs.Prelude.{IsGrowth, IsSite, IsSiteText, TextOfSite};
 ghost use Rattle.office_tables.specs.Prelude.{Tables};
 ghost use Rattle.office_store.specs.Prelude.{HasTablesOf, IsFoundSo, MayBeFound, TakesGrowth};
 ghost use Rattle.office_store.specs.declared.opening.Absent.{Absent};
-ghost use Rattle.station_api.specs.Prelude.{Life};
-ghost use Rattle.station_cli.specs.Prelude.{IsServedOver, LeadsOn};
+ghost use Rattle.station_api.specs.Prelude.{Life, ServesOver};
+ghost use Rattle.station_cli.specs.Prelude.{IsServedOver, LeadsOn, Traffic};
 
 use office_core::Keep;
 use office_store::{SqlKeep, opened_stores_tell_their_text};
@@ -42,3 +44,15 @@ pub fn later_starts_are_of_growths<S: Start>()
 {
     opened_stores_tell_their_text::<FileStore<FileFrom<S>>>();
 }
+
+/// A stream that `replay_stored` served over a store in a file (`books`) is a start of the program, as
+/// those of `serve_site` are, with the stream's exchanges. So the two laws above hold of it too.
+pub fn replays_are_starts<S: Start>()
+    ensures { (site : TextOfSite) (absent : Absent) (files : _) (traffic : Traffic) (ended : Served)
+        (served : IsServedOver site (image_at S.Start) absent
+        (ServesOver ⟦<SqlKeep<FileStore<FileFrom<S>>> as Keep>⟧ site.site traffic.input_old
+        traffic.input_new traffic.output_old traffic.output_new ended) files)
+        → (start : IsServedOver site (image_at S.Start) absent
+        (LeadsOn ⟦<SqlKeep<FileStore<FileFrom<S>>> as Keep>⟧ site.site) files)
+        × (start.leads.0 ≡ requests_with_answers served.leads.0) }
+{}
