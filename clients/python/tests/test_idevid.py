@@ -8,12 +8,13 @@ import os
 import re
 import tempfile
 import unittest
+from datetime import datetime, timezone
 from pathlib import Path
 
 from certifying import BEGINNING, END, need
 from commanding import NEEDS_KEYS
 
-from wanekupo.idevid import chain_fault, early_fault, faults_of, now
+from wanekupo.idevid import chain_fault, early_fault, faults_of, late_fault, now
 from wanekupo.spools import certificates_of
 
 SERIAL = "A998"
@@ -64,6 +65,7 @@ BROKEN = [
     ({"key": "ec -pkeyopt ec_paramgen_curve:secp224r1"}, "its key is on the curve secp224r1, and not RSA of 2048"),
     ({"key": "ec -pkeyopt ec_paramgen_curve:secp256k1"}, "its key is on the curve secp256k1, and not "),
     ({"key": "ec -pkeyopt ec_paramgen_curve:brainpoolP256r1"}, "its key is on the curve brainpoolP256r1, and not "),
+    ({"key": "dsa:dsa.pem"}, r"its key is of another kind \(DSAPublicKey\), and not RSA of 2048 bits or more, EC on "),
     ({"record": {"key_sha256": 64 * "0"}}, "it has another key than the record: the SHA-256 is .*, and not 0000"),
     # How it is signed, and its number.
     ({"md": "sha1"}, r"it is signed by ecdsa-with-SHA1 \(1.2.840.10045.4.1\), and not by ECDSA or RSA"),
@@ -136,6 +138,7 @@ class Idevid(unittest.TestCase):
         cls.addClassCleanup(folder.cleanup)
         cls.folder = Path(folder.name)
         (cls.folder / "index.txt").touch()
+        need(cls.folder, "openssl dsaparam -out dsa.pem 1024")
         for name, key in (("root", P256), ("rsa", RSA)):
             cls.made(name, "root" if name == "root" else name, {"key": key, "subject": f"/O=Acme/CN={name}"}, CA)
 
@@ -228,9 +231,21 @@ class Idevid(unittest.TestCase):
 
     def test_not_yet(self):
         """One that holds later alone, by its record; it may be issued before."""
-        for begins, is_early in (("20260101000000Z", False), (now().strftime("%Y%m%d%H%M%SZ"), False), (None, False),
-                                 ("20990101000000Z", True), ("99991231235958Z", True)):  # fmt: skip
-            self.assertEqual(len(list(early_fault({"not_before": begins}))), int(is_early), begins)
+        at = now().strftime("%Y%m%d%H%M%SZ")
+        for begins, is_early in ((BEGINNING, 0), (at, 0), (None, 0), ("20990101000000Z", 1), ("99991231235958Z", 1)):
+            self.assertEqual(len(list(early_fault({"not_before": begins}))), is_early, begins)
+
+    def test_long_before(self):
+        """Without a beginning in its record it begins when it is asked for, a day for clocks that differ."""
+        asked = datetime(2026, 1, 2, tzinfo=timezone.utc)
+        for start, begins, is_late in (
+            ("20260101000000Z", None, False),
+            ("20251231235959Z", None, True),
+            ("20251231235959Z", "20251231235959Z", False),
+        ):
+            certificate = self.made("device", "root", {"start": start}, OWN)
+            found = list(late_fault(certificate, {"not_before": begins}, asked))
+            self.assertEqual(found, [f"it begins at {start}, which isn't its time of issue"] if is_late else [])
 
 
 if __name__ == "__main__":
