@@ -1,5 +1,5 @@
-"""The CA of stations' certificates, deploy/ca/stations.cnf, by the commands at its head: a certificate has the name that
-the operator gives, whatever the request asks for."""
+"""The CA of stations' certificates, deploy/ca/stations.cnf, by the commands at its head: a certificate has the name
+that the operator gives, whatever the request asks for."""
 
 from __future__ import annotations
 
@@ -56,7 +56,7 @@ def certified(ca, name, asks="", more=""):
 
 
 def test_the_operator_names_it(ca):
-    """Its own name, another station's, other parts, a name that looks alike, and requests for rights of a CA or a server."""
+    """Its own name, another station's, other parts, a name that looks alike, and the rights of a CA and a server."""
     for name, asks, more in (
         ("pc1", "", ""),
         ("pc2", "/O=Our plant/CN=pc1", ""),
@@ -71,7 +71,8 @@ def test_the_operator_names_it(ca):
         wanted = ["X509v3 Basic Constraints: critical", "CA:FALSE", "X509v3 Key Usage: critical", "Digital Signature"]
         assert shown[1:7] == [*wanted, "X509v3 Extended Key Usage:", "TLS Web Client Authentication"]
         assert "station.example" not in text
-        keys = [ran(ca, f"openssl {it} -noout -pubkey").stdout for it in (f"x509 -in {name}.pem", f"req -in {name}.csr")]
+        files = (f"x509 -in {name}.pem", f"req -in {name}.csr")
+        keys = [ran(ca, f"openssl {it} -noout -pubkey").stdout for it in files]
         assert keys[0] == keys[1] != ""
 
 
@@ -84,7 +85,7 @@ def test_one_of_each_name(ca):
     assert (ca / "pc1.pem").read_bytes() == first
     ran(ca, commands()[1][0].replace("pc7", "pc2").replace("CN=pc2", "CN=pc1"))
     forgotten = ran(ca, "openssl ca -config ca.cnf -batch -notext -in pc2.csr -out pc2.pem")
-    assert forgotten.returncode != 0 and not (ca / "pc2.pem").exists() or not (ca / "pc2.pem").read_bytes()
+    assert forgotten.returncode != 0 and not (ca / "pc2.pem").exists()
     revoke = re.search(r"`(openssl ca .*-revoke pc7.pem)`", CONFIGURATION.read_text("utf-8"))[1]
     assert ran(ca, revoke.replace("pc7", "pc1")).returncode == 0
     assert certified(ca, "pc1") == (0, "subject=CN=pc1,O=Our plant")

@@ -1,4 +1,4 @@
-"""What the bench's page is sent as bytes: each is answered, or refused, and no more threads are there than it has room for.
+"""What the bench's page is sent as bytes: each is answered, or refused, and its threads are bounded.
 
 The statuses are those of RFC 9110; no browser and no server is needed.
 """
