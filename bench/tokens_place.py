@@ -19,30 +19,8 @@ SITE, CERTIFICATES = ROOT / "crates/station/data/site.toml", ROOT / "deploy/ngin
 # The tokens of the sample site's seats, which are inner ones here.
 INNER = {"a1": "abc", "b1": "hello", "@manager": "test"}
 
-# A CA by Debian's `openssl ca`, as on the page.
-CA = """[ca]
-default_ca = plant
-[plant]
-dir = .
-database = $dir/index.txt
-serial = $dir/serial
-new_certs_dir = $dir
-certificate = $dir/ca.pem
-private_key = $dir/ca.key
-default_md = sha256
-default_days = 825
-default_crl_days = 825
-policy = names
-unique_subject = no
-x509_extensions = client
-[names]
-organizationName = supplied
-commonName = supplied
-[client]
-basicConstraints = critical,CA:false
-keyUsage = critical,digitalSignature
-extendedKeyUsage = clientAuth
-"""
+# The CA of stations.
+STATIONS = ROOT / "deploy/ca/stations.cnf"
 
 
 def free_port():
@@ -225,10 +203,8 @@ class Place:
             ["openssl", "req", "-new", *curve, "-subj", subject, "-keyout", f"{name}.key", "-out", f"{name}.csr"],
             folder,
         )
-        done = ran(
-            ["openssl", "ca", "-config", "ca.cnf", "-batch", "-notext", "-in", f"{name}.csr", "-out", f"{name}.pem"],
-            folder,
-        )
+        signed = ["-batch", "-notext", "-subj", subject, "-in", f"{name}.csr", "-out", f"{name}.pem"]
+        done = ran(["openssl", "ca", "-config", "ca.cnf", *signed], folder)
         assert (asked.returncode, done.returncode) == (0, 0), done.stderr
         return ["--cert", f"{folder}/{name}.pem", "--key", f"{folder}/{name}.key"]
 
@@ -236,7 +212,7 @@ class Place:
         """A CA in a folder of its own."""
         folder = self.folder / name
         folder.mkdir()
-        (folder / "ca.cnf").write_text(CA, encoding="ascii")
+        (folder / "ca.cnf").write_bytes(STATIONS.read_bytes())
         (folder / "index.txt").touch()
         (folder / "serial").write_text("1000\n", encoding="ascii")
         curve = ["-newkey", "ec", "-pkeyopt", "ec_paramgen_curve:prime256v1", "-noenc", "-days", "3650"]

@@ -13,37 +13,16 @@ import time
 import unittest
 from unittest import mock
 
-from support import DIGEST, HOST, MAP, ROOT, StationCase, free_port
-from commanding import CLIENT, NEEDS_KEYS, ran
+from support import HOST, free_port
+from certifying import BEGINNING, END, ORDER, CertificateCase, need, run
+from commanding import CLIENT, NEEDS_KEYS
 
-BEGINNING, END = "20260101000000Z", "99991231235959Z"
 EXTENSIONS = [
     "X509v3 Basic Constraints: critical",
     "X509v3 Key Usage: critical",
     "X509v3 Subject Key Identifier:",
     "X509v3 Authority Key Identifier:",
 ]
-ORDER = {"name": "o1", "issuer": "acme-ca", "prefix": "A", "width": 3, "first": 1, "quantity": 30, "macs": 0}
-
-
-def run(folder, line):
-    return subprocess.run(line, shell=True, cwd=folder, capture_output=True, text=True, check=False)
-
-
-def need(folder, line):
-    done = run(folder, line)
-    assert done.returncode == 0, done.stderr
-    return done.stdout
-
-
-def made_ca(folder):
-    """A CA's folder by the commands at the head of deploy/ca/devices.cnf."""
-    folder.mkdir()
-    shutil.copy(ROOT / "deploy/ca/devices.cnf", folder / "ca.cnf")
-    lines = (folder / "ca.cnf").read_text(encoding="utf-8").splitlines()
-    commands = "\n".join(it.removeprefix("#     ") for it in lines if it.startswith("#     "))
-    need(folder, f"set -e\n{commands}")
-    return folder
 
 # The configurations of another command: what each changes in the right one.
 CONFIGURATIONS = {
@@ -70,9 +49,9 @@ def commands_of(another):
         (f"cat {another}", "it has another key than the record"),
         (SIGN.replace("$NOT_AFTER", "20991231235959Z"), "it ends at 20991231235959Z, and the record at 9999"),
         (SIGN.replace("$NOT_BEFORE", "20250101000000Z"), "it begins at 20250101000000Z, and the record at 2026"),
-        (SIGN.replace("$SERIAL", "A999"), "its subject has A999 as serialNumber"),
+        (SIGN.replace("$SERIAL", "A999"), "its subject is serialNumber=A999 as PrintableString, and not "),
         (SIGN.replace("right", "own"), "it is a CA's"),
-        (SIGN.replace("right", "usage"), "its keyUsage is another than digitalSignature alone"),
+        (SIGN.replace("right", "usage"), "its keyUsage is digital signature, key agreement, and not "),
         (SIGN.replace("right", "mild"), "its keyUsage is not critical"),
         (SIGN.replace("right", "without"), "it has no authorityKeyIdentifier"),
         (SIGN.replace("right", "more"), "critical"),
@@ -82,54 +61,7 @@ def commands_of(another):
 
 
 @NEEDS_KEYS
-class Certificates(StationCase):
-    def setUp(self):
-        super().setUp()
-        self.spool, self.pairs = self.folder / "spool", self.folder / "pairs"
-        self.spool.mkdir()
-        self.pairs.mkdir()
-        (self.folder / "look").write_text("abc", encoding="ascii")
-        self.ca = made_ca(self.folder / "ca")
-        self.seat = self.station()
-        self.seat.import_map(MAP)
-        self.seat.make_order(**ORDER, not_before=BEGINNING)
-        self.seat.make_order(**ORDER | {"name": "o2", "prefix": "B"})
-        self.made = 0
-
-    def device(self, order="o1", state="identified", subject=None):
-        """A device with a key pair of its own, and its request in the spool; its serial number."""
-        self.made += 1
-        mac = f"240ac40000{self.made:02x}"
-        self.seat.register(mac, order, DIGEST, self.chip(mac).read())
-        self.seat.plan(mac, [])
-        kind = "-newkey ec -pkeyopt ec_paramgen_curve:prime256v1 -noenc"
-        need(self.pairs, f"openssl req -new {kind} -subj '{subject or f'/CN={mac}'}' -keyout {mac}.key -out {mac}.csr")
-        need(self.pairs, f"openssl req -in {mac}.csr -noout -pubkey | openssl pkey -pubin -outform DER -out {mac}.der")
-        serial = self.seat.identify(mac, (self.pairs / f"{mac}.der").read_bytes()).serial
-        if state != "identified":
-            {"shipped": self.seat.ship, "scrapped": self.seat.scrap}[state](mac)
-        shutil.copy(self.pairs / f"{mac}.csr", self.spool / f"{serial}.csr")
-        return serial
-
-    def command(self, *words):
-        return ran("--url", self.program.url, "--token", self.folder / "look", *words)
-
-    def certify(self, *more):
-        status, out, err = self.command("certify", self.spool, "--ca-folder", self.ca, *more)
-        return status, json.loads(out) if out else None, err
-
-    def counted(self, issued, present, refused, *more):
-        """What a run counts; what it told is given."""
-        status, counts, err = self.certify(*more)
-        expected = {"issued": issued, "present": present, "refused": refused}
-        self.assertEqual((status, counts), (1 if refused else 0, expected), err)
-        return err
-
-    def in_index(self):
-        """The subjects of the certificates that openssl's index has, but the CA's own."""
-        rows = (self.ca / "index.txt").read_text(encoding="utf-8").splitlines()
-        return sorted(row.split("\t")[5] for row in rows if "CN=" not in row)
-
+class Certificates(CertificateCase):
     def test_what_is_issued(self):
         """Each is what the record says, by openssl, and a second run issues none."""
         first, second = self.device(), self.device("o2", "shipped")
@@ -251,7 +183,8 @@ class Certificates(StationCase):
         shutil.copy(first / f"{other}.pem", second / f"{serial}.pem")
         self.assertIn("is another certificate than the one", self.counted(0, 0, 1))
         shutil.rmtree(self.ca / "issued")
-        self.assertIn(f"its subject has {other} as serialNumber, and not {serial}", self.counted(0, 0, 1))
+        told = f"its subject is serialNumber={other} as PrintableString, and not serialNumber={serial} as"
+        self.assertIn(told, self.counted(0, 0, 1))
         self.spool = first
         self.counted(0, 2, 0)
         need(self.ca, f"openssl ca -config ca.cnf -revoke ../spool/{serial}.pem")
@@ -434,6 +367,35 @@ class Certificates(StationCase):
                 finally:
                     os.chdir(here)
                 self.assertEqual((status, told is None or told in err), (1 if told else 0, True), err)
+
+    def test_what_no_certificate_may_be(self):
+        """A weak key gets none, and what somebody signed past `certify` isn't the record's, nor holds one before its
+        time, which is issued before."""
+        self.seat.make_order(**ORDER | {"name": "o3", "prefix": "C"}, not_before="20990101000000Z")
+        later, weak, fine = self.device("o3"), self.device(key="rsa:512"), self.device()
+        err = self.counted(2, 0, 1)
+        self.assertIn(f"{weak}.csr, of the chip 240ac4000002, can't be certified: its key is RSA of 512 bits", err)
+        self.assertEqual(self.in_index(), [f"/serialNumber={it}" for it in (fine, later)])
+        by_hand = f"openssl ca -config ca.cnf -batch -notext -startdate {BEGINNING} -enddate {END} -out ../made.pem"
+        bank = "[idevid]\nextendedKeyUsage = serverAuth\nsubjectAltName = DNS:bank.example\n"
+        config = (self.ca / "ca.cnf").read_text(encoding="utf-8")
+        for serial, subject, more, told in (
+            (weak, f"/serialNumber={weak}", "", "its key is RSA of 512 bits, and not of 2048 or more"),
+            (fine, f"/O=Acme/serialNumber={fine}", "", "its subject is organizationName=Acme as"),
+            (fine, f"/serialNumber={fine}", bank, "it has the extension extendedKeyUsage (2.5.29.37), which"),
+        ):
+            with self.subTest(told):
+                loose = config.replace("[device]\n", "[device]\norganizationName = optional\n")
+                loose = loose.replace("unique_subject = yes", "unique_subject = no")
+                (self.ca / "ca.cnf").write_text(loose.replace("[idevid]\n", more or "[idevid]\n"), encoding="utf-8")
+                (self.ca / "index.txt.attr").write_text("unique_subject = no\n", encoding="ascii")
+                need(self.ca, f"{by_hand} -subj '{subject}' -in ../spool/{serial}.csr")
+                status, out, err = self.command("verify", self.folder / "made.pem", "--trusted", self.ca / "ca.pem")
+                self.assertEqual((status, out), (1, ""), err)
+                self.assertIn(f"t isn't the certificate of {serial}, the chip 240ac4", err)
+                self.assertIn(told, err)
+        status, out, err = self.command("verify", self.spool / f"{later}.pem", "--trusted", self.ca / "ca.pem")
+        self.assertEqual((status, out, "it isn't valid yet: it begins at 20990101000000Z" in err), (1, "", True), err)
 
     def test_verify_of_what_is_none(self):
         """What can't be read as a certificate is refused as any other, and the ones behind it are looked at."""

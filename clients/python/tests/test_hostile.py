@@ -74,7 +74,7 @@ class Hostile(StationCase):
             self.assertEqual((done.returncode, f"15 {client.shown(text)} more" in told, is_plain(told)), (1, True, True))
 
     def test_replies(self):
-        """Whatever is printed as JSON; and what a station stops at."""
+        """What isn't as the page says is no reply of the server's, and a station stops at it."""
         for text in TEXTS:
             for words, body in (
                 (["device", MAC], {"chip": MAC, "state": text, text: [text]}),
@@ -82,8 +82,7 @@ class Hostile(StationCase):
                 (["ledger", MAC], {"chip": MAC, "entries": [{text: text}]}),
                 (["show-identity", MAC], {"chip": MAC, "serial": text}),
             ):
-                status, out, _ = self.ran_at(self.page_of(200, body), *words)
-                self.assertEqual((status, json.loads(out)), (0, body))
+                self.assertEqual(self.ran_at(self.page_of(200, body), *words)[:2], (3, ""))
             body = {"chip": MAC, "state": text, "pending": text}
             self.assertEqual(self.ran_at(self.page_of(200, body), "burn", MAC)[0], 3)
             work = {"bits": [{"block": text, "word": 0, "mask": "1"}], "keys": {}}
@@ -92,7 +91,7 @@ class Hostile(StationCase):
             self.assertEqual(self.ran_at(self.page_of(200, body), "burn", MAC)[0], 3)
             keys = {"bits": [], "keys": {text: text}}
             body |= {**keys, "pending": {"batch1": keys, "batch2": keys}}
-            self.assertEqual(self.ran_at(self.page_of(200, body), "burn", MAC)[0], 2)
+            self.assertEqual(self.ran_at(self.page_of(200, body), "burn", MAC)[0], 3)
             with self.assertRaises(ValueError) as found:
                 list(client.commands(client.Work((), {text: text}), {}))
             self.assertTrue(is_plain(str(found.exception)))
@@ -104,7 +103,7 @@ class Hostile(StationCase):
         for text in TEXTS:
             device = dict.fromkeys(("chip", "order", "state", "reason", "serial"), text)
             body = {"devices": [device], "next": None}
-            self.assertEqual(self.ran_at(self.page_of(200, body), "devices")[1], ",".join(5 * [client.shown(text)]) + "\n")
+            self.assertEqual(self.ran_at(self.page_of(200, body), "devices")[:2], (3, ""))
         for listed, following in (([], ""), ([], "0"), ([], 7), (7, None), ([7], None), ([{}], None)):
             body = {"devices": listed, "next": following}
             self.assertEqual(self.ran_at(self.page_of(200, body), "devices", "--after", "0")[0], 3)
@@ -160,21 +159,21 @@ class Hostile(StationCase):
 
     def test_letters_that_a_terminal_has_not(self):
         """They are written out, and aren't a fault of the command's."""
-        url = self.page_of(200, {"devices": [dict.fromkeys(("chip", "order", "state", "reason", "serial"), "\u00fc")], "next": None})
-        (self.folder / "a1.token").write_text("abc", encoding="ascii")
-        words = [sys.executable, "-B", CLIENT, "--url", url, "--token", self.folder / "a1.token", "devices"]
+        at, reply = "2026-11-27T06:00:00Z", {"chip": MAC, "issuer": "\u00fc", "serial": "A1", "key_sha256": "0", "mac": None}
+        lines = [{"at": at, "path": "/v1/identity", "asked": {"nr": 1}}, {"at": at, "nr": 1, "status": 200, "reply": reply}]
+        journal = self.folder / "letters.journal"
+        journal.write_text("".join(json.dumps(line) + "\n" for line in lines), encoding="ascii")
         for encoding, letter in (("ascii", b"\\xfc"), ("utf-8", b"\xc3\xbc")):
-            done = subprocess.run(words, capture_output=True, env={**os.environ, "PYTHONIOENCODING": encoding})
-            self.assertEqual((done.returncode, done.stdout, done.stderr), (0, b",".join([letter] * 5) + b"\n", b""))
+            own = {**os.environ, "PYTHONIOENCODING": encoding}
+            done = subprocess.run([sys.executable, "-B", CLIENT, "issued", journal], capture_output=True, env=own)
+            line = b"%s,%s,A1,0," % (MAC.encode(), letter)
+            self.assertEqual((done.returncode, done.stdout.splitlines()[1], done.stderr), (0, line, b""))
 
     # A spreadsheet.
 
     def test_fields_are_quoted(self):
-        """Any text comes back by a reader of RFC 4180 as one field, from a list and from the files of watch."""
+        """Any text comes back by a reader of RFC 4180 as one field from the files of watch."""
         name = 'a,b"c;d'
-        body = {"devices": [{"chip": MAC, "order": name, "state": "shipped", "reason": None, "serial": None}], "next": None}
-        out = self.ran_at(self.page_of(200, body), "devices")[1]
-        self.assertEqual(out, MAC + ',"a,b""c;d",shipped,,\n')
         url = self.canned(200, CSV, (HEAD + '"a,b""c;d"' + COUNTS).encode())
         for _ in range(2):
             self.assertEqual(self.ran_at(url, "watch", "--times", "1", "--customer", name, self.folder / "w.csv")[0], 0)

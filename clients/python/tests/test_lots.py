@@ -82,7 +82,8 @@ class Manifest(StationCase):
         {"shipped": self.seat.ship, "scrapped": self.seat.scrap, "lost": self.seat.scrap}.get(state, str)(mac)
 
     def manifest(self, *words, url=None):
-        return ran("--url", url or self.program.url, "--token", self.folder / "look", "manifest", *words)
+        common = ("--url", url or self.program.url, "--token", self.folder / "look")
+        return ran(*common, *(("--patience", 0) if url else ()), "manifest", *words)
 
     def rows(self):
         """The rows as the server's replies have them, by order and serial number."""
@@ -140,9 +141,9 @@ class Manifest(StationCase):
             (["--all"], [(rb"o2,2,0,0,0,1,1,", rb"o2,2,0,0,0,2,1,")], "list has 1 devices of o2 that are identified"),
             (["--all"], [(rb'"serial":"A999"', b'"serial":null')], "is identified, and its serial number is"),
             (["--all"], [(rb'("o2","reason":null,"serial":)"A998"', rb'\1"A997"')], "isn't that of the list"),
-            (["--all"], [(rb'"issuer":"acme-ca","key', rb'"issuer":"=1+1","key')], "isn't that of the list"),
-            (["--all"], [(rb'"key_sha256":"..', rb'"key_sha256":"zz')], "has another form"),
-            (["--all"], [(rb'"map":"[0-9a-f]*"', rb'"map":"\\u001b[2J"')], "has another form"),
+            (["--all"], [(rb'"issuer":"acme-ca","key', rb'"issuer":"=1+1","key')], "issuer isn't as it has to be"),
+            (["--all"], [(rb'"key_sha256":"..', rb'"key_sha256":"zz')], "key_sha256 isn't as it has to be"),
+            (["--all"], [(rb'"map":"[0-9a-f]*"', rb'"map":"\\u001b[2J"')], "map isn't as it has to be"),
             (["--all"], [(rb"-1,9", rb"-2,9")], "(refusal 14, unknown_order)"),
         ):
             with self.subTest(words=words, changes=changes):

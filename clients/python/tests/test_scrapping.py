@@ -36,7 +36,7 @@ class Scrapping(BenchCase):
     def stray(self):
         """The socket's command burns something else, so that the chip is quarantined."""
         words = self.socket_of("left")
-        other = f'case "$*" in *execute_scripts*) set -- "$1" "$2" burn_bit BLOCK0 197;; esac'
+        other = 'case "$*" in *execute_scripts*) set -- "$1" "$2" burn_bit BLOCK0 197;; esac'
         tool = script(self.folder / "tool", f'{other}\nexec {" ".join(words[:3])} "$@"\n')
         return self.failed(sockets={"left": [tool, *words[3:]]})
 

@@ -119,7 +119,7 @@ class Authority:
         serial = record["serial"]
         wrong = [*faults, *faults_of(certificate, record), *chain_fault(certificate, [], self.trusted)]
         if wrong:
-            raise NotCertified(f"the certificate of {serial} isn't as it has to be: {', '.join(wrong)}", told)
+            raise NotCertified(f"the certificate of {serial} isn't as it has to be: {'; '.join(wrong)}", told)
         pem = pem_of("CERTIFICATE", der_of(certificate)).encode()
         replace_bytes(self.issued / f"{serial}.pem", pem, READABLE)
         with contextlib.suppress(FileNotFoundError):

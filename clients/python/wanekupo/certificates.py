@@ -9,7 +9,6 @@ from __future__ import annotations
 
 import argparse
 import functools
-import re
 import shlex
 from collections import defaultdict
 from pathlib import Path
@@ -21,9 +20,9 @@ from wanekupo.command_row import Command
 from wanekupo.config import Settings, looking_station_of
 from wanekupo.errors import BadKey, BadSettings, NotTheServer, StationError, UnsafeFile
 from wanekupo.files import replace_bytes, tested_folder
-from wanekupo.idevid import chain_fault, faults_of
+from wanekupo.forms import CHIP, SERIAL
+from wanekupo.idevid import chain_fault, early_fault, faults_of, weakness_of
 from wanekupo.keys import library
-from wanekupo.lots import SERIAL, TIME
 from wanekupo.printing import Progress, say, say_json, warn
 from wanekupo.replies import Listed
 from wanekupo.sentences import sentence_of
@@ -36,9 +35,6 @@ CERTIFY = """: it holds each request of the spool, SERIAL.csr, to the device's r
 SERIAL.pem beside it. A record gets one certificate. Status 1 where a request was refused."""
 VERIFY = """: the key, the serial number, the validity and the form, and its chain to a certificate that is trusted.
 Status 1 where one isn't."""
-
-# A chip, as a bench names it in the request's subject.
-CHIP = re.compile(r"[0-9a-f]{12}")
 
 DONE, REFUSED = 0, 1
 
@@ -88,9 +84,7 @@ class Books:
         if len(found) > 1:
             raise NotCertified(f"two issuers have the serial number {serial}", "Give --issuer NAME.")
         ((listed, record),) = found
-        times = [record["not_after"], record.get("not_before") or record["not_after"]]
-        is_right = (record["serial"], record["chip"]) == (serial, listed.chip)
-        if not is_right or not all(isinstance(it, str) and TIME.fullmatch(it) for it in times):
+        if (record["serial"], record["chip"]) != (serial, listed.chip):
             raise NotTheServer(f"the record of the chip {listed.chip} isn't that of the list", "Ask again.")
         if listed.state not in IN_USE:
             raise NotCertified(f"{serial} is of the chip {listed.chip}, which is {listed.state}")
@@ -185,8 +179,12 @@ def _check(request: Request, record: Mapping[str, Any], file: Path) -> None:
         told = "Look which chip each is of, before anything else. The device keeps its record."
         raise NotCertified(f"{file} has another key than the record of the chip {record['chip']}", told)
     x509 = library("x509")
-    subject = x509.load_der_x509_csr(request.der).subject
-    names = [str(it.value) for it in subject.get_attributes_for_oid(x509.NameOID.COMMON_NAME)]
+    asked = x509.load_der_x509_csr(request.der)
+    weakness = ", ".join(weakness_of(asked.public_key()))
+    if weakness:
+        told = "No CA certifies it. Scrap the device, and have the next one made with another kind of key."
+        raise NotCertified(f"{file}, of the chip {record['chip']}, can't be certified: {weakness}", told)
+    names = [str(it.value) for it in asked.subject.get_attributes_for_oid(x509.NameOID.COMMON_NAME)]
     others = [it for it in names if CHIP.fullmatch(it) and it != record["chip"]]
     if others:
         told = "Look which chip each is of, before anything else."
@@ -248,10 +246,10 @@ def _verified(chain: Sequence[Any], serial: str, books: Books, trusted: Path, cr
     if not serial:
         raise NotCertified("it has no serialNumber of a record in its subject")
     listed, record = books.record(serial)
-    wrong = [*faults_of(chain[0], record), *chain_fault(chain[0], chain[1:], trusted, crl)]
+    wrong = [*faults_of(chain[0], record), *early_fault(record), *chain_fault(chain[0], chain[1:], trusted, crl)]
     if wrong:
         told = "Don't trust it, and look where it is from."
-        raise NotCertified(f"it isn't the certificate of {serial}, the chip {listed.chip}: {', '.join(wrong)}", told)
+        raise NotCertified(f"it isn't the certificate of {serial}, the chip {listed.chip}: {'; '.join(wrong)}", told)
     return f"{serial}, the chip {listed.chip} of {listed.order}, {listed.state}: as its record"
 
 

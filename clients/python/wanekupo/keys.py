@@ -10,6 +10,7 @@ import contextlib
 import hashlib
 import importlib
 import os
+import warnings
 from pathlib import Path
 from typing import Any, Optional
 
@@ -53,7 +54,10 @@ def _key_of_der(der: bytes) -> bytes:
 
 
 def library(name: str) -> Any:
+    """A part of cryptography. What it warns of isn't printed: a certificate's form is looked at here."""
     try:
+        category = importlib.import_module("cryptography.utils").CryptographyDeprecationWarning
+        warnings.filterwarnings("ignore", category=category)
         return importlib.import_module(f"cryptography.{name}")
     except ImportError:
         raise BadKey("no key can be read on this machine", "Install Debian's python3-cryptography.") from None

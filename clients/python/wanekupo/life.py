@@ -12,12 +12,13 @@ from typing import Any, Callable, Mapping, Optional, Protocol, Sequence, TypeVar
 
 from wanekupo.chips import shows
 from wanekupo.endings import REFUSALS, Ended, ended_by
-from wanekupo.errors import Refused, StationError
+from wanekupo.errors import NotTheServer, Refused, StationError
 from wanekupo.espefuse import KeyFile, wishes_of
 from wanekupo.families import Blocks, Told, family_of
 from wanekupo.hooks import Done, run_hook
 from wanekupo.keeping import Kept, synced_files
 from wanekupo.keys import keep_csr, public_key_of
+from wanekupo.lots import addresses_of
 from wanekupo.parts import Part
 from wanekupo.recipe import Command, Recipe, Wish
 from wanekupo.recipe_wishes import Layout, Place, places_of, wanted_of
@@ -178,6 +179,9 @@ class Life:
                 raise
             told = wanted_of(Layout(self.line.recipe.map), wishes).refused(self._ask(Station.device).burnt)
             raise Ended("not_blank", no=refused.no, detail=_shown(told)) from refused
+        others = wanted_of(Layout(self.line.recipe.map), wishes).others(Work((), {}), (plan.batch1, plan.batch2))
+        if others:
+            raise Ended("other_wishes", detail=_shown(others))
         return self._burn_all(plan.state, plan.batch1, plan.batch2)
 
     def _wishes(self) -> list[dict[str, Any]]:
@@ -312,8 +316,9 @@ class Life:
     def _facts(self, record: Optional[Identity]) -> dict[str, str]:
         if not record:
             return {"SERIAL": "", "MAC": "", "MACS": "", "KEY_SHA256": ""}
-        first = int(record.mac, 16) if record.mac else 0
-        macs = [f"{first + place:012x}" for place in range(self.line.order().macs)] if record.mac else []
+        macs = addresses_of(record.mac, self.line.order().macs if record.mac else 0)
+        if macs is None:
+            raise NotTheServer(f"the addresses of {record.serial} aren't those of its order", "Ask again.")
         told = {"SERIAL": record.serial, "KEY_SHA256": record.key_sha256}
         return {**told, "MAC": record.mac or "", "MACS": " ".join(macs)}
 

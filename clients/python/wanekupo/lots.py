@@ -6,7 +6,6 @@ map. Two connections ask for the last two, since by a token nginx lets two reque
 
 from __future__ import annotations
 
-import re
 from collections import Counter
 from concurrent.futures import ThreadPoolExecutor
 from dataclasses import dataclass
@@ -14,6 +13,7 @@ from typing import Any, Iterator, Mapping, Optional, Sequence
 
 from wanekupo import gathering
 from wanekupo.errors import NotTheServer, StationError
+from wanekupo.forms import CHIP, DIGEST, NAME, SERIAL, TIME
 from wanekupo.gathering import Reply
 from wanekupo.replies import Listed
 from wanekupo.states import WITH_RECORD
@@ -37,10 +37,6 @@ COLUMNS = (
 # How often the list is read where devices get on meanwhile, and how many rows are asked for at a time: two seconds' by
 # nginx's usual shares, so that a list that is cut loses no more.
 LOOKS, AT_A_TIME = 4, 20
-
-NAME = re.compile(r"[A-Za-z0-9._-]{1,32}")
-SERIAL = re.compile(r"[A-Z0-9-]{1,64}")
-CHIP, DIGEST, TIME = re.compile(r"[0-9a-f]{12}"), re.compile(r"[0-9a-f]{64}"), re.compile(r"[0-9]{14}Z")
 
 # The columns of a report by which the serial numbers are counted that are given.
 GIVEN = ("quantity", "serials_left")

@@ -7,12 +7,15 @@ whatever name a name server gives it. Who has an account on this machine can use
 
 from __future__ import annotations
 
+import contextlib
 import http.server
 import json
+import re
+import socket
 import threading
 from pathlib import Path
-from typing import TYPE_CHECKING, Any, Optional
-from urllib.parse import parse_qs, urlsplit
+from typing import TYPE_CHECKING, Any
+from urllib.parse import parse_qs
 
 from wanekupo.errors import BadSettings
 
@@ -36,8 +39,11 @@ HEADERS = {
     "Cache-Control": "no-store",
 }
 
-# How long a request for the board waits for a change, in seconds, and how many bytes a person's word may have.
-LONGEST_LOOK, LONGEST_WORD = 10.0, 4096
+# How long a request for the board waits for a change, in seconds, how many bytes a person's word may have, and how many
+# connections are served at a time: a browser has six.
+LONGEST_LOOK, LONGEST_WORD, MOST_CONNECTIONS = 10.0, 4096, 64
+COUNT = re.compile(r"[0-9]{1,15}")
+FULL = b"HTTP/1.1 503 Service Unavailable\r\nContent-Length: 0\r\nConnection: close\r\n\r\n"
 
 
 class Handler(http.server.BaseHTTPRequestHandler):
@@ -49,33 +55,34 @@ class Handler(http.server.BaseHTTPRequestHandler):
     server: Server
 
     def do_GET(self) -> None:
-        parts = urlsplit(self.path)
+        path, _, query = self.path.partition("?")
         if not self._is_own():
-            self._send(403, b"")
-        elif parts.path == "/board":
-            after = parse_qs(parts.query).get("after", [""])[0]
+            self._refuse(403)
+        elif path == "/board":
+            after = parse_qs(query).get("after", [""])[0]
             board = self.server.bench.board
-            board.changed_since(int(after) if after.isdecimal() else -1, LONGEST_LOOK)
+            board.changed_since(int(after) if COUNT.fullmatch(after) else -1, LONGEST_LOOK)
             self._send(200, json.dumps(board.shown()).encode(), "application/json")
-        elif parts.path in FILES:
-            name, kind = FILES[parts.path]
+        elif path in FILES:
+            name, kind = FILES[path]
             self._send(200, (Path(__file__).parent / name).read_bytes(), kind)
         else:
             self._send(404, b"")
 
     def do_POST(self) -> None:
-        told = self._told()
-        bench = self.server.bench
-        if told is None:
-            self._send(403, b"")
-        elif self.path == "/said" and isinstance(told.get("text"), str):
-            bench.said(told["text"])
-            self._send(200, b"{}", "application/json")
-        elif self.path == "/begin" and told.get("socket") in bench.recipe.sockets:
-            bench.pressed(told["socket"])
-            self._send(200, b"{}", "application/json")
-        else:
+        """A POST says one word: what is typed, or the socket whose key is pressed."""
+        word = {"/said": "text", "/begin": "socket"}.get(self.path)
+        status, told = self._told()
+        bench, text = self.server.bench, told.get(word)
+        if status != 200:
+            self._refuse(status)
+        elif word is None or word == "socket" and isinstance(text, str) and text not in bench.recipe.sockets:
             self._send(404, b"")
+        elif not isinstance(text, str):
+            self._send(400, b"")
+        else:
+            (bench.said if word == "text" else bench.pressed)(text)
+            self._send(200, b"{}", "application/json")
 
     def _is_own(self) -> bool:
         """Whether the browser took this machine for what it asks, and asks for a page from here."""
@@ -83,18 +90,25 @@ class Handler(http.server.BaseHTTPRequestHandler):
         hosts = [f"{name}:{self.server.server_address[1]}" for name in (HOST, "localhost")]
         return self.headers.get("Host") in hosts and origin in (None, *(f"http://{it}" for it in hosts))
 
-    def _told(self) -> Optional[dict[str, Any]]:
-        """What a POST says. One that another page could send without asking is none."""
+    def _told(self) -> tuple[int, dict[Any, Any]]:
+        """The status of a POST and what it says: 403 where another page could send it without asking."""
         length = self.headers.get("Content-Length", "")
-        is_json = self.headers.get("Content-Type") == "application/json"
-        if not self._is_own() or not is_json or not length.isdecimal() or int(length) > LONGEST_WORD:
-            self.close_connection = True
-            return None
+        if not self._is_own() or self.headers.get("Content-Type") != "application/json":
+            return 403, {}
+        if not length.isdecimal():
+            return 400, {}
+        if not COUNT.fullmatch(length) or int(length) > LONGEST_WORD:
+            return 413, {}
         try:
             told = json.loads(self.rfile.read(int(length)))
-        except ValueError:
-            return None
-        return told if isinstance(told, dict) else None
+        except (ValueError, RecursionError):
+            return 400, {}
+        return (200, told) if isinstance(told, dict) else (400, {})
+
+    def _refuse(self, status: int) -> None:
+        """Answers what isn't read to its end, or not the page's own: the connection ends with it."""
+        self.close_connection = True
+        self._send(status, b"")
 
     def _send(self, status: int, data: bytes, kind: str = "text/plain") -> None:
         self.send_response(status)
@@ -114,7 +128,22 @@ class Server(http.server.ThreadingHTTPServer):
 
     def __init__(self, bench: Bench, port: int):
         super().__init__((HOST, port), Handler)
-        self.bench = bench
+        self.bench, self._room = bench, threading.BoundedSemaphore(MOST_CONNECTIONS)
+
+    def process_request(self, request: Any, client_address: Any) -> None:
+        """Serves a connection in a thread of its own. One for which there is no room is told so, and ended."""
+        if self._room.acquire(blocking=False):
+            super().process_request(request, client_address)
+            return
+        with contextlib.suppress(OSError):
+            request.send(FULL, socket.MSG_DONTWAIT)
+        self.shutdown_request(request)
+
+    def process_request_thread(self, request: Any, client_address: Any) -> None:
+        try:
+            super().process_request_thread(request, client_address)
+        finally:
+            self._room.release()
 
     def handle_error(self, *_: Any) -> None:
         """A browser that went is no fault."""

@@ -8,21 +8,9 @@ from dataclasses import dataclass, fields
 from typing import Any, Callable, Mapping, Optional, TypeVar
 
 from wanekupo.errors import NotTheServer, Refused
+from wanekupo.forms import REPLIES, wrong_in
 
-# The members of an accepted reply, by the request's path. A chip and a name are those that were asked for.
-REPLIES = {
-    "/v1/order": ("name", "next"),
-    "/v1/map": ("map",),
-    "/v1/device": ("chip", "state"),
-    "/v1/plan": ("batch1", "batch2", "state"),
-    "/v1/readback": ("outcome", "rest", "state"),
-    "/v1/identity": ("chip", "serial"),
-    "/v1/ship": ("chip", "state"),
-    "/v1/scrap": ("chip", "state"),
-    "/v1/import": ("added", "present"),
-    "/v1/ledger": ("chip", "entries"),
-    "/v1/devices": ("devices", "next"),
-}
+# Members of a reply that are those of its request.
 ECHOED = ("chip", "name")
 
 Made = TypeVar("Made")
@@ -205,13 +193,15 @@ def entries_of(data: Mapping[str, Any]) -> list[Entry]:
     return [made(Entry, entry, added=work_of(entry)) for entry in data["entries"]]
 
 
-def _is_reply_to(path: str, members: Mapping[str, Any], body: Any) -> bool:
-    """Whether what came at 200 can be the reply to a request."""
+def _strange_in(path: str, members: Mapping[str, Any], body: Any) -> Optional[str]:
+    """Why what came at 200 isn't the reply to a request, in words; None where it is."""
     if path.endswith("/report"):
-        return isinstance(body, str)
-    names = REPLIES.get(path, ())
-    is_there = isinstance(body, dict) and all(name in body for name in names)
-    return is_there and all(body[name] == members.get(name) for name in names if name in ECHOED)
+        return None if isinstance(body, str) else "no report"
+    if not isinstance(body, dict):
+        return "no object"
+    forms = REPLIES.get(path, {})
+    strange = wrong_in(body, forms) or [it for it in ECHOED if it in forms and body[it] != members.get(it)]
+    return f"{', '.join(strange)} isn't as it has to be" if strange else None
 
 
 def _is_refusal(body: Any) -> bool:
@@ -229,11 +219,11 @@ def body_of(status: int, kind: str, data: bytes, path: str, members: Mapping[str
         body = json.loads(data) if kind == "application/json" else body
     except (ValueError, RecursionError):
         body = None
-    if status == 200 and _is_reply_to(path, members, body):
+    strange = _strange_in(path, members, body) if status == 200 else None
+    if status == 200 and strange is None or status != 200 and _is_refusal(body):
         return body
-    if status != 200 and _is_refusal(body):
-        return body
-    raise NotTheServer(f"another's reply: status {status}, {kind}: {data[:60]!r}")
+    told = f", {strange}" if strange else ""
+    raise NotTheServer(f"another's reply: status {status}, {kind}{told}: {data[:60]!r}")
 
 
 def accepted(status: int, body: Any) -> Any:
