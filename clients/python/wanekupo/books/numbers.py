@@ -23,6 +23,22 @@ class Span:
     faults: list[str] = field(default_factory=list)
 
 
+def counts(it: Seated, step: Step, store: Books, period: Period) -> bool:
+    """Whether a line is of a period: by its time; as the first of its journal, in front of which nothing contradicts
+    its time, with the one behind it; and behind the period as long as the store has its number."""
+    if step.at >= period.end:
+        return it.seat in store.seats and step.number <= store.seats[it.seat].last
+    first = it.book.steps[:2]
+    return step.at >= period.start or step is first[0] and first[-1].at >= period.start
+
+
+def whole_customers(spans: Iterable[Span], store: Books) -> set[str]:
+    """The customers of whose seats the journals have the first number of each that has asked for something."""
+    whole = {it.seat for it in spans if it.first == 1}
+    parts = {it.customer for it in store.seats.values() if it.last and it.name not in whole}
+    return {it.customer for it in store.seats.values()} - parts
+
+
 def spans_of(journals: Iterable[Seated], store: Books, period: Period) -> list[Span]:
     """The numbers of each seat that has a journal."""
     books: dict[str, list[Book]] = {}
@@ -71,10 +87,10 @@ def _named(first: int, last: int) -> str:
 
 
 def _end_fault(seat: Seat, span: Span, steps: list[Step], period: Period) -> Optional[str]:
-    """Whether the store and the journals end with the same number. A line of before the period's end that the store
-    doesn't know shows an older store."""
+    """Whether the store and the journals end with the same number: journals reach as far as the store does. A line of
+    before the period's end that the store doesn't know shows an older store."""
     asked = max(it.number for it in steps)
-    if seat.last > max(asked, span.known) and span.at < period.end:
+    if seat.last > max(asked, span.known):
         return f"{_named(asked + 1, seat.last)} no line, behind {span.at}: the journal lacks its end, or a foreign hand"
     unknown = [it for it in _done_behind(steps, seat.last) if it.at < period.end]
     if unknown:
