@@ -2,8 +2,9 @@
 
 from __future__ import annotations
 
+import json
 from dataclasses import dataclass, field
-from typing import Iterable, Iterator, Optional
+from typing import Any, Iterable, Iterator, Optional
 
 from wanekupo.books.matching import Seated
 from wanekupo.books.shift import Period
@@ -108,4 +109,16 @@ def _last_fault(seat: Seat, steps: list[Step]) -> Optional[str]:
     lines = [it for it in steps if it.number == seat.last]
     if lines and all(it.digest != seat.digest for it in lines):
         return f"the store's last request, number {seat.last}, isn't that of {lines[-1].place()}"
+    done = [it for it in lines if it.is_done()]
+    if done and not _has(seat.reply, done[-1].reply):
+        return f"the reply that the store keeps of number {seat.last} isn't that of {done[-1].place()}"
     return None
+
+
+def _has(text: str, reply: dict[str, Any]) -> bool:
+    """Whether a reply's text has these members."""
+    try:
+        kept = json.loads(text)
+    except (ValueError, RecursionError):
+        return False
+    return isinstance(kept, dict) and all(kept.get(name) == it for name, it in reply.items())
