@@ -155,7 +155,7 @@ class Chained:
 
 CHAINS = [
     Chained("three seals", _days, ("Nothing found.", "3 signatures and 3 stamps held"), 0),
-    Chained("a quarter in one night", _one_night, ("its seal says 2026-01-01T02:00:00Z", "2025-03-01T02:00:00Z, and the line in front")),
+    Chained("a quarter in one night", _one_night, ("its seal says 2026-01-01T02:00:00Z", "is of 2025-03-01T02:00:00Z")),
     Chained("three days once more", _made_anew, ("000001.tsr is of", "000002.tsr is of", "000003.tsr is of")),
     Chained("the next days", _ahead, ("000002.tsr is of", "000003.tsr is of", "2 found.")),
     Chained("more rows than there are", _more_rows, ("000002.rows: there are 1 row, and the seal says 9999999",)),

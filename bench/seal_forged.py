@@ -363,7 +363,7 @@ CLOCKS = [
     Forged(  # store: three numbers that acme never gets
         "an order that goes on behind free numbers",
         ("UPDATE orders SET cursor = 8 WHERE customer = 'acme' AND name = 'gate-40'",),
-        audit=("order", "the order gate-40 goes on at its number 8, and G00005 is in front of it"),
+        audit=("order", "the order gate-40 goes on at its number 8, behind G00005"),
     ),
     Forged(  # store: what the station is told that asks once more
         "a kept reply",

@@ -183,7 +183,8 @@ class Clocks(unittest.TestCase):
     def test_what_matters_to_a_period(self):
         """Not a contradiction of two lines that are both before it, or both behind it."""
         (it,) = contradictions(list(paired(("a", 0), ("b", 500), ("a", 100), ("a", 200), ("a", 300))))
-        for start, end, meant in ((0, 90, False), (0, 200, True), (100, 200, True), (400, 600, True), (501, 900, False)):
+        spans = ((0, 90, False), (0, 200, True), (100, 200, True), (400, 600, True), (501, 900, False))
+        for start, end, meant in spans:
             with self.subTest(f"{start} to {end}"):
                 self.assertEqual(it.is_of(Period(clock(start), clock(end))), meant, it)
 
@@ -192,7 +193,8 @@ class Clocks(unittest.TestCase):
         late, early = ([("a", 0), ("b", 900), ("a", 20), ("a", 30)], [("a", 900), ("a", 920), ("b", 10), ("a", 930)])
         told = [next(contradictions(list(paired(*lines)))).told() for lines in (late, early)]
         self.assertEqual(told, [
-            f"has {clock(900)}, and its entry was written before that of line 3 of a, which was answered at {clock(20)}",
+            f"has {clock(900)}, and its entry was written before that of line 3 of a, which was answered at "
+            f"{clock(20)}",
             f"was answered at {clock(10)}, and its entry was written behind that of line 2 of a, which was asked at "
             f"{clock(920)}",
         ])
@@ -252,7 +254,7 @@ class Chains(unittest.TestCase):
             ("honest", [*two, ("2026-01-02T02:00:00Z", "acme", 1)], 0, "Nothing found"),
             ("of one moment", two + two, 0, "Not shown: when 2 seals came to be"),
             ("one alone", two, 3, "No pair was compared"),
-            ("an earlier one", [*two, ("2026-01-01T01:59:59Z", "acme", 1)], 1, "2 of {} is of 2026-01-01T01:59:59Z, and"),
+            ("an earlier one", [*two, ("2026-01-01T01:59:59Z", "acme", 1)], 1, "2 of {} is of 2026-01-01T01:59:59Z"),
             ("rows", [*two, ("2026-01-02T02:00:00Z", "acme", 2)], 1, "there are 1 row, and the seal says 2"),
             ("a name", [*two, ("2026-01-02T02:00:00Z", "bolt", 1)], 1, "of bolt, and the line in front of it of acme"),
             ("rows of acme", [("2026-01-02T02:00:00Z", "bolt", 1)] * 2, 1, "are rows of acme, and the seal is of bolt"),

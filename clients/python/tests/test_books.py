@@ -149,7 +149,7 @@ class Books(BooksCase):
             (lambda: zipped(first, kept[first]), 0, ["Nothing found.", line.format("1 pair", 0)]),
             (lambda: zipped(first, kept[first].replace(b"match", b"short", 1)), 1, ["000001.rows.gz was changed"]),
             (lambda: (first.unlink(), second.unlink()), 1, ["has the rows of no seal", line.format("0 pairs", 2)]),
-            (lambda: first.unlink(), 3, ["No pair was compared", "their rows aren't there: 000001", line.format("0 pairs", 1)]),
+            (lambda: first.unlink(), 3, ["No pair was compared", "aren't there: 000001.", line.format("0 pairs", 1)]),
             (lambda: chain.write_bytes(kept[chain].splitlines(True)[0]), 1, ["000002.seal is of a seal that"]),
             (lambda: (seals / "000002.seal.minisig").write_text("x"), 0, ["Not tested: the signatures of 1 seal."]),
             (lambda: (seals / "notes").write_text("x"), 0, ["Not tested, as no seal has such files: notes."]),

@@ -47,8 +47,8 @@ class Held:
 
 @dataclass
 class Audit:
-    """All of it. `bare` is how many entries outside of the period have no line, `held_lines` how many lines of the period
-    there are."""
+    """All of it. `bare` is how many entries outside of the period have no line, `held_lines` how many lines of it there
+    are."""
 
     period: Period
     found: list[Found] = field(default_factory=list)

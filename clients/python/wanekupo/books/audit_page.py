@@ -14,7 +14,7 @@ NUMBERS = frozenset(("lines", "matched", "last", "bytes"))
 
 # What each kind means, and what to do.
 KINDS = {
-    "clock": "a time that can't be, by the order of the store's entries or by the auditor's clock: it was changed, or a "
+    "clock": "a time that can't be, by the order of the entries or by the auditor's clock: a time was changed, or a "
     "station's clock was wrong",
     "device": "a device, its ledger and its record contradict each other: somebody wrote to the store by hand",
     "exchanged": "an entry is at another place in its ledger than its line in the journal",

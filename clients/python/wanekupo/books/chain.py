@@ -67,7 +67,8 @@ def seal_of(line: str, where: str) -> Seal:
     try:
         moment_of(at)
     except ValueError as error:
-        raise BadChain(f"{where} is of {at}, which is no moment", "Look at it in a copy: nothing was changed.") from error
+        told = f"{where} is of {at}, which is no moment"
+        raise BadChain(told, "Look at it in a copy: nothing was changed.") from error
     return Seal(int(number), at, whose, int(rows), text, seal)
 
 

@@ -64,7 +64,7 @@ def _passed_over(store: Books) -> Iterator[Row]:
         end = order["first"] + order["quantity"]
         number = end if free is None else int(free.removeprefix(order["prefix"]))
         if order["cursor"] > number:
-            told = f"the order {name} goes on at its number {order['cursor']}, and {free or 'its end'} is in front of it"
+            told = f"the order {name} goes on at its number {order['cursor']}, behind {free or 'its end'}"
             yield "order", "", customer, "", told
 
 

@@ -19,7 +19,9 @@ LATEST, EARLIEST = 3600, -60
 
 # How `openssl ts` prints the moment of a stamp.
 MONTHS = "Jan Feb Mar Apr May Jun Jul Aug Sep Oct Nov Dec".split()
-STAMPED = re.compile(rf"^Time stamp: ({'|'.join(MONTHS)}) +(\d+) (\d\d:\d\d:\d\d)(?:\.\d+)? (\d{{4}}) GMT$", re.MULTILINE)
+STAMPED = re.compile(
+    rf"^Time stamp: ({'|'.join(MONTHS)}) +(\d+) (\d\d:\d\d:\d\d)(?:\.\d+)? (\d{{4}}) GMT$", re.MULTILINE
+)
 
 KIND = "application/timestamp-query"
 SECONDS, LONGEST = 60, 1 << 20
