@@ -259,7 +259,7 @@ class Chains(unittest.TestCase):
             ("a name", [*two, ("2026-01-02T02:00:00Z", "bolt", 1)], 1, "of bolt, and the line in front of it of acme"),
             ("rows of acme", [("2026-01-02T02:00:00Z", "bolt", 1)] * 2, 1, "are rows of acme, and the seal is of bolt"),
             ("no moment", [*two, ("2026-01-32T02:00:00Z", "acme", 1)], 1, "is of 2026-01-32T02:00:00Z, which is no"),
-            ("no time", [*two, ("2026-01-31 at 02:00Z", "acme", 1)], 1, "is no line of a chain"),
+            ("no time", [*two, ("2026-01-31_02:00:00Z", "acme", 1)], 1, "is no line of a chain"),
         ):
             with self.subTest(name), tempfile.TemporaryDirectory() as folder:
                 last, lines = 64 * "0", []
