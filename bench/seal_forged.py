@@ -1,10 +1,14 @@
 """Stores and journals that somebody changed by hand, each with who has to find it and by which words.
 
 A forger of a store is a careful one: where a step is changed, the device and its record are changed with it, so that
-the server opens the store and serves it.
+the server opens the store and serves it. A forger of a journal makes its digests anew, and a line's time is his. Behind
+each one of `CLOCKS` stands who could do it: a customer who writes to the store's file (store), a station with its
+journal (journal), or both hands.
 """
 
 import contextlib
+import functools
+import hashlib
 import json
 import shutil
 import sqlite3
@@ -12,7 +16,9 @@ from dataclasses import dataclass
 from pathlib import Path
 from typing import Callable
 
-from seal_plant import chip_of
+from seal_plant import END, MAP, START, chip_of
+
+from wanekupo.journal import request_digest
 
 ONE, TWO, WAITING = chip_of(1), chip_of(2), chip_of(8)
 OF_ONE = f"customer = 'acme' AND chip = '{ONE}'"
@@ -25,7 +31,7 @@ OTHER_KEY = "X'01" + 64 * "0" + "'"
 class Forged:
     """What is changed: statements over a copy of the store, or a change of a journal. `seal` and `audit` are words
     that each has to say; without words it isn't to find it, as it can't. The program opens all but what isn't to be
-    opened."""
+    opened. The audit is of the morning, or of a part of it."""
 
     name: str
     sql: tuple[str, ...] = ()
@@ -34,6 +40,29 @@ class Forged:
     audit: tuple[str, ...] = ()
     older: bool = False
     opens: bool = True
+    period: tuple[str, str] = (START, END)
+
+
+def _changed(name: str, change: Callable[[list[dict]], list[dict] | None], folder: Path) -> None:
+    """Changes the lines of a journal, each of which is a request or a reply, and writes them as a station does."""
+    file = folder / name
+    lines = [json.loads(it) for it in file.read_text(encoding="ascii").splitlines()]
+    lines = change(lines) or lines
+    for line in lines:
+        if "asked" in line:
+            line["digest"] = request_digest(line["path"], line["asked"])
+    text = "".join(json.dumps(it, sort_keys=True, separators=(",", ":")) + "\n" for it in lines)
+    file.write_text(text, encoding="ascii")
+
+
+def retimed(name: str, at: str, first: int = -2, last: int | None = None) -> Callable[[Path], None]:
+    """Gives lines of a journal, else its last request and the reply, the beginning of another time."""
+
+    def change(lines: list[dict]) -> None:
+        for line in lines[first:last]:
+            line["at"] = at + line["at"][len(at) :]
+
+    return functools.partial(_changed, name, change)
 
 
 def _cut(folder: Path) -> None:
@@ -224,6 +253,146 @@ FORGED = [
     ),
     Forged("a changed time", journal=_set_back, audit=("journal", "seconds before the line in front of it")),
     Forged("a changed reply", journal=_change_reply, audit=("other_note", "G00002", "G00008")),
+]
+
+
+OF_LAST = f"customer = 'acme' AND chip = '{chip_of(10)}'"
+LATE = "2098-01-01T00:00:00Z"
+NOON = "2026-11-27T15:00:00Z"
+MORE_MAP = f"{MAP}# of nobody\n"
+MORE_DIGEST = f"X'{hashlib.sha256(MORE_MAP.encode()).hexdigest()}'"
+ADDED = next(it.sql for it in FORGED if it.name == "an entry added")
+# A chip's next entry, in front of one of another station: ids grow, and what they say stays.
+BETWEEN = (
+    "UPDATE ledger SET id = -id - 1 WHERE id >= 63",
+    "UPDATE ledger SET id = -id WHERE id < 0",
+    ADDED[0].replace("(SELECT max(id) + 1 FROM ledger)", "63"),
+    ADDED[1],
+)
+
+
+def _cut_and_late(folder: Path) -> None:
+    """Takes the last three requests of a journal away, and has what is then its last one come behind the period."""
+    _changed("acme/a2.journal", lambda lines: lines[:-6], folder)
+    retimed("acme/a2.journal", NOON)(folder)
+
+
+def _again(folder: Path) -> None:
+    """Adds a step of another chip to a journal, with the number behind its last one."""
+
+    def change(lines: list[dict]) -> None:
+        asked = {"chip": WAITING, "nr": lines[-1]["nr"] + 1}
+        lines.append({**lines[-2], "path": "/v1/scrap", "asked": asked})
+        lines.append({**lines[-2], "nr": asked["nr"], "reply": {"chip": WAITING, "state": "scrapped"}})
+
+    _changed("acme/a1.journal", change, folder)
+
+
+def _as_another(folder: Path) -> None:
+    """Has a station say that its lines are another seat's, of another customer."""
+    _changed("acme/a2.journal", lambda lines: [{**line, "seat": "b1"} for line in lines], folder)
+
+
+CLOCKS = [
+    Forged(  # store, and another customer's journal
+        "an entry added, and an early line of 2098",
+        ADDED,
+        retimed("bolt/b1.journal", LATE, 6, 8),
+        audit=("no_line", WAITING, "clock", "b1.journal has 2098-01-01T00:00:00Z, and its entry was written before"),
+    ),
+    Forged(  # both
+        "an entry added behind a last line of 2098",
+        ADDED,
+        retimed("acme/a1.journal", LATE),
+        audit=("no_line", WAITING, "clock", "a1.journal has 2098-01-01T00:00:00Z", "that is a time to come"),
+    ),
+    Forged(  # both
+        "an entry added behind a last line that says it was later",
+        ADDED,
+        retimed("acme/a1.journal", NOON),
+        audit=("no_line", WAITING, "the entry 4, scrapped"),
+    ),
+    Forged(  # both: the first bound
+        "an entry between, and a station that says all of its lines were earlier",
+        BETWEEN,
+        retimed("acme/a2.journal", "1999", 0),
+        audit=("no_line", WAITING, "clock", "a2.journal was answered at 1999-11-27T"),
+    ),
+    Forged(  # both: the last bound
+        "an entry between, and a station that says all of its lines were later",
+        BETWEEN,
+        retimed("acme/a2.journal", "2026-11-28", 0),
+        audit=("no_line", WAITING, "clock", "a2.journal has 2026-11-28T", "more, up to line", "can't be either"),
+    ),
+    Forged(  # journal: a clock that was wrong for a day
+        "a station a day behind",
+        journal=retimed("bolt/b1.journal", "2026-11-26", 0),
+        audit=("clock", "b1.journal was answered at 2026-11-26T", "its entry was written behind that of line"),
+    ),
+    Forged(  # store: a registration that is to be the first one
+        "an entry moved to the front",
+        (f"UPDATE ledger SET id = 0 WHERE customer = 'acme' AND chip = '{chip_of(9)}'",),
+        audit=("clock", chip_of(9), "its entry was written before that of line"),
+    ),
+    Forged(  # store
+        "an order added",
+        (
+            "INSERT INTO orders SELECT customer, 'gate-99', issuer, 'Z', 5, 1, 50, 0, NULL, 1 FROM orders "
+            "WHERE customer = 'bolt'",
+            "INSERT INTO order_start VALUES ('bolt', 'gate-99', NULL)",
+        ),
+        audit=("order", "bolt", "no line asked for the order gate-99"),
+    ),
+    Forged(  # store
+        "a map added",
+        (
+            f"INSERT INTO map SELECT max(id) + 1, '{MORE_MAP.replace(chr(39), 2 * chr(39))}', {MORE_DIGEST} FROM map",
+            f"INSERT INTO link SELECT 'bolt', {MORE_DIGEST}, max(id) FROM map",
+        ),
+        audit=("map", "bolt", "no line imported the map"),
+    ),
+    Forged(  # store
+        "an imported number added",
+        (
+            "INSERT INTO given SELECT issuer, 'OLD-3', customer, zeroblob(32), NULL, NULL, not_after FROM given "
+            "WHERE serial = 'OLD-1'",
+            "INSERT INTO given_start VALUES ('acme-ca', 'OLD-3', NULL)",
+        ),
+        audit=("import", "the store has 3 imported serial numbers, and the lines brought 2"),
+    ),
+    Forged(  # store: three numbers that acme never gets
+        "an order that goes on behind free numbers",
+        ("UPDATE orders SET cursor = 8 WHERE customer = 'acme' AND name = 'gate-40'",),
+        audit=("order", "the order gate-40 goes on at its number 8, behind G00005"),
+    ),
+    Forged(  # store: what the station is told that asks once more
+        "a kept reply",
+        ("UPDATE seat SET reply = replace(reply, 'shipped', 'scrapped') WHERE name = 'a1'",),
+        seal=("The seat a1 of acme: reply_sha256 was ",),
+        audit=("numbers", "the reply that the store keeps of number 36 isn't that of line"),
+    ),
+    Forged(  # journal
+        "a cut journal whose last line says it was later",
+        journal=_cut_and_late,
+        audit=("numbers", "have no line, behind 2026-11-27T15:00:00Z"),
+    ),
+    Forged(  # both
+        "an entry gone, and its line says it was later",
+        (
+            f"DELETE FROM ledger WHERE {OF_LAST} AND event = 'shipped'",
+            f"UPDATE device SET state = 'identified' WHERE {OF_LAST}",
+        ),
+        retimed("acme/a1.journal", NOON),
+        seal=("The entry 6 of 240ac400000a of acme: is gone",),
+        audit=("no_entry", chip_of(10), "shipped, was accepted, and no ledger has it"),
+    ),
+    Forged("a step that was never asked", journal=_again, audit=("no_entry", WAITING, "numbers", "an older store")),
+    Forged("another's name", journal=_as_another, audit=("no_journal", "a2", "no_entry", "b1")),
+    Forged(  # store: it counts as one of before, which an audit from the beginning finds
+        "an entry between, of before the period",
+        BETWEEN,
+        period=("2026-11-27T07:25:00Z", END),
+    ),
 ]
 
 

@@ -6,19 +6,28 @@ Stores are forged by sqlite3, journals are made up, and the states of a device a
 from __future__ import annotations
 
 import contextlib
+import hashlib
 import json
 import os
 import re
 import shutil
 import socket
+import tempfile
 import threading
 import unittest
+from pathlib import Path
+from types import SimpleNamespace
 
 from support import DIGEST, MAC, ORDER, ROOT
 from books_case import ALWAYS, DAY, PERIOD, BooksCase, device, lines_of, read, step
 from commanding import ran
 
 from wanekupo import states
+from wanekupo.books.chain import sealed
+from wanekupo.books.clocks import contradictions, to_come, window_of
+from wanekupo.books.numbers import counts
+from wanekupo.books.shift import Period
+from wanekupo.books.steps import Step
 from wanekupo.journal import request_digest
 from wanekupo.yields import LOOKS
 
@@ -125,6 +134,143 @@ class Audits(BooksCase):
         os.mkfifo(self.folder / "b1.journal")
         status, _, told = ran("audit", store, self.folder / "b1.journal", *ALWAYS)
         self.assertEqual((status, "is no plain file" in told), (2, True), told)
+
+
+def clock(seconds):
+    """A time of the day, from 06:00 on."""
+    return f"{DAY}{6 + seconds // 3600:02}:{seconds // 60 % 60:02}:{seconds % 60:02}Z"
+
+
+def paired(*lines):
+    """Entries in their order, each with its line: the journal's letter, when it was asked, and how many seconds later
+    it was answered, or None."""
+    for number, (name, at, *took) in enumerate(lines, 1):
+        asked = at if isinstance(at, str) else clock(at)
+        answered = "" if took == [None] else asked if isinstance(at, str) else clock(at + sum(took))
+        status = 200 if answered else None
+        yield number, Step(name, number, asked, "/v1/ship", {"nr": number}, "", name, "", answered, status)
+
+
+class Clocks(unittest.TestCase):
+    def test_contradictions(self):
+        """Which lines are told, by their numbers, where entries come in the order 1, 2, 3.. and times don't."""
+        turns = [("a" if place % 2 else "b", 10 * place) for place in range(12)]
+
+        def moved(seconds, *numbers):
+            return [(name, at + (seconds if place in numbers else 0)) for place, (name, at) in enumerate(turns, 1)]
+
+        own = (1, 3, 5, 7, 9, 11)
+        for name, lines, meant in (
+            ("none", [], []),
+            ("one", turns[:1], []),
+            ("as it should be", turns, []),
+            ("a minute apart", moved(50, *own), []),
+            ("two minutes apart", moved(120, *own[:5]), [1, 3, 5, 7, 9]),
+            ("an hour ahead for a while, as in summer", moved(3600, 5, 7), [5, 7]),
+            ("an hour behind", [(it, at + 7200) for it, at in turns[:8]] + [("b", 3600 + 80)], [9]),
+            ("a day ahead", [*turns[:4], ("b", clock(45).replace("27T", "28T")), *turns[5:]], [5]),
+            ("2098", [turns[0], ("b", "2098-01-01T00:00:00Z"), *turns[2:]], [2]),
+            ("1999", [*turns[:-1], ("b", "1999-01-01T00:00:00Z")], [12]),
+            ("a reply that took two hours", [("a", 0, 7200), ("b", 3600), ("b", 7100)], []),
+            ("a long wait behind others", [("b", 3600), ("b", 7100), ("a", 0, 7200)], []),
+            ("a wait that ended before the others", [("b", 3600), ("b", 7100), ("a", 0, 3000)], [3]),
+            ("a reply that never came", [("b", 3600), ("b", 7100), ("a", 0, None)], []),
+            ("the only station, whose times all moved", [("a", at + 9000) for _, at in turns], []),
+        ):
+            with self.subTest(name):
+                self.assertEqual([it.step.line for it in contradictions(list(paired(*lines)))], meant)
+
+    def test_what_matters_to_a_period(self):
+        """Not a contradiction of two lines that are both before it, or both behind it."""
+        (it,) = contradictions(list(paired(("a", 0), ("b", 500), ("a", 100), ("a", 200), ("a", 300))))
+        spans = ((0, 90, False), (0, 200, True), (100, 200, True), (400, 600, True), (501, 900, False))
+        for start, end, meant in spans:
+            with self.subTest(f"{start} to {end}"):
+                self.assertEqual(it.is_of(Period(clock(start), clock(end))), meant, it)
+
+    def test_what_is_told(self):
+        """Both times, both lines, and which entry was written first."""
+        late, early = ([("a", 0), ("b", 900), ("a", 20), ("a", 30)], [("a", 900), ("a", 920), ("b", 10), ("a", 930)])
+        told = [next(contradictions(list(paired(*lines)))).told() for lines in (late, early)]
+        self.assertEqual(told, [
+            f"has {clock(900)}, and its entry was written before that of line 3 of a, which was answered at "
+            f"{clock(20)}",
+            f"was answered at {clock(10)}, and its entry was written behind that of line 2 of a, which was asked at "
+            f"{clock(920)}",
+        ])
+
+    def test_windows(self):
+        """Entries 1, 2, 3.. with their times; which places between two of them are outside of 100 to 200. 0.5 is in
+        front of the first one."""
+        for name, times, meant in (
+            ("none", [], []),
+            ("all inside", [100, 150, 199], []),
+            ("some before, some behind", [10, 20, 110, 120, 210, 220], [1.5, 5.5]),
+            ("all before", [10, 20, 30], [1.5, 2.5]),
+            ("all behind", [210, 220, 230], [1.5, 2.5]),
+            ("one of later among those of the period", [110, 9000, 120, 130], []),
+            ("one of earlier among those of the period", [110, 120, 1, 130], []),
+            ("the last one of later, and nothing behind it", [110, 120, 9000], []),
+            ("the first one of earlier, and nothing in front", [1, 110, 120], []),
+            ("one inside among those of later", [110, 210, 150, 220, 230], [4.5]),
+            ("one inside among those of earlier", [10, 20, 150, 30, 110], [1.5]),
+        ):
+            with self.subTest(name):
+                pairs = list(paired(*(("a", at) for at in times)))
+                window = window_of(pairs, Period(clock(100), clock(200)))
+                places = [place + 0.5 for place in range(len(times) + 1)]
+                self.assertEqual([place for place in places if window.is_outside(place)], meant)
+
+    def test_lines_without_an_entry(self):
+        """A line counts by its time; the first one with the one behind it; one of later where the store has its
+        number."""
+        store = SimpleNamespace(seats={"a": SimpleNamespace(last=4)})
+        for name, times, meant in (
+            ("inside", [110, 120], [1, 2]),
+            ("before", [10, 20, 110], [3]),
+            ("the first one is before", [10, 110, 120], [1, 2, 3]),
+            ("only one, before", [10], []),
+            ("behind, with numbers up to 4", [110, 210, 220, 230, 240], [1, 2, 3, 4]),
+        ):
+            with self.subTest(name):
+                steps = [step for _, step in paired(*(("a", at) for at in times))]
+                own = SimpleNamespace(seat="a", book=SimpleNamespace(steps=steps))
+                period = Period(clock(100), clock(200))
+                self.assertEqual([it.line for it in steps if counts(own, it, store, period)], meant)
+
+    def test_times_to_come(self):
+        """By more than an hour."""
+        steps = [step for _, step in paired(("a", 0), ("a", 3600), ("a", 3601), ("a", "2098-01-01T00:00:00Z"))]
+        self.assertEqual([it.line for it in to_come(steps, clock(0))], [3, 4])
+
+
+class Chains(unittest.TestCase):
+    ROWS = {"acme": 'map acme 1 {"map":"1","text_sha256":"1"}\n', "bolt": 'map bolt 1 {"map":"1","text_sha256":"1"}\n'}
+
+    def test_forged_lines(self):
+        """A line whose number of rows, customer or moment isn't so; the digests are all as they should be."""
+        two, acme = [("2026-01-01T02:00:00Z", "acme", 1)], self.ROWS["acme"]
+        for name, seals, status, words in (
+            ("honest", [*two, ("2026-01-02T02:00:00Z", "acme", 1)], 0, "Nothing found"),
+            ("of one moment", two + two, 0, "Not shown: when 2 seals came to be"),
+            ("one alone", two, 3, "No pair was compared"),
+            ("an earlier one", [*two, ("2026-01-01T01:59:59Z", "acme", 1)], 1, "2 of {} is of 2026-01-01T01:59:59Z"),
+            ("rows", [*two, ("2026-01-02T02:00:00Z", "acme", 2)], 1, "there are 1 row, and the seal says 2"),
+            ("a name", [*two, ("2026-01-02T02:00:00Z", "bolt", 1)], 1, "of bolt, and the line in front of it of acme"),
+            ("rows of acme", [("2026-01-02T02:00:00Z", "bolt", 1)] * 2, 1, "are rows of acme, and the seal is of bolt"),
+            ("no moment", [*two, ("2026-01-32T02:00:00Z", "acme", 1)], 1, "is of 2026-01-32T02:00:00Z, which is no"),
+            ("no time", [*two, ("2026-01-31_02:00:00Z", "acme", 1)], 1, "is no line of a chain"),
+        ):
+            with self.subTest(name), tempfile.TemporaryDirectory() as folder:
+                last, lines = 64 * "0", []
+                for number, (at, whose, count) in enumerate(seals, 1):
+                    it = sealed(last, number, at, whose, count, hashlib.sha256(acme.encode()).hexdigest())
+                    (Path(folder) / f"{number:06}.rows").write_text(acme)
+                    (Path(folder) / f"{number:06}.seal").write_text(it.line() + "\n")
+                    last, lines = it.seal, [*lines, it.line() + "\n"]
+                (Path(folder) / "chain").write_text("".join(lines))
+                found, out, told = ran("seal", "--verify", folder)
+                self.assertEqual((found, told, words.format(Path(folder) / "chain") in out), (status, "", True), out)
 
 
 class Seals(BooksCase):

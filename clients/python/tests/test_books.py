@@ -113,7 +113,8 @@ class Books(BooksCase):
             head, _, seal = line.rpartition(" ")
             last = hashlib.sha256(f"{last} {head}\n".encode()).hexdigest()
             self.assertEqual((seal, head.split()[4]), (last, hashlib.sha256(plants.read_bytes()).hexdigest()))
-        told = "Nothing found.\n2 seals, 1 pair compared, 0 signatures and 0 stamps held, rows of 0 missing.\n"
+        told = "Nothing found.\nNot shown: when 2 seals came to be, without a time stamp that was held.\n"
+        told += "2 seals, 1 pair compared, 0 signatures and 0 stamps held, rows of 0 missing.\n"
         self.assertEqual(ran("seal", "--verify", self.folder / "plant")[:2], (0, told))
         self.forge(store, "UPDATE ledger SET note = 'short' WHERE n = 3")
         status, out, _ = ran("seal", "--verify", plants, store)
@@ -148,7 +149,7 @@ class Books(BooksCase):
             (lambda: zipped(first, kept[first]), 0, ["Nothing found.", line.format("1 pair", 0)]),
             (lambda: zipped(first, kept[first].replace(b"match", b"short", 1)), 1, ["000001.rows.gz was changed"]),
             (lambda: (first.unlink(), second.unlink()), 1, ["has the rows of no seal", line.format("0 pairs", 2)]),
-            (lambda: first.unlink(), 0, ["Nothing found.", line.format("0 pairs", 1)]),
+            (lambda: first.unlink(), 3, ["No pair was compared", "aren't there: 000001.", line.format("0 pairs", 1)]),
             (lambda: chain.write_bytes(kept[chain].splitlines(True)[0]), 1, ["000002.seal is of a seal that"]),
             (lambda: (seals / "000002.seal.minisig").write_text("x"), 0, ["Not tested: the signatures of 1 seal."]),
             (lambda: (seals / "notes").write_text("x"), 0, ["Not tested, as no seal has such files: notes."]),
@@ -179,8 +180,9 @@ class Books(BooksCase):
             self.assertEqual(ran(*words)[0], 0)
         first, last = (seals / f"00000{number}.seal" for number in (3, 4))
         began = f"2 seals in front of {first} had no signature yet."
+        unshown = "Not shown: when 4 seals came to be, without a time stamp that was held."
         done = "4 seals, 3 pairs compared, 2 signatures and 0 stamps held, rows of 0 missing."
-        self.assertEqual(self.verified(*check), (0, f"Nothing found.\n{began}\n{done}\n"))
+        self.assertEqual(self.verified(*check), (0, f"Nothing found.\n{began}\n{unshown}\n{done}\n"))
         (seals / f"{last.name}.minisig").unlink()
         status, out = self.verified(*check)
         self.assertEqual((status, out.splitlines()[:3]), (1, [f"{last} has no signature.", "1 found.", began]))

@@ -3,6 +3,7 @@
 from __future__ import annotations
 
 import argparse
+from datetime import datetime, timezone
 from pathlib import Path
 from typing import Iterable
 
@@ -16,7 +17,7 @@ from wanekupo.books.stored import Books
 from wanekupo.command_row import Command
 from wanekupo.config import Settings
 from wanekupo.errors import NoPeriod
-from wanekupo.moments import tested_period
+from wanekupo.moments import tested_period, text_of
 from wanekupo.printing import Formulas, say
 from wanekupo.shift_report import add_period
 from wanekupo.signing import digest_of_file
@@ -55,7 +56,7 @@ def _audit(_: Settings, args: argparse.Namespace) -> int:
     path = Path(args.store)
     journals, period = books_of(args.journals), period_of(args.from_time, args.to_time)
     with Store(path) as store:
-        audit = audit_of(Books(store), journals, period)
+        audit = audit_of(Books(store), journals, period, text_of(datetime.now(timezone.utc)))
     if args.html:
         write(Path(args.html), as_html(audit, _read(path, journals)))
     if args.csv:

@@ -8,7 +8,7 @@ from pathlib import Path
 from typing import Optional
 
 from wanekupo.books import folder, shown, stored
-from wanekupo.books.chain import Chain
+from wanekupo.books.chain import PLANT, Chain
 from wanekupo.books.compare import Text
 from wanekupo.books.lines import KEY
 from wanekupo.books.stamp import Service
@@ -21,10 +21,7 @@ from wanekupo.printing import Progress, say
 from wanekupo.signing import signer_of
 from wanekupo.texts import shown as shown_text
 
-DONE, FOUND = 0, 1
-
-# Whose books a copy of a store has: all customers'.
-PLANT = "@all"
+DONE, FOUND, NOT_COMPARED = 0, 1, 3
 
 MORE = """. Without --store these are one customer's orders, devices, records and ledgers, by a token that looks. Each
 seal is a line of FOLDER/chain, over the line before and over the day's rows. With --verify nothing is sealed: of two
@@ -66,16 +63,19 @@ def _seal(settings: Settings, args: argparse.Namespace) -> int:
     chain, signer, service = Chain(Path(args.places[0])), signer_of(args), _service_of(args)
     with chain.held():
         chain.seals_of(args.customer or PLANT)
-        at = moment_text(datetime.now(timezone.utc))
         if args.store:
             with Store(Path(args.store)) as store:
-                seal = chain.add(stored.lines_of(stored.Books(store)), at, PLANT, signer, service)
+                seal = chain.add(stored.lines_of(stored.Books(store)), _now(), PLANT, signer, service)
         else:
             with looking_station_of(settings) as station, Progress("devices") as told_of:
                 lines = sorted(shown.lines_of(station, args.customer, told_of))
-            seal = chain.add(lines, at, args.customer, signer, service)
+            seal = chain.add(lines, _now(), args.customer, signer, service)
     say(seal.line() + "\n")
     return DONE
+
+
+def _now() -> str:
+    return moment_text(datetime.now(timezone.utc))
 
 
 # Comparing.
@@ -105,7 +105,7 @@ def _verify(args: argparse.Namespace) -> int:
         raise BadSettings("both --minisign and --cms are given", "Give the one by which these seals were signed.")
     minisign, cms = (Path(it) if it else None for it in (args.minisign, args.cms))
     made = folder.tested(Chain(places[0]), folder.Trusted(minisign, cms, _service_of(args)))
-    return _told(made.found, *made.notes, made.done())
+    return _told(made.found, *made.notes, made.done(), pairs=made.pairs)
 
 
 def _between(before: Path, after: Path) -> list[str]:
@@ -115,10 +115,12 @@ def _between(before: Path, after: Path) -> list[str]:
     return bad + folder.sentences_of(texts[before], texts[after])
 
 
-def _told(found: list[str], *more: str) -> int:
-    counted = f"{len(found)} found." if found else "Nothing found."
+def _told(found: list[str], *more: str, pairs: int = 1) -> int:
+    """Prints what was found. Where no pair was compared that isn't said to be nothing."""
+    counted = "Nothing found." if pairs else "No pair was compared: two seals with their rows are wanted."
+    counted = f"{len(found)} found." if found else counted
     say("".join(f"{shown_text(it)}\n" for it in (*found, counted, *more)))
-    return FOUND if found else DONE
+    return FOUND if found else DONE if pairs else NOT_COMPARED
 
 
 COMMANDS = [

@@ -4,17 +4,18 @@ from __future__ import annotations
 
 import bisect
 import sys
-from collections import defaultdict
+from collections import Counter, defaultdict
 from dataclasses import dataclass, field
 from typing import Iterable, Iterator, NamedTuple
 
+from wanekupo.books.clocks import Timed, Window, contradictions, to_come, window_of
 from wanekupo.books.coherence import faults_of
 from wanekupo.books.matching import Matched, Seated, matched, seated, steps_by_chip
-from wanekupo.books.numbers import Span, spans_of
+from wanekupo.books.numbers import Span, counts, spans_of, whole_customers
 from wanekupo.books.once import twice
-from wanekupo.books.papers import papers
+from wanekupo.books.papers import papers, unasked
 from wanekupo.books.shift import Period
-from wanekupo.books.steps import Book
+from wanekupo.books.steps import Book, Step
 from wanekupo.books.stored import Books, Entry, Life
 
 
@@ -46,21 +47,23 @@ class Held:
 
 @dataclass
 class Audit:
-    """All of it. `held_lines` is how many lines of the period there are."""
+    """All of it. `bare` is how many entries outside of the period have no line, `held_lines` how many lines of it there
+    are."""
 
     period: Period
     found: list[Found] = field(default_factory=list)
     held: list[Held] = field(default_factory=list)
     entries: int = 0
     outside: int = 0
+    bare: int = 0
     unheld: int = 0
     held_lines: int = 0
 
 
-def audit_of(store: Books, books: Iterable[Book], period: Period) -> Audit:
-    """Holds a store to the journals of its seats."""
+def audit_of(store: Books, books: Iterable[Book], period: Period, now: str) -> Audit:
+    """Holds a store to the journals of its seats. `now` is the moment of the audit."""
     journals = [seated(book, store) for book in books]
-    audit, laid = Audit(period), Laid(period)
+    audit, laid = Audit(period), Laid(store, period)
     lost = _without_journal(journals, store)
     steps = steps_by_chip(journals)
     for life in store.lives():
@@ -69,15 +72,19 @@ def audit_of(store: Books, books: Iterable[Book], period: Period) -> Audit:
         lost.difference_update(entry.row["seat"] for entry in life.entries if entry.row["seat"] in lost)
     for lines in steps.values():
         laid.take(matched((), lines))
+    laid.pairs.sort(key=lambda it: it[0])
     spans = spans_of(journals, store, period)
     audit.found += _journal_faults(journals, store)
-    audit.found += laid.faults
-    audit.found += _left_faults(audit, laid, laid.window(spans, store), _without_journal(journals, store))
+    audit.found += _clock_faults(journals, laid.pairs, period, now)
+    whole, window = whole_customers(spans, store), window_of(laid.pairs, period)
+    audit.found += laid.faults_in(window)
+    audit.found += _left_faults(audit, laid, window, whole, _without_journal(journals, store))
     audit.found += _idle_faults(lost, store)
     audit.found += [Found("numbers", it.at, it.customer, it.seat, "", told) for it in spans for told in it.faults]
     audit.found += [Found(kind, at, customer, "", chip, told) for kind, at, customer, chip, told in twice(store)]
     audit.found += [Found(*it) for it in papers(journals, store, period)]
-    audit.held = list(_held(journals, laid.places, spans, store, period))
+    audit.found += [Found(*it) for it in unasked(journals, store, whole)]
+    audit.held = list(_held(journals, laid.lines, spans, store, period))
     audit.held_lines = sum(period.has(step.at) for it in journals for step in it.book.steps)
     audit.found = sorted(dict.fromkeys(audit.found), key=lambda it: (it.at, it.customer, it.chip, it.kind, it.told))
     return audit
@@ -103,47 +110,38 @@ class Left(NamedTuple):
 
 
 class Laid:
-    """What was laid beside each other, chip by chip: of the pairs the ids and times, which lines have an entry, what
-    differs in the period, and the entries that are left over."""
+    """What was laid beside each other, chip by chip: the pairs that agree, how many lines of the period each file has
+    that have an entry, the pairs that differ, the entries that are left over, and the lines that are."""
 
-    def __init__(self, period: Period):
-        self.period = period
-        self.times: list[tuple[int, str]] = []
-        self.places: set[tuple[str, int]] = set()
+    def __init__(self, store: Books, period: Period):
+        self.store, self.period = store, period
+        self.pairs: list[Timed] = []
+        self.lines: Counter[str] = Counter()
+        self.odd: list[tuple[Left, Step, str, str]] = []
         self.left: list[Left] = []
         self.faults: list[Found] = []
 
     def take(self, made: Matched) -> None:
         for pair in made.pairs:
-            self.times.append((pair.entry.id, pair.step.at))
-            self.places.add((pair.step.file, pair.step.line))
-            if pair.kind and self.period.has(pair.step.at):
-                it, told = _left_of(pair.entry), f"{pair.told} ({pair.step.place()})"
-                self.faults.append(Found(pair.kind, pair.step.at, it.customer, it.seat, it.chip, _told(it, told)))
+            self.lines[pair.step.file] += pair.step.is_done() and self.period.has(pair.step.at)
+            if pair.kind:
+                self.odd.append((_left_of(pair.entry), pair.step, pair.kind, pair.told))
+            else:
+                self.pairs.append((pair.entry.id, pair.step))
         self.left += map(_left_of, made.entries)
         for own, step in made.steps:
-            if self.period.has(step.at):
+            if counts(own, step, self.store, self.period):
                 said = f"{step.event} {step.note}".rstrip()
                 told = f"{step.place()}, {said}, was accepted, and no ledger has it"
                 self.faults.append(Found("no_entry", step.at, own.customer, own.seat, step.chip, told))
 
-    def window(self, spans: list[Span], store: Books) -> tuple[float, float]:
-        """The ids of the entries that belong to the period: behind the last whose line is before it, and before the
-        first whose line is behind it. Where no line is before it, the journals begin there, unless they have each
-        seat's first number."""
-        before = [number for number, at in self.times if at < self.period.start]
-        behind = [number for number, at in self.times if at >= self.period.end]
-        if before:
-            first: float = max(before) + 1
-        elif {it.seat for it in spans if it.first == 1} >= {it.name for it in store.seats.values() if it.last}:
-            first = float("-inf")
-        else:
-            first = min((number for number, _ in self.times), default=float("-inf"))
-        return first, min(behind, default=float("inf"))
-
-    def begins_before(self) -> bool:
-        """Whether a line is of before the period, so that the journals have its beginning."""
-        return any(at < self.period.start for _, at in self.times)
+    def faults_in(self, window: Window) -> Iterator[Found]:
+        """The lines without an entry, and the pairs that differ. Of these the line's time is believed where the entry's
+        place among the others says so too."""
+        yield from self.faults
+        for it, step, kind, told in self.odd:
+            if self.period.has(step.at) or not window.is_outside(it.id):
+                yield Found(kind, step.at, it.customer, it.seat, it.chip, _told(it, f"{told} ({step.place()})"))
 
 
 def _left_of(entry: Entry) -> Left:
@@ -156,25 +154,24 @@ def _told(left: Left, told: str) -> str:
     return f"the entry {left.n}, {f'{left.event} {left.note}'.rstrip()}: {told}"
 
 
-def _left_faults(audit: Audit, laid: Laid, window: tuple[float, float], lost: set[str]) -> Iterator[Found]:
-    """The entries that are left over. A seat without a journal is told once."""
-    laid.times.sort()
-    is_begun = laid.begins_before()
-    inside = sum(audit.period.has(at) for _, at in laid.times)
-    audit.entries, audit.outside = inside, len(laid.times) - inside
+def _left_faults(audit: Audit, laid: Laid, window: Window, whole: set[str], lost: set[str]) -> Iterator[Found]:
+    """The entries that are left over. A seat without a journal is told once. Of what is in front of the first line
+    nothing is known but of customers whose journals are `whole`; what is behind the last one counts."""
+    inside = sum(audit.period.has(step.at) for _, step, *_ in (*laid.pairs, *laid.odd))
+    audit.entries, audit.outside = inside, len(laid.pairs) + len(laid.odd) - inside
     without: dict[tuple[str, str], int] = defaultdict(int)
     for left in laid.left:
-        if left.id >= window[1] or left.id < window[0] and is_begun:
-            audit.outside += 1
-        elif left.id < window[0]:
+        if window.is_outside(left.id):
+            audit.outside, audit.bare = audit.outside + 1, audit.bare + 1
+        elif laid.pairs and left.id < laid.pairs[0][0] and left.customer not in whole:
             audit.unheld += 1
+        elif left.seat in lost:
+            audit.entries += 1
+            without[left.customer, left.seat] += 1
         else:
             audit.entries += 1
-            if left.seat in lost:
-                without[left.customer, left.seat] += 1
-            else:
-                told = f"no journal of its seat has a line of it; it came {_between(laid.times, left.id)}"
-                yield Found("no_line", "", left.customer, left.seat, left.chip, _told(left, told))
+            told = f"no journal of its seat has a line of it; it came {_between(laid.pairs, left.id)}"
+            yield Found("no_line", "", left.customer, left.seat, left.chip, _told(left, told))
     for (customer, seat), count in sorted(without.items()):
         told = f"no journal of this seat was given: {count} entries of it have no line"
         yield Found("no_journal", "", customer, seat, "", told)
@@ -188,11 +185,11 @@ def _idle_faults(idle: set[str], store: Books) -> Iterator[Found]:
             yield Found("no_journal", "", seat.customer, seat.name, "", told)
 
 
-def _between(times: list[tuple[int, str]], number: int) -> str:
+def _between(pairs: list[Timed], number: int) -> str:
     """When an entry without a line came, by the lines of the entries that were committed before and behind it."""
-    place = bisect.bisect(times, (number, ""))
-    before = f"behind {times[place - 1][1]}" if place else ""
-    behind = f"before {times[place][1]}" if place < len(times) else ""
+    place = bisect.bisect(pairs, number, key=lambda it: it[0])
+    before = f"behind {pairs[place - 1][1].at}" if place else ""
+    behind = f"before {pairs[place][1].at}" if place < len(pairs) else ""
     return " and ".join(filter(None, (before, behind))) or "at a time that is not known"
 
 
@@ -211,6 +208,24 @@ def _journal_faults(journals: Iterable[Seated], store: Books) -> Iterator[Found]
             yield Found("no_seat", "", it.customer, it.seat, "", told)
 
 
+def _clock_faults(journals: Iterable[Seated], pairs: list[Timed], period: Period, now: str) -> Iterator[Found]:
+    """Times that can't be, told once for a file: where the first one is, what it contradicts, and how many more."""
+    wrong: dict[str, dict[int, tuple[Step, str]]] = defaultdict(dict)
+    for it in contradictions(pairs):
+        if it.is_of(period):
+            wrong[it.step.file][it.step.line] = it.step, it.told()
+    for own in journals:
+        for step in to_come(own.book.steps, now):
+            told = f"has {step.at}, and this machine's clock has {now}: that is a time to come"
+            wrong[step.file].setdefault(step.line, (step, told))
+        for file in own.book.files:
+            lines = wrong.get(file, {})
+            if lines:
+                step, told = lines[min(lines)]
+                more = f"; {len(lines) - 1} more, up to line {max(lines)}, can't be either" if len(lines) > 1 else ""
+                yield Found("clock", step.at, own.customer, own.seat, step.chip, f"{step.place()} {told}{more}")
+
+
 def _contradictions(life: Life) -> Iterator[Found]:
     """What of a chip's device, ledger and records says something else. Its entries were committed in their order."""
     for device in life.devices:
@@ -226,16 +241,16 @@ def _contradictions(life: Life) -> Iterator[Found]:
 
 
 def _held(
-    journals: Iterable[Seated], places: set[tuple[str, int]], spans: list[Span], store: Books, period: Period
+    journals: Iterable[Seated], lines: Counter[str], spans: list[Span], store: Books, period: Period
 ) -> Iterator[Held]:
-    """What of each seat was held to what. `places` are the lines that have an entry."""
+    """What of each seat was held to what. `lines` is how many lines of the period each file has that have an entry."""
     numbers = {it.seat: f"{it.first} to {it.known}" for it in spans if it.known}
     for it in journals:
-        steps = [step for step in it.book.steps if step.event and step.is_done() and period.has(step.at)]
-        both = sum((step.file, step.line) in places for step in steps)
+        count = sum(bool(step.event) and step.is_done() and period.has(step.at) for step in it.book.steps)
+        both = sum(lines[file] for file in it.book.files)
         last = store.seats[it.seat].last if it.seat in store.seats else 0
         name = ", ".join(it.book.files)
-        yield Held(it.customer, it.seat, name, it.known, len(steps), both, numbers.get(it.seat, ""), last)
+        yield Held(it.customer, it.seat, name, it.known, count, both, numbers.get(it.seat, ""), last)
     for name in sorted(_without_journal(journals, store)):
         it_seat = store.seats[name]
         yield Held(it_seat.customer, name, "none", "", 0, 0, "", it_seat.last)

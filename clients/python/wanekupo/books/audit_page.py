@@ -14,6 +14,8 @@ NUMBERS = frozenset(("lines", "matched", "last", "bytes"))
 
 # What each kind means, and what to do.
 KINDS = {
+    "clock": "a time that can't be, by the order of the entries or by the auditor's clock: a time was changed, or a "
+    "station's clock was wrong",
     "device": "a device, its ledger and its record contradict each other: somebody wrote to the store by hand",
     "exchanged": "an entry is at another place in its ledger than its line in the journal",
     "import": "an imported serial number isn't in the store as the journal has it",
@@ -69,6 +71,8 @@ def verdict(audit: Audit) -> str:
 
 def counted(audit: Audit) -> str:
     told = f"{audit.entries} entries of the period, {audit.outside} outside of it"
+    if audit.bare:
+        told = f"{told}, {audit.bare} of which have no line"
     if audit.unheld:
         return f"{told}; {audit.unheld} lie before the first line of these journals, and are held to nothing."
     return f"{told}."

@@ -16,15 +16,19 @@ from dataclasses import dataclass
 from pathlib import Path
 from typing import Iterable, Iterator, Optional
 
-from wanekupo.books.stamp import Service
+from wanekupo.books.stamp import AGAIN, Service, is_near, moment_in
 from wanekupo.errors import StationError
 from wanekupo.files import PRIVATE, locked, opened_lock, replace_bytes, replaced, synced_folder, tested_folder
+from wanekupo.moments import moment_of
 from wanekupo.signing import Signer
 
 # What the first seal has in the place of the one before it.
 NONE = 64 * "0"
-LINE = re.compile(r"(\d{6,}) (\S{20}) (\S{1,64}) (\d+) ([0-9a-f]{64}) ([0-9a-f]{64})")
+LINE = re.compile(r"(\d{6,}) (\d{4}-\d\d-\d\dT\d\d:\d\d:\d\dZ) (\S{1,64}) (\d+) ([0-9a-f]{64}) ([0-9a-f]{64})")
 READABLE = 0o644
+
+# Whose books a copy of a store has: all customers'.
+PLANT = "@all"
 
 # How a folder is named, behind a seal's number, that has the files of one that the chain doesn't have.
 ASIDE = "-aside-"
@@ -60,6 +64,11 @@ def seal_of(line: str, where: str) -> Seal:
     if not found:
         raise BadChain(f"{where} is no line of a chain", "Look at it in a copy: nothing was changed.")
     number, at, whose, rows, text, seal = found.groups()
+    try:
+        moment_of(at)
+    except ValueError as error:
+        told = f"{where} is of {at}, which is no moment"
+        raise BadChain(told, "Look at it in a copy: nothing was changed.") from error
     return Seal(int(number), at, whose, int(rows), text, seal)
 
 
@@ -127,6 +136,9 @@ class Chain:
     ) -> Seal:
         """Adds a seal over rows, which come in the order of their bytes. Until the chain has it nothing was done."""
         before = self.seals_of(whose)
+        if before and at < before[-1].at:
+            told = "Look at the clock. Where it was wrong when the last seal was made begin a new folder."
+            raise BadChain(f"the last seal is of {before[-1].at}, and this machine's clock has {at}", told)
         last, number = before[-1].seal if before else NONE, len(before) + 1
         self._set_aside(number)
         try:
@@ -136,7 +148,7 @@ class Chain:
             if signer:
                 signer.sign(self.seal_file(number))
             if service:
-                replace_bytes(self.stamp_file(number), service.stamped(seal.seal), READABLE)
+                self._stamp(seal, service)
         except BaseException:
             for file in self._files_of(number):
                 file.unlink()
@@ -144,6 +156,15 @@ class Chain:
         lines = "".join(f"{it.line()}\n" for it in [*before, seal])
         replace_bytes(self.folder / "chain", lines.encode(), READABLE)
         return seal
+
+    def _stamp(self, seal: Seal, service: Service) -> None:
+        """Has a seal stamped, by a service whose clock goes as this machine's."""
+        file = self.stamp_file(seal.number)
+        replace_bytes(file, service.stamped(seal.seal), READABLE)
+        moment = moment_in(file)
+        if not is_near(seal.at, moment):
+            told = f"Look at the clock. {AGAIN}"
+            raise BadChain(f"the time stamp is of {moment}, and this machine's clock has {seal.at}", told)
 
     def _files_of(self, number: int) -> list[Path]:
         return sorted(self.folder.glob(f"{number:06}.*"))

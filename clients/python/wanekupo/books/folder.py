@@ -13,9 +13,9 @@ from dataclasses import dataclass, field
 from pathlib import Path
 from typing import Iterator, Optional
 
-from wanekupo.books.chain import ASIDE, BadChain, Chain, Seal
+from wanekupo.books.chain import ASIDE, PLANT, BadChain, Chain, Seal
 from wanekupo.books.compare import Text, contradictions, differences
-from wanekupo.books.stamp import Service, verified
+from wanekupo.books.stamp import Service, is_near, moment_in, verified
 from wanekupo.errors import BadSettings
 from wanekupo.sentences import sentence_of
 from wanekupo.signing import CMS, MINISIG, BadSignature, beside, verify
@@ -48,12 +48,12 @@ class Tested:
     pairs: int = 0
     signatures: int = 0
     stamps: int = 0
-    missing: int = 0
+    missing: list[int] = field(default_factory=list)
 
     def done(self) -> str:
         counts = [_counted(self.seals, "seal"), f"{_counted(self.pairs, 'pair')} compared"]
         counts += [f"{_counted(self.signatures, 'signature')} and {_counted(self.stamps, 'stamp')} held"]
-        return f"{', '.join(counts)}, rows of {self.missing} missing."
+        return f"{', '.join(counts)}, rows of {len(self.missing)} missing."
 
 
 def _counted(number: int, what: str) -> str:
@@ -62,7 +62,7 @@ def _counted(number: int, what: str) -> str:
 
 def rows_of(data: bytes, name: Path) -> Text:
     """The rows of a file of a seal, which may be compressed. A file in which no line is a row is another one."""
-    text = _text_of(data)
+    text = _text_of(_plain(data))
     if not text.rows:
         told = "is no file of rows" if text.bad else "has no row, so nothing can be compared"
         raise BadSettings(f"{name} {told}", "Name NUMBER.rows of a seal, or the copy of a store.")
@@ -70,7 +70,7 @@ def rows_of(data: bytes, name: Path) -> Text:
 
 
 def _text_of(data: bytes, known: Optional[Text] = None) -> Text:
-    lines = _plain(data).decode("ascii", "backslashreplace").split("\n")
+    lines = data.decode("ascii", "backslashreplace").split("\n")
     return Text.of(lines if lines[-1] else lines[:-1], known)
 
 
@@ -107,7 +107,28 @@ def tested(chain: Chain, trusted: Trusted) -> Tested:
     _test_signatures(chain, seals, trusted, made)
     _test_stamps(chain, seals, trusted.service, made)
     _test_rows(chain, seals, made)
+    _tell_unshown(made)
     return made
+
+
+def _tell_unshown(made: Tested) -> None:
+    """What isn't shown by a folder like this one."""
+    if made.missing:
+        made.notes.append(f"Not compared, as their rows aren't there: {_numbers(made.missing)}.")
+    bare = made.seals - made.stamps
+    if bare:
+        made.notes.append(f"Not shown: when {_counted(bare, 'seal')} came to be, without a time stamp that was held.")
+
+
+def _numbers(missing: list[int]) -> str:
+    """Seals by their numbers, those in a row as from one to another."""
+    found: list[list[int]] = []
+    for number in missing:
+        if found and number == found[-1][-1] + 1:
+            found[-1][1:] = [number]
+        else:
+            found.append([number])
+    return ", ".join(" to ".join(f"{it:06}" for it in span) for span in found)
 
 
 # Files by their names.
@@ -120,6 +141,12 @@ def _lone_faults(chain: Chain, seals: list[Seal]) -> Iterator[str]:
             yield f"{file} isn't there"
         elif file.read_bytes() != f"{seal.line()}\n".encode():
             yield f"{file} isn't the line of the chain"
+    for before, seal in zip(seals, seals[1:]):
+        place = f"line {seal.number} of {chain.folder / 'chain'}"
+        if seal.at < before.at:
+            yield f"{place} is of {seal.at}, and the line in front of it of {before.at}"
+        if seal.whose != before.whose:
+            yield f"{place} is of {seal.whose}, and the line in front of it of {before.whose}"
 
 
 def _test_names(chain: Chain, names: list[str], made: Tested) -> None:
@@ -159,18 +186,25 @@ def _test_signatures(chain: Chain, seals: list[Seal], trusted: Trusted, made: Te
 
 
 def _test_stamps(chain: Chain, seals: list[Seal], service: Optional[Service], made: Tested) -> None:
-    stamps = {chain.seal_file(it.number): (chain.stamp_file(it.number), it.seal) for it in seals}
+    stamps = {chain.seal_file(it.number): (chain.stamp_file(it.number), it) for it in seals}
+    last = ""
     is_there = [stamp.exists() for stamp, _ in stamps.values()]
     if not service:
         if any(is_there):
             made.notes.append(f"Not tested: the time stamps of {_counted(sum(is_there), 'seal')}. Give --tsa-ca.")
         return
     for file in _begun(list(stamps), is_there, "time stamp", made):
-        stamp, digest = stamps[file]
-        if verified(stamp, digest, service):
-            made.stamps += 1
-        else:
+        stamp, seal = stamps[file]
+        if not verified(stamp, seal.seal, service):
             made.found.append(f"{stamp} is no time stamp of {file} by the service.")
+            continue
+        made.stamps += 1
+        moment = moment_in(stamp)
+        if not is_near(seal.at, moment):
+            made.found.append(f"{stamp} is of {moment}, and its seal says {seal.at}: an hour may lie between them.")
+        if moment < last:
+            made.found.append(f"{stamp} is of {moment}, and the stamp in front of it of {last}.")
+        last = max(last, moment)
 
 
 def _begun(files: list[Path], is_there: list[bool], what: str, made: Tested) -> list[Path]:
@@ -198,23 +232,33 @@ def _test_rows(chain: Chain, seals: list[Seal], made: Tested) -> None:
     for seal in seals:
         files = [it for it in _row_files(chain, seal) if it.exists()]
         if not files:
-            made.missing += 1
+            made.missing.append(seal.number)
             continue
-        data = [it.read_bytes() for it in files]
-        changed = [it for it, its in zip(files, data) if hashlib.sha256(_plain(its)).hexdigest() != seal.text]
+        data = [_plain(it.read_bytes()) for it in files]
+        changed = [it for it, its in zip(files, data) if hashlib.sha256(its).hexdigest() != seal.text]
         made.found += [f"{it} was changed since it was sealed." for it in changed]
         if changed:
             continue
         text = _text_of(data[0], before)
-        made.found += [f"{files[0]}: {it}." for it in text.bad]
+        made.found += [f"{files[0]}: {it}." for it in (*text.bad, *_line_faults(seal, data[0], text))]
         if before is None:
             made.found += sorted(it.sentence() for it in dict.fromkeys(contradictions(text)))
         else:
             made.found += [f"{last} to {seal.number:06}: {it}" for it in sentences_of(before, text)]
             made.pairs += 1
         before, last = text, f"{seal.number:06}"
-    if seals and made.missing == len(seals):
+    if len(made.missing) == len(seals):
         made.found.append(f"{chain.folder} has the rows of no seal, so no row was compared.")
+
+
+def _line_faults(seal: Seal, data: bytes, text: Text) -> Iterator[str]:
+    """What of a seal's line isn't so by its rows."""
+    count = data.count(b"\n")
+    if count != seal.rows:
+        yield f"there are {_counted(count, 'row')}, and the seal says {seal.rows}"
+    others = {key[0] for _, key in text.rows} - {seal.whose}
+    if others and seal.whose != PLANT:
+        yield f"there are rows of {', '.join(sorted(others))}, and the seal is of {seal.whose}"
 
 
 def _row_files(chain: Chain, seal: Seal) -> list[Path]:

@@ -2,8 +2,9 @@
 
 from __future__ import annotations
 
+import json
 from dataclasses import dataclass, field
-from typing import Iterable, Iterator, Optional
+from typing import Any, Iterable, Iterator, Optional
 
 from wanekupo.books.matching import Seated
 from wanekupo.books.shift import Period
@@ -21,6 +22,22 @@ class Span:
     first: int = 0
     known: int = 0
     faults: list[str] = field(default_factory=list)
+
+
+def counts(it: Seated, step: Step, store: Books, period: Period) -> bool:
+    """Whether a line is of a period: by its time; as the first of its journal, in front of which nothing contradicts
+    its time, with the one behind it; and behind the period as long as the store has its number."""
+    if step.at >= period.end:
+        return it.seat in store.seats and step.number <= store.seats[it.seat].last
+    first = it.book.steps[:2]
+    return step.at >= period.start or step is first[0] and first[-1].at >= period.start
+
+
+def whole_customers(spans: Iterable[Span], store: Books) -> set[str]:
+    """The customers of whose seats the journals have the first number of each that has asked for something."""
+    whole = {it.seat for it in spans if it.first == 1}
+    parts = {it.customer for it in store.seats.values() if it.last and it.name not in whole}
+    return {it.customer for it in store.seats.values()} - parts
 
 
 def spans_of(journals: Iterable[Seated], store: Books, period: Period) -> list[Span]:
@@ -71,10 +88,10 @@ def _named(first: int, last: int) -> str:
 
 
 def _end_fault(seat: Seat, span: Span, steps: list[Step], period: Period) -> Optional[str]:
-    """Whether the store and the journals end with the same number. A line of before the period's end that the store
-    doesn't know shows an older store."""
+    """Whether the store and the journals end with the same number: journals reach as far as the store does. A line of
+    before the period's end that the store doesn't know shows an older store."""
     asked = max(it.number for it in steps)
-    if seat.last > max(asked, span.known) and span.at < period.end:
+    if seat.last > max(asked, span.known):
         return f"{_named(asked + 1, seat.last)} no line, behind {span.at}: the journal lacks its end, or a foreign hand"
     unknown = [it for it in _done_behind(steps, seat.last) if it.at < period.end]
     if unknown:
@@ -92,4 +109,16 @@ def _last_fault(seat: Seat, steps: list[Step]) -> Optional[str]:
     lines = [it for it in steps if it.number == seat.last]
     if lines and all(it.digest != seat.digest for it in lines):
         return f"the store's last request, number {seat.last}, isn't that of {lines[-1].place()}"
+    done = [it for it in lines if it.is_done()]
+    if done and not _has(seat.reply, done[-1].reply):
+        return f"the reply that the store keeps of number {seat.last} isn't that of {done[-1].place()}"
     return None
+
+
+def _has(text: str, reply: dict[str, Any]) -> bool:
+    """Whether a reply's text has these members."""
+    try:
+        kept = json.loads(text)
+    except (ValueError, RecursionError):
+        return False
+    return isinstance(kept, dict) and all(kept.get(name) == it for name, it in reply.items())

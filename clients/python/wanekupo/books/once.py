@@ -15,6 +15,7 @@ def twice(store: Books) -> Iterator[Row]:
     yield from _numbers_twice(store)
     yield from _addresses_twice(store)
     yield from _misplaced(store)
+    yield from _passed_over(store)
 
 
 def _numbers_twice(store: Books) -> Iterator[Row]:
@@ -54,6 +55,17 @@ def _misplaced(store: Books) -> Iterator[Row]:
             continue
         for told in _place_faults(record, order):
             yield "record", "", customer, record["chip"], told
+
+
+def _passed_over(store: Books) -> Iterator[Row]:
+    """Orders that go on behind a number that was never given."""
+    for (customer, name), order in store.orders.items():
+        free = store.next_of(order)
+        end = order["first"] + order["quantity"]
+        number = end if free is None else int(free.removeprefix(order["prefix"]))
+        if order["cursor"] > number:
+            told = f"the order {name} goes on at its number {order['cursor']}, behind {free or 'its end'}"
+            yield "order", "", customer, "", told
 
 
 def _place_faults(record: dict[str, Any], order: dict[str, Any]) -> Iterator[str]:

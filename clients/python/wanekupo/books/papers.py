@@ -3,9 +3,11 @@
 from __future__ import annotations
 
 import hashlib
+from collections import Counter
 from typing import Callable, Iterable, Iterator
 
 from wanekupo.books.matching import Seated
+from wanekupo.books.numbers import counts
 from wanekupo.books.shift import Period
 from wanekupo.books.steps import Step
 from wanekupo.books.stored import Books
@@ -23,9 +25,51 @@ def papers(journals: Iterable[Seated], store: Books, period: Period) -> Iterator
     for it in journals:
         for step in it.book.steps:
             judge = JUDGES.get(step.path)
-            if judge and step.is_done() and period.has(step.at) and it.seat in store.seats:
+            if judge and step.is_done() and it.seat in store.seats and counts(it, step, store, period):
                 for kind, told in judge(it, step, store):
                     yield kind, step.at, it.customer, it.seat, step.chip, f"{told} ({step.place()})"
+
+
+def unasked(journals: Iterable[Seated], store: Books, whole: set[str]) -> Iterator[Row]:
+    """Orders, maps and imported numbers that no line asked for, of customers whose journals are whole: a store has no
+    time of them."""
+    asked: set[tuple[str, str, str]] = set()
+    added: Counter[str] = Counter()
+    for it in journals:
+        for step in it.book.steps:
+            if step.status in (None, 200):
+                asked.add((it.customer, step.path, _name_of(step)))
+                added[it.customer] += _added_by(step)
+    for customer, name in store.orders:
+        if customer in whole and (customer, "/v1/order", name) not in asked:
+            yield "order", "", customer, "", "", f"no line asked for the order {name}"
+    for customer, digest, _ in store.maps:
+        if customer in whole and (customer, "/v1/map", digest) not in asked:
+            yield "map", "", customer, "", "", f"no line imported the map {digest}"
+    for customer, count in store.imported():
+        if customer in whole and count > added[customer]:
+            told = f"the store has {count} imported serial numbers, and the lines brought {added[customer]}"
+            yield "import", "", customer, "", "", told
+
+
+def _name_of(step: Step) -> str:
+    """What an order or a map is known by; nothing of another request."""
+    name = {"/v1/order": "name", "/v1/map": "text"}.get(step.path, "")
+    text = str(step.asked.get(name, ""))
+    return hashlib.sha256(text.encode("utf-8", "replace")).hexdigest() if name == "text" else text
+
+
+def _added_by(step: Step) -> int:
+    """How many numbers an import brought, or may have brought where its reply never came."""
+    if step.path != "/v1/import":
+        return 0
+    if step.is_done():
+        added = step.reply.get("added")
+        return added if type(added) is int and added > 0 else 0
+    try:
+        return len(rows_of(str(step.asked.get("csv", ""))))
+    except ValueError:
+        return 0
 
 
 def _identity(_: Seated, step: Step, store: Books) -> Iterator[tuple[str, str]]:

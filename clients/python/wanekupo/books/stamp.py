@@ -3,6 +3,7 @@
 from __future__ import annotations
 
 import http.client
+import re
 import subprocess
 import tempfile
 import urllib.request
@@ -10,7 +11,17 @@ from dataclasses import dataclass
 from pathlib import Path
 from typing import Optional
 
+from wanekupo.books.shift import seconds_between
 from wanekupo.errors import BadSettings, NoReply, NotTheServer
+
+# A stamp is had within an hour behind its seal; the service's clock may be a minute behind the one of the seal.
+LATEST, EARLIEST = 3600, -60
+
+# How `openssl ts` prints the moment of a stamp.
+MONTHS = "Jan Feb Mar Apr May Jun Jul Aug Sep Oct Nov Dec".split()
+STAMPED = re.compile(
+    rf"^Time stamp: ({'|'.join(MONTHS)}) +(\d+) (\d\d:\d\d:\d\d)(?:\.\d+)? (\d{{4}}) GMT$", re.MULTILINE
+)
 
 KIND = "application/timestamp-query"
 SECONDS, LONGEST = 60, 1 << 20
@@ -63,6 +74,21 @@ class Service:
 def verified(reply: Path, digest: str, service: Service) -> bool:
     """Whether a kept reply is a time stamp of a digest by the service."""
     return reply.exists() and service.is_verified(reply, "-digest", digest)
+
+
+def moment_in(reply: Path) -> str:
+    """The moment of a verified reply, by what the service signed: around that anybody may write into a reply."""
+    text = _openssl("-reply", "-in", str(reply), "-token_out", "-text").decode("utf-8", "backslashreplace")
+    found = STAMPED.search(text)
+    if not found:
+        raise NotTheServer(f"{reply} has no moment")
+    month, day, time, year = found.groups()
+    return f"{year}-{MONTHS.index(month) + 1:02}-{int(day):02}T{time}Z"
+
+
+def is_near(at: str, moment: str) -> bool:
+    """Whether a stamp of this moment can be that of a seal of this one."""
+    return EARLIEST <= seconds_between(at, moment) <= LATEST
 
 
 def _openssl(*words: str) -> bytes:
