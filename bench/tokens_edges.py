@@ -330,7 +330,7 @@ HOLDS = """
 import socket
 listener = socket.create_server(("127.0.0.1", 8443), backlog=1000)
 held = []
-for address, count in [("127.0.0.1", 410), ("127.0.0.2", 10)]:
+for address, count in [("127.0.0.1", 74), ("127.0.0.2", 10)]:
     for _ in range(count):
         try:
             held.append(socket.create_connection(("127.0.0.1", 8443), 5, (address, 0)))
@@ -366,7 +366,7 @@ def port(place, tried):
     said = ran(["unshare", "-n", "sh", "-c", ASKS, "sh", place.program, rule, HOLDS], place.folder).stdout.splitlines()
     wanted = ["nobody 401", "root 401", "www-data 401", "nobody 000", "PermissionError: [Errno 13] Permission denied"]
     tried.same("nobody before the rule; root, nginx and nobody with it; nobody as the server", said[:5], wanted)
-    tried.same("410 connections of one address, and 10 of another", said[5:], ["127.0.0.1 400", "127.0.0.2 410"])
+    tried.same("74 connections of one address, and 10 of another", said[5:], ["127.0.0.1 64", "127.0.0.2 74"])
 
 
 EDGES = [certificates, shares, customers, strangers, health, health_seat, encryption, silent, port]
