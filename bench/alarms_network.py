@@ -1,12 +1,11 @@
-#!/usr/bin/env python3
-"""What another machine reaches of the deployed form with all that watches it, for `alarms`: nginx's port alone.
+"""What another machine reaches of the deployed form with all that watches it, for `alarms`: nginx's port alone. And
+what the requests of a stranger take of the server's connections: none.
 
-    alarms_network P    over the program P, in a network and mounts of its own: unshare -n -m
-
-The server, nginx and Debian's four services run here, the services by the line `ExecStart=` of Debian's units or of the
-package's drop-ins, with Debian's ARGS. Another network, which a pair of interfaces joins to this one, connects to each
-of the 65,535 ports. First with Debian's own lines and without rules, which it has to find open; then with each of the
-two things alone that close them, deploy/station.nft and the drop-ins.
+This file run as a program has a network and mounts of its own. The server, nginx and Debian's four services run there,
+the services by the line `ExecStart=` of Debian's units or of the package's drop-ins, with Debian's ARGS. Another
+network, which a pair of interfaces joins to that one, connects to each of the 65,535 ports. First with Debian's own
+lines and without rules, which it has to find open; then with each of the two things alone that close them,
+deploy/station.nft and the drop-ins.
 """
 
 import re
@@ -27,6 +26,9 @@ PORT, OURS, THEIRS = 8443, "10.0.2.1", "10.0.2.9"
 SERVICES = ["prometheus", "prometheus-alertmanager", "prometheus-blackbox-exporter", "prometheus-node-exporter"]
 # The ports that Debian's units listen on, and an address that each answers here with 200.
 WATCHING = {9090: "/-/ready", 9093: "/-/ready", 9094: None, 9100: "/metrics", 9115: "/"}
+
+# How many requests a stranger sends.
+STRANGE = 20_000
 
 # Connects to all ports of an address, and says which take it. Those that say nothing for a second are closed.
 LOOKS = """
@@ -179,6 +181,25 @@ def tried(network):
         if path:
             network.wait_for(port, path)
     print("this machine reaches all that watches", flush=True)
+
+
+def try_network(program):
+    """What another machine reaches, in a network and mounts of its own."""
+    done = ran(["unshare", "-n", "-m", sys.executable, "-B", __file__, program])
+    print(done.stdout, end="", flush=True)
+    if done.returncode:
+        raise Failed(f"another network: {done.stderr}")
+
+
+def try_strangers(plant):
+    """A stranger's requests, most of them above the rate, take none of the server's connections."""
+    count = len(plant.place.recorder.heads)
+    flood = ran(["h2load", "-n", STRANGE, "-c", "40", "-m", "10", f"{plant.url}/v1/report"]).stdout
+    plant.look()
+    left = plant.value("wanekupo_connections_left")
+    if f" {STRANGE} done, 0 succeeded" not in flood or left != plant.connections - count:
+        raise Failed(f"{STRANGE} requests of a stranger, {count} others: {left} connections are left. {flood}")
+    print(f"{STRANGE} requests of a stranger, {count} others: {left} connections are left", flush=True)
 
 
 def main():

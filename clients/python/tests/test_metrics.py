@@ -188,7 +188,7 @@ class Metrics(StationCase):
             self.assertNotIn("wanekupo_connections_left", found)
         passed.unlink()
         found, told = self.metrics(*words, "--status", self.canned(200, "text/plain", STATUS.encode() % 9), **environment)
-        self.assertIn(f"requests: Nginx doesn't count in {passed} what it passes on. Take today's nginx.conf.", told)
+        self.assertIn(f"requests: nginx doesn't count in {passed} what it passes on. Take today's nginx.conf.", told)
         self.assertNotIn("wanekupo_connections_left", found)
 
     def test_the_file(self):
