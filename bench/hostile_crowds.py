@@ -161,8 +161,8 @@ def silent(target):
 
 
 def half_shaken(target):
-    """Connections that stop behind the first byte of TLS, of all addresses of a /24: none of them says nothing, and nginx
-    closes none before its time."""
+    """Connections that stop behind the first byte of TLS, of all addresses of a /24. Where nginx needs room it closes
+    silent ones early, and none of these."""
     numbers = itertools.count()
 
     def opened():

@@ -234,7 +234,7 @@ class Place:
             ("/var/lib/nginx/", f"{self.folder}/"),
             ("/etc/station/", f"{self.folder}/"),
             ("\nhttp {\n", "\nhttp {\n" + folders),
-            ("    log_format passed", f"    access_log {self.folder}/access.log station if=$is_logged;\n    log_format passed"),
+            ("log_format passed", f"access_log {self.folder}/access.log station if=$is_logged; log_format passed"),
             ("\nevents {\n", f"\npid {self.folder}/nginx.pid;\nevents {{\n"),
         ]
         return replaced(DEPLOYED.read_text(encoding="utf-8"), [*pairs, *self.changed])

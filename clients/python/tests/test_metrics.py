@@ -187,7 +187,8 @@ class Metrics(StationCase):
             self.assertIn(sentence, told)
             self.assertNotIn("wanekupo_connections_left", found)
         passed.unlink()
-        found, told = self.metrics(*words, "--status", self.canned(200, "text/plain", STATUS.encode() % 9), **environment)
+        url = self.canned(200, "text/plain", STATUS.encode() % 9)
+        found, told = self.metrics(*words, "--status", url, **environment)
         self.assertIn(f"requests: nginx doesn't count in {passed} what it passes on. Take today's nginx.conf.", told)
         self.assertNotIn("wanekupo_connections_left", found)
 

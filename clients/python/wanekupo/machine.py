@@ -1,5 +1,5 @@
-"""What the server's machine shows, for metrics: the process, the store's files, nginx's counts of requests, and the last
-backup. Nothing here asks the server itself, which tells nobody how many connections it has left.
+"""What the server's machine shows, for metrics: the process, the store's files, what nginx counts, and the last backup.
+Nothing here asks the server itself, which tells nobody how many connections it has left.
 """
 
 from __future__ import annotations
