@@ -195,7 +195,8 @@ class Plant:
     def metrics_words(self):
         words = ["metrics", "--url", self.url, "--ca", self.small / "etc/cert.pem", "--tokens", self.small / "tokens"]
         words += ["--site", self.place.site, "--db", self.small / "books.db", "--unit", "station"]
-        words += ["--status", f"{self.url}/status", "--backups", self.backups, "--journals", self.journals]
+        words += ["--status", f"{self.url}/status", "--passed", self.small / "log/nginx.conf-passed"]
+        words += ["--backups", self.backups, "--journals", self.journals]
         words += ["--to", self.text_folder / "wanekupo.prom", "--kept", self.folder / "kept.json"]
         return [*words, "--connections", self.connections, *self.shift, "--patience", "1"]
 

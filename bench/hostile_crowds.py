@@ -5,6 +5,7 @@ returns what it counted: `opened` connections, the most that were `held` at a ti
 `bytes` that were sent over them."""
 
 import csv
+import itertools
 import queue
 import resource
 import select
@@ -43,10 +44,12 @@ class Target:
         context.check_hostname, context.verify_mode = False, ssl.CERT_NONE
         return context
 
-    def plain(self, room=None):
-        """A new connection."""
+    def plain(self, room=None, address=None):
+        """A new connection, of an address or of any."""
         made = socket.socket(socket.AF_INET, socket.SOCK_STREAM)
         try:
+            if address:
+                made.bind((address, 0))
             if room:
                 made.setsockopt(socket.SOL_SOCKET, socket.SO_RCVBUF, room)
             made.settimeout(OPENING)
@@ -155,6 +158,19 @@ class Crowd:
 def silent(target):
     """Connections that say nothing, not even TLS's first word."""
     return Crowd(target, lambda: (target.plain(), 0)).run()
+
+
+def half_shaken(target):
+    """Connections that stop behind the first byte of TLS, of all addresses of a /24. Where nginx needs room it closes
+    silent ones early, and none of these."""
+    numbers = itertools.count()
+
+    def opened():
+        made = target.plain(address=f"127.0.1.{1 + next(numbers) % 254}")
+        made.sendall(b"\x16")
+        return made, 1
+
+    return Crowd(target, opened).run()
 
 
 def sent_first(target, data, room=None, is_half=False):

@@ -233,9 +233,9 @@ class Place:
             ("/var/log/nginx/", f"{self.folder}/"),
             ("/var/lib/nginx/", f"{self.folder}/"),
             ("/etc/station/", f"{self.folder}/"),
-            ("http {\n", "http {\n" + folders),
-            ("access_log off;", f"access_log {self.folder}/access.log station if=$is_logged;"),
-            ("events {\n", f"pid {self.folder}/nginx.pid;\nevents {{\n"),
+            ("\nhttp {\n", "\nhttp {\n" + folders),
+            ("log_format passed", f"access_log {self.folder}/access.log station if=$is_logged; log_format passed"),
+            ("\nevents {\n", f"\npid {self.folder}/nginx.pid;\nevents {{\n"),
         ]
         return replaced(DEPLOYED.read_text(encoding="utf-8"), [*pairs, *self.changed])
 

@@ -448,11 +448,12 @@ def reloads(place, tried):
         held = pool.submit(place.ask, by(place.outer["work"]), "/v1/order?name=hold")
         until(lambda: any(b"hold" in head for head in place.recorder.heads))
         client = pool.submit(client_of, place, ASKING, 15)
-        for _ in range(4):
+        place.made("more", "add", "b1")
+        place.recorder.gate.set()  # within the five seconds that nginx gives a worker of before
+        tried.same("under way", told(held.result()), NO_ORDER)
+        for _ in range(3):
             place.made("more", "add", "b1")
             time.sleep(0.4)
-        place.recorder.gate.set()
-        tried.same("under way", told(held.result()), NO_ORDER)
         tried.same("a station's, ten a second", client.result(), "ok")
 
 

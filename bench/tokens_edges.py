@@ -231,6 +231,60 @@ def strangers(place, tried):
     tried.same("nothing else is told", (place.folder / "log/nginx.conf-error.log").read_text(), "")
 
 
+def at_once(place, count, target, *words):
+    """The statuses of many requests at a time, each once."""
+    urls = f'url = "https://localhost:{place.port}{target}"\noutput = "/dev/null"\n' * count
+    (place.folder / "urls").write_text(urls, encoding="ascii")
+    words = ["curl", "-sS", "-Z", "--cacert", "etc/cert.pem", "-K", "urls", *words, "-w", "%{http_code}\n"]
+    return {int(it) for it in ran(words, place.folder).stdout.split()}
+
+
+def rates(place, tried):
+    """what is refused has a rate too: a POST of a token that looks, and /health for who may not ask"""
+    working(place)
+    token = ["-H", f"Authorization: {by(place.outer['look'])}", "-d", "{}"]
+    tried.same("one POST of a token that looks", at_once(place, 1, "/v1/order", *token), {403})
+    tried.same("100 of them", at_once(place, 100, "/v1/order", *token), {403, 503})
+    other = ["--interface", "127.0.0.9"]
+    tried.same("one look at /health by another address", at_once(place, 1, "/health", *other), {401})
+    tried.same("300 of them", at_once(place, 300, "/health", *other), {401, 503})
+    tried.same("300 by this machine", at_once(place, 300, "/health"), {200})
+    tried.same("of these came through", len(place.recorder.heads) <= 2, True)
+
+
+# Requests that nginx itself refuses, behind their first line's method, and what docs/reference/api.md calls that.
+FIELDS = "Host: h\r\nAuthorization: Bearer TOKEN\r\n"
+ODD = [
+    ("no HTTP", "\0\1\2 \r\n\r\n", 400, "bad_head", 1),
+    ("a word", "GET\r\n\r\n", 400, "bad_head", 1),
+    ("no name of a host", "GET / HTTP/1.1\r\nAuthorization: Bearer TOKEN\r\n\r\n", 400, "bad_head", 1),
+    ("two tokens", f"GET / HTTP/1.1\r\n{FIELDS}Authorization: Bearer x\r\n\r\n", 400, "bad_head", 1),
+    ("a field of 9,000 bytes", f"GET / HTTP/1.1\r\n{FIELDS}X: {'x' * 9000}\r\n\r\n", 400, "bad_head", 1),
+    ("a target of 9,000 bytes", f"GET /{'x' * 9000} HTTP/1.1\r\n{FIELDS}\r\n", 400, "bad_head", 1),
+    ("HTTP/3.0", f"GET / HTTP/3.0\r\n{FIELDS}\r\n", 400, "bad_head", 1),
+    ("two lengths", f"POST / HTTP/1.1\r\n{FIELDS}Content-Length: 1\r\nContent-Length: 1\r\n\r\nx", 400, "bad_head", 1),
+    ("65,537 bytes", f"POST / HTTP/1.1\r\n{FIELDS}Content-Length: 65537\r\n\r\nx", 413, "too_large", 3),
+    ("65,537 of a stranger", "POST / HTTP/1.1\r\nHost: h\r\nContent-Length: 65537\r\n\r\nx", 413, "too_large", 3),
+    ("gzip", f"POST / HTTP/1.1\r\n{FIELDS}Transfer-Encoding: gzip\r\n\r\nx", 501, "chunked", 4),
+    ("TRACE", f"TRACE / HTTP/1.1\r\n{FIELDS}\r\n", 404, "unknown_path", 7),
+]
+
+
+def odd(place, tried):
+    """what nginx itself refuses has the server's form"""
+    working(place)
+    for what, text, status, name, no in ODD:
+        head, _, body = place.raw(text.replace("TOKEN", place.outer["work"]).encode()).partition(b"\r\n\r\n")
+        got = (int(head.split(b" ")[1]), body.decode(), b"\r\nContent-Type: application/json\r\n" in head)
+        tried.same(what, got, (status, refusal(name, no), True))
+    large = place.ask(by(place.outer["work"]), "/v1/import", "x" * 65537, ["--http2"])
+    tried.same("65,537 bytes over HTTP/2", told(large), (413, refusal("too_large", 3)))
+    tried.same("came through", place.recorder.heads, [])
+    chunked = ["-H", "Transfer-Encoding: chunked", "--http1.1"]
+    tried.same("in pieces: made whole", place.ask(by(place.outer["work"]), "/v1/ship", "{}", chunked)[0], 400)
+    tried.same("came through", [b"\r\nContent-Length: 2" in head for head in place.recorder.heads], [True])
+
+
 def health(place, tried):
     """up or down, for named addresses alone, and no flood of it reaches the server"""
     working(place)
@@ -330,7 +384,7 @@ HOLDS = """
 import socket
 listener = socket.create_server(("127.0.0.1", 8443), backlog=1000)
 held = []
-for address, count in [("127.0.0.1", 410), ("127.0.0.2", 10)]:
+for address, count in [("127.0.0.1", 74), ("127.0.0.2", 10)]:
     for _ in range(count):
         try:
             held.append(socket.create_connection(("127.0.0.1", 8443), 5, (address, 0)))
@@ -366,7 +420,7 @@ def port(place, tried):
     said = ran(["unshare", "-n", "sh", "-c", ASKS, "sh", place.program, rule, HOLDS], place.folder).stdout.splitlines()
     wanted = ["nobody 401", "root 401", "www-data 401", "nobody 000", "PermissionError: [Errno 13] Permission denied"]
     tried.same("nobody before the rule; root, nginx and nobody with it; nobody as the server", said[:5], wanted)
-    tried.same("410 connections of one address, and 10 of another", said[5:], ["127.0.0.1 400", "127.0.0.2 410"])
+    tried.same("74 connections of one address, and 10 of another", said[5:], ["127.0.0.1 64", "127.0.0.2 74"])
 
 
-EDGES = [certificates, shares, customers, strangers, health, health_seat, encryption, silent, port]
+EDGES = [certificates, shares, customers, strangers, rates, odd, health, health_seat, encryption, silent, port]

@@ -118,7 +118,7 @@ class Place:
             ("/var/lib/nginx/", f"{self.folder}/lib/{name}-"),
             ("/var/log/nginx/", f"{self.folder}/log/{name}-"),
             ("/usr/share/wanekupo/", f"{ROOT}/clients/web/"),
-            ("access_log off;", f"access_log {self.folder}/log/{name} station if=$is_logged;"),
+            ("log_format passed", f"access_log {self.folder}/log/{name} station if=$is_logged; log_format passed"),
         ]:
             if old not in text:
                 raise SystemExit(f"tokens: deploy/nginx.conf has no {old}")

@@ -159,11 +159,16 @@ class Metrics(StationCase):
         self.assertEqual((found['wanekupo_metrics_success{part="server"}'], told[:7]), (0, "server:"))
 
     def test_connections_left(self):
-        """By nginx's count, from the server's start on: another start begins anew, and so does nginx's own."""
+        """By what nginx passed on, from the server's start on: another start begins anew, and so does a file that was
+        emptied. What nginx refused, as a stranger's, doesn't count."""
         environment = self.systemctl(MainPID=self.program.process.pid, NRestarts=0, MemoryMax="infinity")
         words = ["--unit", "station", "--connections", "1000", "--kept", self.folder / "kept.json"]
-        looks = [(100, 0, 900), (140, 0, 860), (30, 0, 830), (50, 1, 980), (960, 0, 70), (9000, 0, 0)]
-        for seen, is_started, left in looks:
+        passed = self.folder / "passed"
+        words += ["--passed", passed]
+        looks = [(100, 100, 0, 900), (140, 150, 0, 860), (140, 20_150, 0, 860), (141, 40_151, 0, 859), (30, 7, 0, 829)]
+        looks += [(50, 27, 1, 980), (960, 937, 0, 70), (9000, 9001, 0, 0)]
+        for count, seen, is_started, left in looks:
+            passed.write_bytes(b"\n" * count)
             if is_started:
                 self.program.kill()
                 self.program.start()
@@ -181,6 +186,11 @@ class Metrics(StationCase):
             found, told = self.metrics(*words, "--status", url, **environment)
             self.assertIn(sentence, told)
             self.assertNotIn("wanekupo_connections_left", found)
+        passed.unlink()
+        url = self.canned(200, "text/plain", STATUS.encode() % 9)
+        found, told = self.metrics(*words, "--status", url, **environment)
+        self.assertIn(f"requests: nginx doesn't count in {passed} what it passes on. Take today's nginx.conf.", told)
+        self.assertNotIn("wanekupo_connections_left", found)
 
     def test_the_file(self):
         """It is replaced whole, who has the old one reads that, and the exporter's user may read it."""

@@ -34,7 +34,7 @@ METRICS = {
     "wanekupo_seat_unanswered_timestamp_seconds": (GAUGE, "When a seat asked what has no reply in its journal yet."),
     "wanekupo_seat_last_line_timestamp_seconds": (GAUGE, "When the last line of a seat's journal was written."),
     "wanekupo_http_requests_total": (COUNTER, "Requests to nginx since its start."),
-    "wanekupo_server_requests_total": (COUNTER, "Requests to nginx since the server started: a connection each."),
+    "wanekupo_server_requests_total": (COUNTER, "Requests that nginx passed on since the server started."),
     "wanekupo_connections_left": (GAUGE, "Connections that the server serves at the least before it ends."),
     "wanekupo_server_start_time_seconds": (GAUGE, "When the server was started."),
     "wanekupo_server_restarts_total": (COUNTER, "How often systemd started the server again by itself."),

@@ -1,5 +1,5 @@
-"""What the server's machine shows, for metrics: the process, the store's files, nginx's count of requests, and the last
-backup. Nothing here asks the server itself, which tells nobody how many connections it has left.
+"""What the server's machine shows, for metrics: the process, the store's files, what nginx counts, and the last backup.
+Nothing here asks the server itself, which tells nobody how many connections it has left.
 """
 
 from __future__ import annotations
@@ -127,9 +127,18 @@ def requests_of(url: str, context: Optional[ssl.SSLContext]) -> int:
     return int(found[1])
 
 
+def passed_by(file: Path) -> int:
+    """How many requests nginx passed on to the server, each over a connection of its own: a byte of a file for each.
+    Those that it refused, as all of a stranger's, aren't among them."""
+    try:
+        return file.stat().st_size
+    except OSError as error:
+        raise StationError(f"nginx doesn't count in {file} what it passes on", "Take today's nginx.conf.") from error
+
+
 def requests_since(kept: dict[str, Any], start: str, seen: int) -> int:
-    """How many requests nginx has had since the server was started, at the most: of the look in front of the start and
-    the one behind it all count. Where nginx was started anew its count begins anew."""
+    """How many of these there were since the server was started, at the most: of the look in front of the start and the
+    one behind it all count. Where the file was emptied the count goes on from there."""
     before = int(kept.get("seen", 0))
     more = seen - before if seen >= before else seen
     counted = int(kept.get("counted", 0)) + more if kept.get("start") == start else more
@@ -142,12 +151,12 @@ def add_requests(
     kept: dict[str, Any],
     url: str,
     context: Optional[ssl.SSLContext],
+    passed: Path,
     start: str,
     connections: int,
 ) -> None:
-    seen = requests_of(url, context)
-    counted = requests_since(kept, start, seen)
-    samples.add("wanekupo_http_requests_total", seen)
+    counted = requests_since(kept, start, passed_by(passed))
+    samples.add("wanekupo_http_requests_total", requests_of(url, context))
     samples.add("wanekupo_server_requests_total", counted)
     samples.add("wanekupo_connections_left", max(0, connections - counted))
 

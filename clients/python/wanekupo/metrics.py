@@ -133,7 +133,7 @@ class Run:
     def _requests(self, samples: Samples) -> None:
         if self.start is None:
             raise StationError("it isn't known when the server was started", "Give --unit, and look at that part.")
-        words = (self.args.status, context_of(self.settings), self.start, self.args.connections)
+        words = (self.args.status, context_of(self.settings), self.args.passed, self.start, self.args.connections)
         add_requests(samples, self.kept.part("requests"), *words)
 
     def _shift(self, samples: Samples) -> None:
@@ -201,6 +201,8 @@ def _add_metrics(parser: argparse.ArgumentParser) -> None:
     add("--db", type=Path, metavar="FILE", help="the store's file")
     add("--unit", metavar="NAME", help="the server's unit, as station")
     add("--status", metavar="URL", help="nginx's page of its counts")
+    said = "with --status, nginx's file of what it passed on to the server, a byte each"
+    add("--passed", type=Path, default=Path("/var/log/nginx/passed"), metavar="FILE", help=said)
     add("--connections", type=int, default=1_000_000, metavar="N", help="the server's own --connections")
     add("--backups", type=Path, metavar="FOLDER", help="the folder of backups")
     add("--journals", type=Path, action="append", metavar="FOLDER", help="a folder of journals; may come again")
