@@ -22,8 +22,11 @@ SECONDS = 120
 BLOCK = re.compile(r"^```console\n(.*?)^```$", re.MULTILINE | re.DOTALL)
 MARK = "end of the walk's command"
 
-# sqlite3 as a page has it run, and not in its safe mode first of all: what a store says could then run a command.
+# sqlite3 with words behind it, and not in its safe mode first of all: what a store says could then run a command.
 UNSAFE = re.compile(r"\bsqlite3\s+(?!-safe -readonly\b)\S.*")
+
+# What apt is asked for are names of packages, and no commands, up to the next sign of the shell.
+PACKAGES = re.compile(r"\b(?:apt|apt-get)( -\S+)* install\b[^|;&`$(\n]*")
 
 
 class Step:
@@ -50,9 +53,14 @@ def steps_of(block):
     return steps
 
 
+def without_packages(text):
+    """A text without the names of packages that it has apt install."""
+    return PACKAGES.sub("", text)
+
+
 def unsafe_lines(text):
     """The lines of a page by their numbers that run sqlite3 without `-safe -readonly`."""
-    found = ((number, UNSAFE.search(line)) for number, line in enumerate(text.splitlines(), 1))
+    found = ((number, UNSAFE.search(line)) for number, line in enumerate(without_packages(text).splitlines(), 1))
     return [(number, it[0]) for number, it in found if it]
 
 

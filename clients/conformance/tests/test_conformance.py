@@ -93,6 +93,22 @@ class Stations(unittest.TestCase):
                 self.assertRegex(told, rf"\nFAULT {row}: .*{words}")
 
 
+class Few(unittest.TestCase):
+    """For the short run: a chip of a right station and one of a wrong one, without a late copy."""
+
+    def test_a_right_one_and_a_wrong_one(self):
+        few = ["--late-copies", "no"]
+        with ThreadPoolExecutor(2) as pool:
+            right = pool.submit(ran, *RIGHT["python"], options=[*few, "--chips", "1"])
+            wrong = pool.submit(ran, sys.executable, OWN, "next-number", options=[*few, "--first"])
+        (status, told), (other, faults) = right.result(), wrong.result()
+        self.assertEqual((status, "FAULT" in told), (0, False), told)
+        self.assertRegex(told, r"\n3 chips, ")
+        row, words = FOUND["next-number"]
+        self.assertEqual(other, 1, faults)
+        self.assertRegex(faults, rf"\nFAULT {row}: .*{words}")
+
+
 class Books:
     """A caller that answers from a table: what no station can bring about with this server."""
 
