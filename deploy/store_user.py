@@ -185,7 +185,7 @@ class StoreUser:
 
     def words(self, *words: str) -> list[str]:
         """A command that becomes the user's for good, and ends with who started it."""
-        first = shutil.which(words[0]) or words[0]
+        first = os.path.abspath(shutil.which(words[0]) or words[0])
         rights = [] if self.is_own() else ["--reuid", str(self.number), "--regid", str(self.group), "--init-groups"]
         fixed = ["--inh-caps=-all", "--no-new-privs", "--pdeathsig", "KILL"]
         return ["setpriv", *rights, *fixed, "--", first, *words[1:]]
