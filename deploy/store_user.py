@@ -402,8 +402,12 @@ def _removed(room: Path) -> None:
                 user_of(handle, own).run("find", str(own), "-mindepth", "1", "-delete")
         finally:
             os.close(handle)
-        os.rmdir(own)
-    os.rmdir(room)
+    try:
+        for folder in (own, room):
+            if folder.is_dir():
+                folder.rmdir()
+    except OSError as error:
+        raise UserError(f"{room} has a copy, and can't be removed: {error.strerror}") from None
 
 
 def clear_rooms(rooms: Path = ROOMS) -> list[str]:
@@ -435,10 +439,11 @@ def room(user: StoreUser, needed: int, rooms: Path = ROOMS) -> Iterator[Path]:
         own.mkdir(mode=0o700)
         os.chown(own, user.number, user.group)
         yield own
-    finally:
-        try:
+    except BaseException:
+        with contextlib.suppress(OSError, UserError):
             _removed(made)
-        except OSError as error:
-            raise UserError(f"{made} has a copy, and can't be removed: {error.strerror}") from error
-        finally:
-            os.close(handle)
+        raise
+    else:
+        _removed(made)
+    finally:
+        os.close(handle)
