@@ -10,6 +10,7 @@ import shutil
 import sqlite3
 import subprocess
 import sys
+import tempfile
 import threading
 import time
 from collections import Counter
@@ -32,7 +33,7 @@ from wanekupo.station import Station  # noqa: E402
 
 BACKUP, RESTORE = ROOT / "deploy/backup", ROOT / "deploy/restore"
 CUSTOMERS = {"acme": ("a1", "a2", "a3"), "bolt": ("b1", "b2", "b3"), "cord": ("c1", "c2")}
-SECONDS = 120
+SECONDS, USER = 120, 65534
 FULL, SPENT, UNKNOWN_MAP = 18, 32, 13
 
 # Runs a script, and kills it before the call with this number that the outside sees.
@@ -54,6 +55,15 @@ sys.argv = sys.argv[2:]
 sys.path.insert(0, os.path.dirname(sys.argv[0]))
 runpy.run_path(sys.argv[0], run_name="__main__")
 """
+
+
+def leave_root(*more):
+    """Starts a script again as another user, where root started it, as a store is never root's. Gives its status."""
+    with tempfile.TemporaryDirectory() as folder:
+        os.chown(folder, USER, USER)
+        words = ["setpriv", f"--reuid={USER}", f"--regid={USER}", "--clear-groups", "--", "/usr/bin/python3", "-B"]
+        words += [os.path.abspath(sys.argv[0]), *sys.argv[1:], *more]
+        return subprocess.run(words, cwd=folder, env={**os.environ, "HOME": folder}, check=False).returncode
 
 
 def token_of(seat):

@@ -91,9 +91,9 @@ class Shell:
         os.symlink(program, f"{self.folder.name}/bin/station")
         path = f"{self.folder.name}/bin:{os.environ['PATH']}"
         self.bash = subprocess.Popen(
-            ["bash"],
+            [*self.as_other(), "bash"],
             cwd=self.folder.name,
-            env=os.environ | {"PATH": path, "LC_ALL": "C", "PYTHONDONTWRITEBYTECODE": "1"},
+            env=os.environ | {"PATH": path, "LC_ALL": "C", "PYTHONDONTWRITEBYTECODE": "1", "HOME": self.folder.name},
             stdin=subprocess.PIPE,
             stdout=subprocess.PIPE,
             stderr=subprocess.STDOUT,
@@ -102,6 +102,15 @@ class Shell:
         )
         self.limit = threading.Timer(seconds, self.stop)
         self.limit.start()
+
+    def as_other(self):
+        """The words in front of a page's commands: root's are another user's, since a store is never root's."""
+        if os.geteuid():
+            return []
+        for folder, _, names in os.walk(self.folder.name):
+            for path in (folder, *(f"{folder}/{name}" for name in names)):
+                os.chown(path, 65534, 65534, follow_symlinks=False)
+        return ["setpriv", "--reuid=65534", "--regid=65534", "--clear-groups", "--"]
 
     def deploy(self):
         """Puts the files of `deploy` there, with the ports of this run."""

@@ -1,8 +1,10 @@
 """A house with a store, its site, a backup of last night and a service, in a folder; and runs of deploy/site over it.
 
-The service is a script in a session of its own, as a real one is no child of who asks for it. A run may be killed right
-before its Nth deed that others see (a file that is opened to be written, renamed, removed, a program that is started),
-in the tool or in a program of Python that it started: `sitecustomize` counts them by Python's audit events.
+The service is a script in a session of its own, as a real one is no child of who asks for it. As root the store and its
+backups are another user's, since the tool refuses root's. A run may be killed right before its Nth deed that others see
+(a file that is opened to be written, renamed, removed, a program that is started), in the tool or in a program of
+Python that it started: `sitecustomize` counts them by Python's audit events. What root has another user do isn't
+counted, as root gives it none of its environment.
 """
 
 import hashlib
@@ -18,6 +20,8 @@ from pathlib import Path
 from chip import ROOT, SITE, Failed
 
 TOOL = ROOT / "deploy/site"
+
+OWNER, GROUP = "nobody", "nogroup"
 
 SERVICE = r"""#!/bin/bash
 # {start,stop,restarts}: one at a time, and in a session of its own.
@@ -45,6 +49,7 @@ esac
 
 COUNTER = r"""
 import os, signal, sys
+_first = int(os.environ.setdefault("KILL_FIRST", str(os.getpid())))
 _at, _count = int(os.environ["KILL_AT"]), os.open(os.environ["KILL_COUNT"], os.O_WRONLY | os.O_APPEND)
 _started = os.open(os.environ["KILL_COUNT"] + ".words", os.O_WRONLY | os.O_APPEND)
 _WRITES = os.O_WRONLY | os.O_RDWR | os.O_CREAT
@@ -60,7 +65,8 @@ def _counted(event, args):
         os.write(_started, (repr(args[1]) + "\n").encode())
     os.write(_count, b"x")
     if os.fstat(_count).st_size == _at:
-        os.killpg(0, signal.SIGKILL)
+        os.killpg(_first, signal.SIGKILL)
+        os.kill(os.getpid(), signal.SIGKILL)
 
 sys.addaudithook(_counted)
 """
@@ -80,7 +86,7 @@ class House:
 
     def __init__(self, program: Path, folder: Path):
         self.program, self.folder, self.port = program, folder, free_port()
-        self.site, self.tokens = folder / "site.toml", folder / "tokens.conf"
+        self.site, self.tokens, self.rooms = folder / "site.toml", folder / "tokens.conf", folder / "rooms"
         self.backups, self.given, self.db = folder / "backups", folder / "given", folder / "store/books.db"
         self.other_words: dict[str, object] = {}
         self.owner = ""
@@ -90,25 +96,31 @@ class House:
         self.folder.mkdir()
         self.site.write_bytes(SITE.read_bytes())
         self.site.chmod(0o640)
-        for made in (self.backups, self.given, self.db.parent):
+        for made in (self.backups, self.given, self.db.parent, self.rooms):
             made.mkdir()
         (self.folder / "restarts").write_text("0\n")
         service = self.folder / "service"
         service.write_text(SERVICE)
         service.chmod(0o755)
-        made = [self.program, "replay", "--site", self.site, "--db", self.db]
+        self.give_away()
+        made = [*self.as_owner(), self.program, "replay", "--site", self.site, "--db", self.db]
         subprocess.run(made, stdin=subprocess.DEVNULL, check=True)
-        words = ["--program", self.program, "--site", self.site, "--db", self.db]
-        subprocess.run([ROOT / "deploy/backup", *words, self.backups / "night"], capture_output=True, check=True)
+        words = ["--program", self.program, "--site", self.site, "--db", self.db, self.backups / "night"]
+        subprocess.run([*self.as_owner(), ROOT / "deploy/backup", *words], capture_output=True, check=True)
 
     def copy(self, folder: Path) -> "House":
         """Another house like this one; no server runs in either."""
         shutil.copytree(self.folder, folder)
-        return House(self.program, folder)
+        made = House(self.program, folder)
+        made.give_away()
+        return made
+
+    def as_owner(self) -> list[str]:
+        """The words in front of a command of the store's user."""
+        return ["setpriv", "--reuid", OWNER, "--regid", GROUP, "--clear-groups", "--"] if self.owner else []
 
     def environment(self) -> dict[str, str]:
-        owner = f"setpriv --reuid {self.owner} --clear-groups --" if self.owner else ""
-        return os.environ | {"PROGRAM": str(self.program), "PORT": str(self.port), "AS": owner}
+        return os.environ | {"PROGRAM": str(self.program), "PORT": str(self.port), "AS": " ".join(self.as_owner())}
 
     def service(self, word: str) -> None:
         subprocess.run([self.folder / "service", word], env=self.environment(), check=True)
@@ -123,7 +135,7 @@ class House:
         words = {"--site": self.site, "--db": self.db, "--backups": self.backups, "--nginx": "",
                  "--tokens": self.tokens, "--program": self.program, "--port": self.port,
                  "--start": f"{service} start", "--stop": f"{service} stop", "--restarts": f"{service} restarts",
-                 "--wait": 20, "--token-words": "--no-reload"} | self.other_words  # fmt: skip
+                 "--wait": 20, "--room": self.rooms, "--token-words": "--no-reload"} | self.other_words  # fmt: skip
         return [str(TOOL), *(f"{name}={value}" for name, value in words.items())]
 
     def run(self, *words: str, kill_at: int = 0) -> Run:
@@ -140,12 +152,14 @@ class House:
         )  # fmt: skip
         return Run(done.returncode, done.stdout + done.stderr, count.stat().st_size)
 
-    def give_away(self, owner: str) -> None:
-        """Makes the store and its backups another user's, as whom the server runs then."""
-        self.owner = owner
+    def give_away(self) -> None:
+        """As root makes the store and its backups another user's, as whom the server runs then."""
+        if os.geteuid():
+            return
+        self.owner = OWNER
         for path in (self.backups, *self.backups.rglob("*"), self.db.parent, *self.db.parent.iterdir()):
-            shutil.chown(path, owner)
-        self.site.chmod(0o644)
+            shutil.chown(path, OWNER, GROUP)
+        shutil.chown(self.site, group=GROUP)
 
     def proxied(self) -> "subprocess.Popen[bytes]":
         """nginx by deploy/nginx.conf in front, with other ports and paths."""
@@ -184,7 +198,7 @@ class House:
 
     def left(self) -> list[str]:
         """What a run shouldn't leave: plans, new texts, halves of files and of backups."""
-        names = ["*.next.toml", "*.growth", "*.new", "backups/tried-by-site.*", "backups/*/trial.*"]
+        names = ["*.next.toml", "*.growth", "*.new", "rooms/*", "backups/*/trial*"]
         return sorted(str(path.relative_to(self.folder)) for name in names for path in self.folder.glob(name))
 
 

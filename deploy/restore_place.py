@@ -25,6 +25,7 @@ from typing import Any
 
 from backup_copy import ABOUT, FILES, digest_of_file, size_of
 from restore_plan import RestoreError
+from store_user import Store
 from whole_file import held, put_whole, sync
 
 HOST = "127.0.0.1"
@@ -67,9 +68,8 @@ def free_name(folder: Path, kind: str) -> Path:
 class Place:
     """The place of a store, which may have no file."""
 
-    def __init__(self, db: str):
-        self.db = Path(os.path.realpath(db))
-        self.folder = self.db.parent
+    def __init__(self, store: Store):
+        self.db, self.folder = store.db, store.folder
         self.work = self.folder / "restoring"
         self.begun = self.folder / "restoring.json"
         self.made = self.work / FILES[0]
@@ -78,6 +78,12 @@ class Place:
         return [self.db, Path(f"{self.db}-wal")]
 
     # Whose it is now.
+
+    def refuse_links(self) -> None:
+        """Refuses what is at the store's place and is no file: what is moved and locked is what has its name."""
+        for path in self.own_files():
+            if path.is_symlink() or (path.exists() and not path.is_file()):
+                raise RestoreError(f"{path} is a link, or no file: look who put it there, and move it away")
 
     def refuse_server(self, port: int) -> None:
         """A server may have the store by its lock, by files that are gone, or by another path."""

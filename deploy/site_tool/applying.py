@@ -14,6 +14,8 @@ import urllib.error
 import urllib.request
 from pathlib import Path
 
+from store_copy import Backup
+from store_user import UserError, shown
 from token_file import HEALTH, PREFIX, TokenError, alone, read, tokens_of
 from whole_file import sync
 
@@ -71,25 +73,26 @@ def noted(place: Place, plan: Plan, stage: str) -> None:
 
 def stop_and_back_up(place: Place, plan: Plan) -> None:
     """The server is stopped and the store backed up; where that fails the server is started with the old text."""
-    left = plan.backup
+    left, user = plan.backup, place.user
     plan.backup = str(place.backups / f"before-{time.strftime('%Y-%m-%dT%H%M%S')}-{os.getpid()}")
     noted(place, plan, STOPPING)
     if left:  # by a run that was cut: it may be half a backup
-        place.ran(*place.as_owner("rm", "-rf", left))
+        user.run("rm", "-rf", "--", left)
     is_stopped, said = place.service(place.args.stop)
     try:
         if not is_stopped:
             raise TokenError(1, f"the server wasn't stopped: {said}")
         say("the server is stopped")
-        words = ["--program", place.program, "--site", str(place.site), "--db", str(place.store), plan.backup]
-        done = place.ran(*place.as_owner(str(place.parts / "backup"), *words))
+        words = ["--program", place.program, "--site", str(place.site), "--db", str(place.db), plan.backup]
+        done = user.run(str(place.parts / "backup"), *words)
         if done.returncode:
-            raise TokenError(1, f"no backup, so nothing was changed: {done.stderr.strip()}")
-        say(done.stdout.strip())
+            raise TokenError(1, f"no backup, so nothing was changed: {shown(done.stderr).strip()}")
+        say(shown(done.stdout).strip())
         if not plan.is_tried:
-            tried_over_backup(place, Path(plan.backup), text_in(place.site), text_in(place.next))
+            made = Backup(Path(plan.backup), place.size(), is_encrypted=False)
+            tried_over_backup(place, made, text_in(place.site), text_in(place.next))
             say("a copy of that backup took the new text")
-    except (TokenError, OSError):
+    except (TokenError, UserError, OSError):
         place.service(place.args.start)
         plan.backup = ""
         noted(place, plan, PREPARED)
@@ -156,14 +159,15 @@ def tell_failed(place: Place, plan: Plan, said: str) -> None:
     place.service(place.args.stop)
     old = Path(plan.backup, "site.toml")
     try:
-        held = place.held_text([it for it in (place.site, old) if it.exists()])
+        text = place.user.run("cat", "--", str(old)).stdout
+        held = place.held_text([place.site, *([old] if text else [])])
         if held == text_in(place.site):
             told = f"The store holds the new text by now: start it with that alone, which is {place.site}."
-        elif old.exists() and held == text_in(old):
+        elif held == text:
             told = f"The store still holds the old text. The new one, in {place.site}, opens it too: leave it there."
         else:
             told = "The store holds another text than these two."
-    except (TokenError, OSError, UnicodeError) as error:
+    except (TokenError, UserError, OSError, UnicodeError) as error:
         told = f"Which text the store holds isn't known: {error}. Start it with {place.site}, which opens either."
     finally:
         place.service(place.args.start)
@@ -257,8 +261,7 @@ def token_run(place: Place, wish: Wish, *words: str) -> None:
 
 def keep_with_backup(place: Place, plan: Plan) -> None:
     """The new text opens each backup of before, so it lies with the newest one."""
-    if plan.backup and Path(plan.backup).exists():
-        words = ("dd", "status=none", f"of={plan.backup}/site.grown.toml")
-        done = place.ran(*place.as_owner(*words), given=text_in(place.site))
+    if plan.backup:
+        done = place.user.run("dd", "status=none", f"of={plan.backup}/site.grown.toml", given=text_in(place.site))
         if done.returncode:
-            say(f"keep a copy of {place.site} with the backup {plan.backup}: {done.stderr.strip()}")
+            say(f"keep a copy of {place.site} with the backup {plan.backup}: {shown(done.stderr).strip()}")

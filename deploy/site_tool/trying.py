@@ -6,12 +6,14 @@ The program says what holds. What this tool reads itself names the line and the 
 import re
 from pathlib import Path
 
+from store_copy import Backup
+from store_user import UserError, shown
 from token_file import TokenError
 
 from .difference import Given, difference, given_of, joined, shared
 from .faults import Fault
 from .map_faults import map_faults
-from .place import NoCopy, Place, text_in, written
+from .place import Place, text_in, written
 from .site_faults import site_faults
 
 CUSTOMERS = 64
@@ -89,14 +91,14 @@ def tried_over_copy(place: Place, old: str, new: str) -> tuple[bool, str]:
     backup = place.newest_backup()
     if not backup:
         return False, untried(f"no backup is in {place.backups}")
-    if backup.is_dir():
+    if not backup.is_encrypted:
         tried_over_backup(place, backup, old, new)
-        return True, f"a copy of the backup {backup.name} took it"
+        return True, f"a copy of the backup {backup.path.name} took it"
     try:
         with place.copied_running() as copy:
             try_over(place, copy, old, new, "a copy of the store as it is now")
-    except NoCopy as error:
-        told = f"the newest backup, {backup.name}, is encrypted"
+    except UserError as error:
+        told = f"the newest backup, {backup.path.name}, is encrypted"
         return False, untried(f"{told}, and the store can't be copied ({error})")
     return True, "a copy of the store as it is now took it, as the newest backup is encrypted"
 
@@ -106,17 +108,17 @@ def untried(why: str) -> str:
     return f"{why}, so it wasn't tried over a copy of the store: `apply` does so over the backup that it makes"
 
 
-def tried_over_backup(place: Place, backup: Path, old: str, new: str) -> None:
-    with place.copied(backup, "books.db") as copy:
-        try_over(place, copy, old, new, f"a copy of the backup {backup}")
+def tried_over_backup(place: Place, backup: Backup, old: str, new: str) -> None:
+    with place.copied(backup.path / "books.db", backup.size) as copy:
+        try_over(place, copy, old, new, f"a copy of the backup {backup.path}")
 
 
 def try_over(place: Place, copy: Path, old: str, new: str, what: str) -> None:
     """Opens a copy with the text of now and then with the new one; an error where the program refuses one."""
     for text, title in ((old, place.site), (new, place.next)):
         site = copy.with_name("site.toml")
-        done = place.ran(*place.as_owner("dd", "status=none", f"of={site}"), given=text)
-        said = done.stderr.strip() or place.replayed(site, copy, as_owner=True)
+        done = place.user.run("dd", "status=none", f"of={site}", given=text)
+        said = shown(done.stderr).strip() or place.replayed(site, copy, place.user)
         if said:
             raise TokenError(1, f"{title}: {what} refuses it: {said}")
 
