@@ -1,8 +1,8 @@
 """The list of the outer tokens that may ask the machine which has the store: it lies beside the store, on the volume.
 
 A token that was ended on one machine alone would live on behind a takeover of the other. So `station-token` and
-`takeover` leave this list, and `takeover` holds this machine's tokens against it. It has their names, marks and ends, and
-no token. The store's user writes it: who has that user's rights can hide that a token has ended, and can make none.
+`takeover` leave this list, and `takeover` holds this machine's tokens against it. It has their names, marks and ends,
+and no token. The store's user writes it: who has that user's rights can hide that a token has ended, and can make none.
 """
 
 from __future__ import annotations
@@ -32,16 +32,19 @@ def here(half: Half) -> Tokens:
 
 
 def listed(folder: int) -> set[str] | None:
-    """The lines of the list in a store's folder, but for tokens whose time is past; None where there is no list."""
+    """The lines of the list in a store's folder, but for tokens whose time is past; None where there is none that
+    `station-token` wrote, so that who may write there keeps no operator from a takeover."""
     try:
         lines = read_small(Path(NOTE), folder, MOST).decode("ascii").splitlines()
     except FileNotFoundError:
         return None
     except (UserError, OSError, UnicodeDecodeError) as error:
-        raise Refused(f"{NOTE} beside the store can't be read: {error}.") from None
+        tell(f"{NOTE} beside the store can't be read: {error}")
+        return None
     found = {line: TOKEN.fullmatch(line) for line in lines}
     if not all(found.values()):
-        raise Refused(f"{NOTE} beside the store isn't what `station-token` writes: look who wrote it, and remove it.")
+        tell(f"{NOTE} beside the store isn't what `station-token` writes: look who wrote it")
+        return None
     return {line for line, token in found.items() if token and not is_past(token[2].strip("-"))}
 
 
@@ -77,7 +80,7 @@ def test(half: Half, there: set[str] | None, is_known: bool) -> None:
         return
     why = f"{other} didn't let in so" if there is not None else f"{other} may have ended, as the volume has no list"
     raise Refused(
-        f"This machine has tokens that {why}: {names_of(more)}. Copy the files of {other} as step 8 of the page `standby` "
-        "does, or end here what was ended there (`station-token revoke NAME`), and type the same again. Where nobody "
+        f"This machine has tokens that {why}: {names_of(more)}. Copy the files of {other} as step 8 of the page "
+        "`standby` does, or end here what was ended there (`station-token revoke NAME`), and type the same again. Where nobody "
         "knows, and they may ask, add --ended-tokens-may-ask."
     )

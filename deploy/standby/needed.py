@@ -43,7 +43,7 @@ def test(half: Half) -> None:
     if [Path(word).resolve() for word in words] != [HANDLER]:
         wrong.append(f"the handler `fence-peer` is {' '.join(words) or 'missing'}, and not {HANDLER}")
     if wrong:
-        told = "Mend it by the deployed `station.res` on both machines, and type `drbdadm adjust` there."
+        told = "Mend it by the deployed `station.res`, with your own secret, on both, and type `drbdadm adjust` there."
         raise Refused(f"The resource {half.resource} doesn't keep its promise: {'; '.join(wrong)}. {told}")
 
 

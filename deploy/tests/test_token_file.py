@@ -23,7 +23,8 @@ class Nginx:
         self.maps = {}
         for text in texts:
             for source, name, rows in MAP.findall(text):
-                self.maps[name[1:]] = source.strip('"'), [(self.plain(key), self.plain(it)) for key, it in ROW.findall(rows)]
+                found = [(self.plain(key), self.plain(it)) for key, it in ROW.findall(rows)]
+                self.maps[name[1:]] = source.strip('"'), found
 
     @staticmethod
     def plain(word):

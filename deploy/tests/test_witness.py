@@ -110,6 +110,7 @@ WRONG = [
     (at(NOW) + "seat a1\n", "neither `at TIME` nor"),
     (at(NOW) + "seat a1 17\nx\x1b[2J\n", "neither `at TIME` nor"),
     ("at 2026-13-29T09:00:00Z\nseat a1 17\n", "is no time"),
+    (at(NOW)[:-1] + " or so\nseat a1 17\n", "neither `at TIME` nor"),
     ("at 2026-01-01T09:00:00Z\nseat a1 17\n", "make it anew"),
     (at(NOW) + "seat a1 17\nat 2026-01-01T09:00:00Z\nseat b1 1\n", "make it anew"),
     ("at 2999-01-01T09:00:00Z\nseat a1 17\n", "is to come"),
