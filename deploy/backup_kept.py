@@ -17,7 +17,6 @@ import os
 import re
 import shlex
 import shutil
-import stat
 import subprocess
 import tarfile
 import time
@@ -26,6 +25,7 @@ from pathlib import Path
 from typing import Any
 
 from backup_copy import BackupError, now, size_of, told_if_full
+from store_user import UserError, read_small
 from whole_file import held, put_whole, sync
 
 NAME = re.compile(r"(\d{4}-\d\d-\d\dT\d{6}Z)(?:\.tar\.age)?")
@@ -142,13 +142,10 @@ def tidy(folder: Path, days: int, weeks: int) -> list[str]:
 
 def last_of(folder: Path) -> dict[str, Any]:
     """What was noted last; nothing where nothing was. Root reads it in another user's folder, so it may be no link and
-    no pipe, and is small."""
+    no pipe, is small, and may be nothing that was ever noted."""
     try:
-        handle = os.open(folder / LAST, os.O_RDONLY | os.O_NOFOLLOW | os.O_NONBLOCK)
-        with open(handle, "rb") as file:
-            is_file = stat.S_ISREG(os.fstat(handle).st_mode)
-            found = json.loads(file.read(LARGEST)) if is_file else {}
-    except (OSError, ValueError):
+        found = json.loads(read_small(folder / LAST, most=LARGEST))
+    except (OSError, ValueError, RecursionError, UserError):
         return {}
     return found if isinstance(found, dict) else {}
 

@@ -17,13 +17,13 @@ from collections.abc import Callable, Iterator
 from pathlib import Path
 
 from backup_copy import BackupError
+from store_user import STOPS
 
 NAME = "station_backup"
 MARK = "station:backup"  # a property of a snapshot of ZFS that a backup made
 PLACE = Path("/run/station-backup")
 SAFE = "nodev,nosuid,noexec"
 TRIES = 50
-STOPS = (signal.SIGTERM, signal.SIGINT, signal.SIGHUP)
 
 
 class SnapshotStaysError(BackupError):

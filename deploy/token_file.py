@@ -106,6 +106,17 @@ def mark_of(text: str) -> str:
     return hashlib.sha256(text.encode()).hexdigest()[:12]
 
 
+def is_past(until: str) -> bool:
+    """Whether a token's last minute, where it has one, is past."""
+    return "" < until < now()
+
+
+def living(tokens: Tokens) -> list[str]:
+    """The outer tokens that nginx takes now, a line each: name, mark, what it may, and its last minute."""
+    rows = [it for it in tokens.open_ones() if not is_past(it.until)]
+    return sorted(f"{it.token} {it.mark} {'look' if it.looks else 'all'} {it.until or '-'}" for it in rows)
+
+
 def later_than(minute: str) -> str:
     """A regular expression for what begins with a later minute: at some digit a greater one, and before it the same."""
     places = [place for place, char in enumerate(minute) if char.isdigit() and char != "9"]

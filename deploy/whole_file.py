@@ -3,6 +3,7 @@
 import contextlib
 import fcntl
 import os
+import stat
 import time
 from collections.abc import Iterator
 from pathlib import Path
@@ -26,12 +27,16 @@ def make_file(path: Path, text: str) -> None:
         os.fsync(file.fileno())
 
 
-def put_whole(path: Path, text: str) -> None:
-    """Puts a text in a file's place, whole or not at all. Who calls it is alone with the file."""
+def put_whole(path: Path, text: str, like: os.stat_result | None = None) -> None:
+    """Puts a text in a file's place, whole or not at all, with the mode and the owner of `like`. Who calls it is alone
+    with the file."""
     new = path.with_name(path.name + ".new")
     new.unlink(missing_ok=True)  # of a run that was cut
     try:
         make_file(new, text)
+        if like:
+            os.chown(new, like.st_uid, like.st_gid)
+            os.chmod(new, stat.S_IMODE(like.st_mode))
         os.replace(new, path)
     except BaseException:
         with contextlib.suppress(OSError):

@@ -15,6 +15,8 @@ from pathlib import Path
 ROOT = Path(__file__).resolve().parent.parent.parent
 HERE = Path(__file__).resolve().parent / "guest"
 DEPLOYED = ROOT / "deploy/standby"
+# What the scripts there import of the folder above, and the tokens' tool.
+SHARED = ("store_user.py", "token", "token_file.py", "token_site.py", "whole_file.py")
 
 # Debian's kernel of this name, and the modules of it in the order in which they are loaded.
 KERNEL = "linux-image-amd64"
@@ -41,9 +43,10 @@ FOLDERS = """bin dev etc/drbd.d etc/station lib/drbd lib64 mnt modules proc root
 
 # Those of Python's modules that the scripts import, and that a restore needs, as a Python says that has imported them.
 IMPORTED = """
-import argparse, contextlib, dataclasses, datetime, encodings.idna, fcntl, json, os, pathlib, pwd, re, shlex, shutil
-import signal, subprocess, sys, tempfile, time, tomllib, typing
-import backup_copy, backup_kept, backup_snapshot, restore_look, restore_place, restore_plan, wanekupo.restore
+import argparse, encodings.idna, importlib, pathlib, secrets, sys, wanekupo.restore
+for folder in sys.argv[1:]:
+    for path in pathlib.Path(folder).glob("*.py"):
+        importlib.import_module(path.stem)
 for module in list(sys.modules.values()):
     print(getattr(module, "__cached__", None) or "")
     print(getattr(module, "__file__", None) or "")
@@ -107,8 +110,8 @@ def libraries_of(program: Path) -> set[Path]:
 
 def python_files() -> set[Path]:
     """The files of Python's modules that the scripts need, and all encodings of its start."""
-    where = f"PYTHONPATH={ROOT}/deploy:{ROOT}/clients/python"
-    words = ["env", where, "/usr/bin/python3.11", "-B", "-S", "-c", IMPORTED]
+    where = f"PYTHONPATH={ROOT}/deploy:{DEPLOYED}:{ROOT}/clients/python"
+    words = ["env", where, "/usr/bin/python3.11", "-B", "-S", "-c", IMPORTED, str(ROOT / "deploy"), str(DEPLOYED)]
     found = {Path(line) for line in said_by(*words).split("\n") if line.startswith("/usr/lib")}
     return found | {path for path in Path("/usr/lib/python3.11/encodings").glob("*.py")}
 
@@ -167,6 +170,8 @@ class Image:
         for path in DEPLOYED.iterdir() if DEPLOYED.is_dir() else ():
             if path.is_file():
                 self.put(path, f"usr/share/wanekupo/standby/{path.name}", 0o755 if os.access(path, os.X_OK) else 0o644)
+        for name in SHARED:
+            self.put(ROOT / "deploy" / name, f"usr/share/wanekupo/{name}")
         for path in HERE.rglob("*"):
             if path.is_file():
                 place = str(path.relative_to(HERE))

@@ -151,9 +151,9 @@ class Line:
         folder.mkdir(mode=0o700, parents=True)
         self.stations = [Asking(port, folder, seed, c, s, begin) for c in customers for s in range(seats)]
 
-    def start(self, pause: float = 0.0) -> "Line":
-        """Has all stations ask, with so many seconds at most between two requests."""
-        for each in self.stations:
+    def start(self, pause: float = 0.0, late: int = 0) -> "Line":
+        """Has all stations but the last so many ask, with so many seconds at most between two requests."""
+        for each in self.stations[: len(self.stations) - late]:
             each.pause = pause
             each.start()
         return self
@@ -187,9 +187,9 @@ class Line:
             time.sleep(0.05)
         return self.count()
 
-    def witness(self) -> str:
-        """What the journals say, as the client's command prints it."""
-        numbers = acknowledged([each.journal for each in self.stations])
+    def witness(self, but: str = "") -> str:
+        """What the journals say, as the client's command prints it; without the part of the station `but`."""
+        numbers = acknowledged([each.journal for each in self.stations if each.name != but])
         lines = [f"at {time.strftime('%Y-%m-%dT%H:%M:%SZ', time.gmtime())}"]
         return "\n".join([*lines, *(f"seat {name} {number}" for name, number in sorted(numbers.items()))]) + "\n"
 

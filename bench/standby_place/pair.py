@@ -31,8 +31,9 @@ UP = "for try in 1 2 3 4 5; do drbdadm up station && break; drbdadm down station
 DRBD = re.compile(r"^ 0: cs:(\S+) ro:(\S+) ds:(\S+) +(?:[ABC] +)?([rs]\S*)", re.MULTILINE)
 
 
-# The resource's own words that a guest needs in another form: its disk, and the times, where it is slow.
+# The resource's own words that a guest needs in another form: its disk, the secret, and the times, where it is slow.
 DISK = "disk /dev/vg0/station;"
+SAMPLE, SECRET = 'shared-secret "write-your-own";', 'shared-secret "the secret of two guests";'
 TIMES = re.compile(r"^( +(?:timeout|ping-timeout|ping-int|connect-int)) (\d+);", re.MULTILINE)
 
 
@@ -40,9 +41,9 @@ def resource_text(times: float) -> str:
     """The resource that a plant installs, over the guests' disks, where DRBD waits so many times as long."""
     text = (DEPLOYED / "station.res").read_text(encoding="utf-8")
     longer, count = TIMES.subn(lambda found: f"{found[1]} {int(times * int(found[2]))};", text)
-    if count != 4 or DISK not in text:
-        raise SystemExit(f"FAILED: station.res has {count} of four times, or not {DISK}")
-    return longer.replace(DISK, "disk /dev/mapper/half;")
+    if count != 4 or DISK not in text or SAMPLE not in text:
+        raise SystemExit(f"FAILED: station.res has {count} of four times, or not {DISK} and {SAMPLE}")
+    return longer.replace(DISK, "disk /dev/mapper/half;").replace(SAMPLE, SECRET)
 
 
 def image_of(

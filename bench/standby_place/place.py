@@ -97,11 +97,12 @@ class Place:
         self.line.wait_for(BEHIND, ANSWERS)
         self.cuts.append(Cut(name, seen, end - start, used, self.line.first_after(end) - end))
 
-    def refused(self, name: str, guest: Guest, words: str, told: str) -> None:
-        """A takeover that has to be refused with these words, and to change nothing."""
+    def refused(self, name: str, guest: Guest, words: str, told: str, but: str = "") -> None:
+        """A takeover that has to be refused with these words, and to change nothing. The witness lacks the part of the
+        station `but`."""
         # A machine without a disk has no identifiers.
         before = guest.run("drbdadm get-gi station")[1], self.pair.state(guest)
-        status, said = self.pair.take_over(guest, self.line.witness, words)
+        status, said = self.pair.take_over(guest, lambda: self.line.witness(but), words)
         self.tell(said)
         self.expect(status == 1 and told in said, f"{name}: not refused as {told!r}, but {status}: {said}")
         after = guest.run("drbdadm get-gi station")[1], self.pair.state(guest)

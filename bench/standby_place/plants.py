@@ -7,6 +7,7 @@ second time together with that test taken away, so that both lines of defence ar
 from dataclasses import dataclass
 
 from standby_place.image import Edit
+from standby_place.pair import SAMPLE, SECRET
 
 STANDBY = "usr/share/wanekupo/standby"
 RESOURCE = "etc/drbd.d/station.res"
@@ -37,6 +38,8 @@ PLANTS = {
     "dont-care": Plant((DONT_CARE,), "a", "`fencing` is dont-care"),
     "dont-care-untested": Plant((DONT_CARE, UNTESTED), "d", "not ^frozen"),
     "discard": Plant((DISCARD,), "a", "`after-sb-0pri` is discard-least-changes"),
+    "secret": Plant(((RESOURCE, SECRET, SAMPLE),), "a", "`shared-secret` is the sample's"),
+    "no-secret": Plant(((RESOURCE, f"        {SECRET}\n", ""),), "a", "`shared-secret` has fewer"),
     "compare": Plant(((f"{STANDBY}/witness.py", "    if behind:\n", NEVER),), "c-boot", "not refused as 'This half is"),
     "witness-of-before": Plant(
         ((f"{STANDBY}/witness.py", "    if since and oldest < since:\n", NEVER),), "witness", "of before isn't refused"

@@ -15,8 +15,7 @@ from standby_place.scenarios import OLDER
 
 ROOT = Path(__file__).resolve().parents[2]
 # What a guest hasn't that a restore needs, beside the client's package.
-TOOLS = """backup backup_copy.py backup_kept.py backup_snapshot.py restore restore_look.py restore_place.py
-    restore_plan.py token_file.py"""
+TOOLS = ("backup", "restore", *(path.name for path in (ROOT / "deploy").glob("*.py")))
 # What the page has the operator type, each command by itself. A guest has no `runuser`, and a smaller `setpriv`.
 TYPED = """
 drbdadm primary --force station
@@ -67,7 +66,7 @@ def stick(place: Place) -> None:
             found = tarfile.TarInfo(f"run/stick/tokens/{each.name}.token")
             found.size, found.mode = len(text), 0o600
             tar.addfile(found, io.BytesIO(text))
-        for name in TOOLS.split():
+        for name in TOOLS:
             tar.add(ROOT / "deploy" / name, f"usr/share/wanekupo/{name}")
         for path in (ROOT / "clients/python/wanekupo").glob("*.py"):
             tar.add(path, f"usr/lib/python3/dist-packages/wanekupo/{path.name}")

@@ -19,7 +19,8 @@ from standby_place.network import free_ports
 from standby_place.pair import Pair, copied
 from standby_place.place import Cut, Place
 from standby_place.restored import newer_half_lost, restored_books
-from standby_place.witnesses import bad_witnesses
+from standby_place.tokens import ended_tokens
+from standby_place.witnesses import bad_witnesses, late_station
 
 SCENARIOS: dict[str, Callable[[Place], None]] = {
     "a": scenarios.power_cut,
@@ -40,6 +41,8 @@ SCENARIOS: dict[str, Callable[[Place], None]] = {
     "frozen": words.frozen_long,
     "frozen-10": words.frozen_ten_minutes,
     "witness": bad_witnesses,
+    "late": late_station,
+    "tokens": ended_tokens,
     "killed": lost.killed,
     "both": lost.both_written,
     "lost": newer_half_lost,
@@ -48,6 +51,8 @@ SCENARIOS: dict[str, Callable[[Place], None]] = {
 }
 # Not these, unless they are named: the one takes a quarter of an hour, the other is a part of `ab`.
 ELSE = ["a", "frozen-10"]
+# How many of the stations haven't asked yet where a scenario begins.
+LATE = {"late": 1}
 
 
 @dataclass
@@ -101,8 +106,8 @@ def set_up(base: Path, made: Made) -> Made:
     return replace(made, base=base)
 
 
-def begun(pair: Pair, folder: Path, seed: int, made: Made) -> Place:
-    """Both machines on, the store on the first, and the line at work."""
+def begun(pair: Pair, folder: Path, seed: int, made: Made, late: int) -> Place:
+    """Both machines on, the store on the first, and the line at work, but for the last so many stations."""
     pair.start(pair.alpha, pair.beta)
     pair.wait_joined()
     line = Line(pair.address.port, folder / "line", seed)
@@ -110,7 +115,7 @@ def begun(pair: Pair, folder: Path, seed: int, made: Made) -> Place:
     if status:
         raise SystemExit(f"the first takeover: {said}")
     chance = random.Random(seed)
-    return Place(pair, line.start(WORK), chance, pair.alpha, pair.beta, made.program, folder, made.is_verbose)
+    return Place(pair, line.start(WORK, late), chance, pair.alpha, pair.beta, made.program, folder, made.is_verbose)
 
 
 def ended(place: Place) -> dict[str, int]:
@@ -142,7 +147,7 @@ def tried(name: str, seed: int, folder: Path, made: Made) -> Run:
     with Pair(folder, made.kernel, made.first) as pair:
         place = None
         try:
-            place = begun(pair, folder, seed, made)
+            place = begun(pair, folder, seed, made, LATE.get(name, 0))
             SCENARIOS[name](place)
             run.cut_count = pair.cuts()
             run.counts = ended(place)

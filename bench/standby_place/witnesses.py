@@ -5,8 +5,8 @@ import time
 from collections.abc import Iterator
 from datetime import datetime, timedelta, timezone
 
-from standby_place.place import Place, back, is_alone
-from standby_place.scenarios import NO_WORD
+from standby_place.place import ANSWERS, BEHIND, Place, back, is_alone
+from standby_place.scenarios import NO_WORD, OLDER
 
 FORM = "at %Y-%m-%dT%H:%M:%SZ"
 
@@ -27,6 +27,8 @@ def wrong(before: str, now: str) -> Iterator[tuple[str, str, str]]:
     line, last = f"seat {name} {number}\n", int(number)
     yield "of an older copy", now.replace(line, f"seat {name} {last - 3}\n"), "lacks replies"
     yield "with more replies", now.replace(line, f"seat {name} {last + 5}\n"), "an older one"
+    told = f"zz has 0 here, and a reply to 9 (/run/wrong, line {len(now.splitlines()) + 1})"
+    yield "with a seat that nobody has", now + "seat zz 9\n", told
 
 
 def bad_witnesses(place: Place) -> None:
@@ -52,3 +54,30 @@ def bad_witnesses(place: Place) -> None:
     place.taken_over("power of the first", seen, place.off())
     back(place, place.first)
     place.swap()
+
+
+def late_station(place: Place) -> None:
+    """While the first is alone a station asks for the first time, and no other one does. Its PC's part is missing: the
+    second is refused, and names the seat, though each seat that it has a number of is as its witness says."""
+    *others, late = place.line.stations
+    place.work()
+    for each in others:
+        each.is_over.set()
+    for each in others:
+        each.join(ANSWERS)
+    seen = place.cable_cut()
+    place.word()
+    late.start()
+    place.line.wait_for(BEHIND, ANSWERS)
+    place.first.cut()
+    place.pair.address.move(None)
+    is_alone(place, place.second, time.monotonic())
+    told = f"No witness has the seats {late.name},"
+    place.refused("a seat without a part", place.second, place.off(), told, but=late.name)
+    place.refused("a seat with its part", place.second, place.off(), OLDER)
+    place.pair.start(place.first)
+    place.swap()
+    place.taken_over("a station began while the first was alone", seen, place.off())
+    place.swap()
+    place.pair.cable.mend()
+    place.pair.wait_joined()

@@ -23,6 +23,9 @@ from datetime import datetime, timedelta, timezone
 from pathlib import Path
 from typing import Any, NoReturn, TextIO
 
+from store_user import UserError, shown
+from whole_file import put_whole
+
 SETTINGS = Path("/etc/station/standby.toml")
 # What this machine says of itself until it is switched off. Nobody but root writes there.
 RUN = Path("/run/station-standby")
@@ -67,6 +70,7 @@ class Settings:
     folder: str = "/var/lib/station"
     filesystem: str = "ext4"
     site: str = "/etc/station/site.toml"
+    tokens: str = "/etc/station/tokens.conf"
     program: str = "station"
     user: str = "station"
     scratch: str = "/var/tmp"
@@ -120,15 +124,10 @@ def done(words: list[str], seconds: float = COMMAND_SECONDS) -> str:
     return ended.stdout.strip()
 
 
-def shown(text: str) -> str:
-    """A text without the control characters that a command of somebody's has printed."""
-    return "".join(letter if letter.isprintable() else "?" for letter in text)
-
-
 def tell(line: str, out: TextIO | None = None) -> None:
     """Prints a line for the person who typed the script. Where nobody reads it any more the work goes on."""
     with contextlib.suppress(OSError):
-        print(shown(line), file=out or sys.stdout, flush=True)
+        print(shown(line.replace("\n", "; ")), file=out or sys.stdout, flush=True)
 
 
 def ended(name: str, call: Callable[[], int]) -> NoReturn:
@@ -140,7 +139,7 @@ def ended(name: str, call: Callable[[], int]) -> NoReturn:
         if os.geteuid() != 0:
             raise Refused("Only root can do that.")
         status = call()
-    except Refused as refused:
+    except (Refused, UserError) as refused:
         tell(f"{name}: refused: {refused}", sys.stderr)
     except OSError as error:
         tell(f"{name}: It failed: {error}. Mend that, and type the same again.", sys.stderr)
@@ -261,13 +260,6 @@ def word_file() -> Path:
     return run_file("other-is-off")
 
 
-def write_whole(file: Path, text: str) -> None:
-    """Writes a file of this machine's own under another name first, so that nobody reads a part."""
-    new = file.with_name(f"{file.name}.new")
-    new.write_text(text, encoding="ascii")
-    new.rename(file)
-
-
 def alone_since(received: str) -> datetime:
     """Since when the other machine is known to be off: the first `takeover` that found it so has written that down.
 
@@ -279,7 +271,7 @@ def alone_since(received: str) -> datetime:
         since = datetime.fromisoformat(moment)
         if then == received and timedelta(0) <= now - since < GATHERED:
             return since
-    write_whole(file, f"{now.isoformat()} {received}")
+    put_whole(file, f"{now.isoformat()} {received}")
     return now
 
 
@@ -288,7 +280,7 @@ def forget_alone() -> None:
 
 
 def give_word() -> None:
-    write_whole(word_file(), "off\n")
+    put_whole(word_file(), "off\n")
 
 
 def take_word() -> bool:

@@ -10,19 +10,25 @@ from __future__ import annotations
 
 import contextlib
 import os
-import pwd
 import re
 import shutil
 import tempfile
 from collections.abc import Iterator
+from dataclasses import dataclass
 from pathlib import Path
 
+import living
 from half import Half, Refused, done, run
+from store_user import Store, user_named
+from token_file import MANAGER, TokenError
+from token_site import digests_of
 
+# A seat and its last number, in a line of a witness, and of what sqlite3 reads of a half.
+SEAT = re.compile(r"seat ([A-Za-z0-9._-]{1,32}) ([0-9]{1,16})")
 # The device of a look, its folder, and the file there that has the changed blocks.
 NAME, FOLDER, CHANGES = "station-look", "station-look-", "changes"
 SECONDS = 900
-SEATS = "SELECT 'seat', name, last FROM seat ORDER BY name"
+SEATS = "SELECT 'seat ' || name || ' ' || last FROM seat ORDER BY name"
 
 
 @contextlib.contextmanager
@@ -91,8 +97,7 @@ def mounted(half: Half) -> Iterator[Path]:
 
 def as_user(half: Half, words: list[str], folder: Path) -> str:
     """A command of the store's user: what a file may bring a program to do would be done as that user."""
-    user = half.settings.user
-    ended = run(words, SECONDS, user=user, group=user, extra_groups=[], cwd=folder, umask=0o077)
+    ended = user_named(half.settings.user).run(*words, cwd=folder, seconds=SECONDS)
     if ended.returncode:
         said = (ended.stderr or ended.stdout).strip().replace("\n", "; ")
         name, told = Path(words[0]).name, "Look that fault up; the site file has to be the newest one."
@@ -100,31 +105,48 @@ def as_user(half: Half, words: list[str], folder: Path) -> str:
     return ended.stdout
 
 
-def tested_owner(half: Half, books: Path) -> None:
+def tested_owner(half: Half, store: Store) -> None:
     """Refuses a half without a store, and one whose user has another number on this machine."""
-    if not books.exists():
-        raise Refused("There is no books.db in this machine's half.")
-    user, number = half.settings.user, books.stat().st_uid
-    if pwd.getpwnam(user).pw_uid != number:
+    store.size()
+    user, number = half.settings.user, store.user.number
+    if user_named(user).number != number:
         told = "Give that user one number on both machines, as step 1 of the page `standby` does"
-        raise Refused(f"books.db is the user's of number {number}, and {user} has another number here. {told}.")
+        raise Refused(f"The half is the user's of number {number}, and {user} has another number here. {told}.")
 
 
-def numbers(half: Half) -> dict[str, int]:
-    """The last accepted number of each seat that the half has."""
+def seats_of(site: str) -> list[str]:
+    """The seats that a site file names. The manager is none: it looks, and has no number."""
+    try:
+        return [name for name in digests_of(Path(site).read_text(encoding="utf-8"), site) if name != MANAGER]
+    except (TokenError, OSError, UnicodeDecodeError, RecursionError) as error:
+        raise Refused(f"The seats of {site} can't be read: {error}.") from None
+
+
+@dataclass(frozen=True)
+class Contents:
+    """What a half has: the last accepted number of each seat, and which tokens could ask the machine that had it."""
+
+    numbers: dict[str, int]
+    tokens: set[str] | None
+
+
+def numbers_of(text: str, seats: list[str]) -> dict[str, int]:
+    """The numbers of lines as `seat a1 17`. A seat of the site file that has none has asked for nothing: 0."""
+    named = [SEAT.fullmatch(line) for line in text.splitlines()]
+    return dict.fromkeys(seats, 0) | {seat[1]: int(seat[2]) for seat in named if seat}
+
+
+def contents(half: Half) -> Contents:
+    """What the half has. The program opens it only where this machine's site file has each seat of the text that the
+    half holds: so the seats of that file are those of both."""
     settings = half.settings
     with mounted(half) as shown:
-        tested_owner(half, shown / "books.db")
-        words = [settings.program, "replay", "--site", settings.site, "--db", "books.db", "--existing"]
-        as_user(half, words, shown)
-        text = as_user(half, ["sqlite3", "-safe", "-readonly", "books.db", SEATS], shown)
-    return numbers_of(text.replace("|", " "))
-
-
-def numbers_of(text: str) -> dict[str, int]:
-    """The numbers of lines as `seat a1 17`, the highest of each seat. Other lines are passed over."""
-    found: dict[str, int] = {}
-    for line in text.splitlines():
-        if named := re.fullmatch(r"seat ([A-Za-z0-9._-]{1,32}) ([0-9]{1,16})", line.strip()):
-            found[named[1]] = max(found.get(named[1], 0), int(named[2]))
-    return found
+        store = Store(shown / "books.db")
+        try:
+            tested_owner(half, store)
+            words = [settings.program, "replay", "--site", settings.site, "--db", "books.db", "--existing"]
+            as_user(half, words, shown)
+            text = as_user(half, ["sqlite3", "-safe", "-readonly", "books.db", SEATS], shown)
+            return Contents(numbers_of(text, seats_of(settings.site)), living.listed(store.handle))
+        finally:
+            os.close(store.handle)

@@ -23,6 +23,8 @@ NEEDED = {
     "disk-flushes": "yes",
     "md-flushes": "yes",
 }
+# The secret by which the two know each other: the sample's is known to all.
+SAMPLE, SHORTEST = "write-your-own", 16
 HANDLER = Path(__file__).resolve().parent / "fence-peer"
 
 
@@ -35,10 +37,22 @@ def test(half: Half) -> None:
         for name, value in NEEDED.items()
         if found.get(name) != value
     ]
+    wrong += secret_faults(text)
     handler = re.search(r"^\s+fence-peer\s+(.+);$", half.asked("dump"), re.MULTILINE)
     words = shlex.split(handler[1]) if handler else []
     if [Path(word).resolve() for word in words] != [HANDLER]:
         wrong.append(f"the handler `fence-peer` is {' '.join(words) or 'missing'}, and not {HANDLER}")
     if wrong:
-        told = "Mend it by the deployed `station.res` on both machines, and type `drbdadm adjust` there."
+        told = "Mend it by the deployed `station.res`, with your own secret, on both, and type `drbdadm adjust` there."
         raise Refused(f"The resource {half.resource} doesn't keep its promise: {'; '.join(wrong)}. {told}")
+
+
+def secret_faults(shown: str) -> list[str]:
+    """What is wrong with the secret of a resource, which is said nowhere."""
+    found = dict(re.findall(r'^\s+(cram-hmac-alg|shared-secret)\s+"?([^";\n]*)"?;', shown, re.MULTILINE))
+    secret = found.get("shared-secret", "")
+    if not found.get("cram-hmac-alg"):
+        return ["there is no `cram-hmac-alg`, so no secret is asked for"]
+    if secret == SAMPLE:
+        return ["`shared-secret` is the sample's: write your own (`openssl rand -hex 24`)"]
+    return [f"`shared-secret` has fewer than {SHORTEST} letters"] if len(secret) < SHORTEST else []
