@@ -16,6 +16,7 @@ import tomllib
 from collections.abc import Iterable, Iterator
 from dataclasses import dataclass
 from pathlib import Path
+from typing import NoReturn
 
 from backup_copy import said_of
 from restore_plan import Customer, Placed, RestoreError, SeatJournal, error_of
@@ -89,6 +90,17 @@ def sources_of(words: Iterable[str], customers: dict[str, Customer], folders: Fo
     return found
 
 
+def _unread(error: OSError) -> NoReturn:
+    raise RestoreError(f"this user can't read {shown(str(error.filename))}: a journal may be there") from None
+
+
+def _entries(path: Path) -> list[os.DirEntry[str]]:
+    try:
+        return sorted(os.scandir(path), key=lambda it: it.name)
+    except OSError as error:
+        _unread(error)
+
+
 def _shipped(path: Path, folders: Folders, at: Path) -> Iterator[Source]:
     """The folders of a folder of all."""
     if not path.is_dir():
@@ -96,7 +108,7 @@ def _shipped(path: Path, folders: Folders, at: Path) -> Iterator[Source]:
     if not folders:
         told = f"{at} says which seats each folder in {path} has, and it isn't there or empty"
         raise RestoreError(f"{told}: write it (docs/reference/files.md), or give each customer's as CUSTOMER=PATH")
-    for it in sorted(os.scandir(path), key=lambda it: it.name):
+    for it in _entries(path):
         place = shown(it.path)
         if it.is_symlink():
             raise RestoreError(f"{place} is a link, and isn't followed: have the folder itself there")
@@ -110,13 +122,9 @@ def _shipped(path: Path, folders: Folders, at: Path) -> Iterator[Source]:
 
 def _files_of(source: Source) -> list[Path]:
     """The files of a source's journals, in all folders below."""
-
-    def unread(error: OSError) -> None:
-        raise RestoreError(f"this user can't read {shown(str(error.filename))}: a journal may be there")
-
     if not source.path.is_dir():
         return [source.path]
-    walked = os.walk(source.path, onerror=unread)
+    walked = os.walk(source.path, onerror=_unread)
     return [Path(folder, it) for folder, _, names in walked for it in sorted(names) if it.endswith(SUFFIX)]
 
 
