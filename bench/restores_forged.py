@@ -1,4 +1,4 @@
-"""Journals that were forged or damaged, for bench/restores: whose they are, what they ask, and what the lost store says.
+"""Journals that were forged or damaged, for bench/restores: whose they are, what they ask, what the lost store says.
 
 A station has its key, so it writes what it likes into the folder of that key, with digests that are right. What it
 writes of another's seat is refused with file and line, before anything is moved. What the lost store has otherwise is
@@ -107,7 +107,7 @@ def test_foreign(bench):
         _, said = bench.refuses(where, journals=[journals])
         if "acme: " not in said.stderr and line:
             raise Failed(f"no customer is named: {said}")
-    print(f"refused: {len(cases) - 1} files of a station for another's seat, or with a digest that isn't theirs", flush=True)
+    print(f"refused: {len(cases) - 1} files of a station for another's seat, or with another digest", flush=True)
 
 
 def test_folders(bench):
@@ -140,11 +140,11 @@ def test_folders(bench):
     (own / "a1-2026-11-30.journal").unlink()
     with open(own / "a1-2026-11-30.journal", "wb") as large:
         large.truncate(3 << 30)
-    bench.refuses("has more than 2048 MB of journals", journals=[journals])
+    bench.refuses("has more than 2048 MB or 4000000 lines of journals", journals=[journals])
     shutil.move(journals / "a1", bench.folder / "aside")
     (journals / "a1").symlink_to(journals / "b1")
     bench.refuses("is a link, and isn't followed", journals=[journals])
-    print("refused: a table of folders that isn't one, links, a pipe, a file of 3 GB, a folder that nobody knows", flush=True)
+    print("refused: a table of folders that isn't one, links, a pipe, a file of 3 GB, an unknown folder", flush=True)
 
 
 # What the lost store says.
@@ -159,7 +159,8 @@ def test_lost(bench):
     reply["reply"]["key_sha256"] = "ab" * 32
     serial = reply["reply"]["serial"]
     cases = (
-        ([{"at": AT.format(0), "resynchronized": last}, *done("a1", last, *ship)], f"number {last} of a1, which is another"),
+        ([{"at": AT.format(0), "resynchronized": last}, *done("a1", last, *ship)],
+         f"number {last} of a1, which is another"),
         (done("a1", last + 1, *ship), f"number {last + 1} of a1, and the lost store's last is {last}"),
         (done("a1", 9007199254740991, *ship), f"of a1, and the lost store's last is {last}"),
         ([{"at": AT.format(0), "resynchronized": 2}, *done("a1", 2, "/v1/order", order, {**order, "next": "M001"})],
@@ -187,7 +188,7 @@ def test_lost(bench):
     ends = bench.restore(older)
     if ends.returncode:
         raise Failed(f"a restored store is restored once more: {ends}")
-    print(f"refused: {len(cases)} journals that the lost store contradicts, and an older store; by a word it goes on", flush=True)
+    print(f"refused: {len(cases)} journals that the lost store contradicts, and an older one; by a word it goes on")
 
 
 def replace_reply(folder, asked, reply):
@@ -218,15 +219,15 @@ def numbers_given(store, customer=""):
 
 
 def test_left_out(bench):
-    """A scrap of a chip that is shipped stops all, with file, line, chip and customer. The others go on by a word, where
-    no token of that customer's lives."""
+    """A scrap of a chip that is shipped stops all, with file, line, chip and customer. The others go on by a word,
+    where no token of that customer's lives."""
     chip, last = shipped_before(bench), seat_rows(bench.plant.db)["a2"]
     journals = bench.copied("strange")
     file = own_folder(journals, "a2") / "a2-2026-11-30.journal"
     file.write_text(written(done("a2", last + 1, "/v1/scrap", {"chip": chip}, {"chip": chip, "state": "scrapped"})))
     empty = Path(tempfile.mkdtemp(dir=bench.folder, prefix="empty."))
-    told = f"acme: chip {chip}, scrapped in its journal and shipped in the store: refused as 17 wrong_state (line 2 of {file})"
-    bench.refuses(told, journals=[journals], folder=empty)
+    told = f"acme: chip {chip}, scrapped in its journal and shipped in the store: refused as 17 wrong_state"
+    bench.refuses(f"{told} (line 2 of {file})", journals=[journals], folder=empty)
     bench.refuses(f"line 1 of {file} has number {last + 1} of a2", journals=[journals])
     bench.refuses("--leave-out acme needs the file of station-token", "--leave-out", "acme", journals=[journals])
     tokens, token = bench.folder / "left.conf", [sys.executable, "-B", ROOT / "deploy/token", "--no-reload", "--file"]
@@ -238,7 +239,8 @@ def test_left_out(bench):
     ran(*token, tokens, "seat", *site, "a2", "--known", bench.folder / "a2.inner")
     ran(*token, tokens, "add", "a2")
     words = ("--leave-out", "acme")
-    bench.refuses("First end the tokens of a2: station-token revoke a2", *words, journals=[journals], tokens=tokens)
+    line = "First end the tokens of a2: station-token revoke a2"
+    bench.refuses(line, *words, journals=[journals], tokens=tokens)
     bench.refuses("has no such customer", "--leave-out", "acne", journals=[journals], tokens=tokens)
     ran(*token, tokens, "revoke", "a2")
     folder = bench.place()
@@ -251,11 +253,11 @@ def test_left_out(bench):
     if numbers_given(folder / "books.db", "acme") != numbers_given(bench.backup / "books.db", "acme"):
         raise Failed("acme has other numbers than the backup's")
     later(bench, folder)
-    print("one strange line: named; the others go on by --leave-out, and the customer later, over the server", flush=True)
+    print("one strange line: named; the others go on by --leave-out, and the customer later, over the server")
 
 
 def later(bench, folder):
-    """The customer that was left out comes back over the server, by its journals: each number is the one of before."""
+    """The customer that was left out comes back over the server, by its journals: each number is as it was."""
     plant = bench.plant
     before, plant.db = plant.db, folder / "books.db"
     plant.start()

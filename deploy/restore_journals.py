@@ -7,8 +7,8 @@ journals):
     pc7 = ["a1", "a2"]
 
 A line of another seat stops a restore before it moves anything, and so does one whose digest isn't that of what it
-asks. No link is followed below the folder of all, files are plain ones, and of each folder MOST bytes are read at the
-most. All that a restore does it does by the lines that were read here: what comes meanwhile changes nothing.
+asks. No link is followed below the folder of all, and files are plain ones, of a bounded size. All that a restore does
+it does by the lines that were read here: what comes meanwhile changes nothing.
 """
 
 import os
@@ -27,8 +27,8 @@ from wanekupo.journal import OF_A_DAY, SUFFIX, journals_of
 from wanekupo.journal_lines import lines_of
 from wanekupo.texts import shown
 
-# The most bytes of a folder's journals, which are in memory all at once; and of root's file.
-MOST, LONGEST = 1 << 31, 1 << 20
+# The most bytes and lines of a folder's journals, which are in memory all at once; and the most bytes of root's file.
+MOST, MOST_LINES, LONGEST = 1 << 31, 4_000_000, 1 << 20
 
 Folders = dict[str, frozenset[str]]
 
@@ -170,17 +170,22 @@ def _tested(source: Source, otherwise: str, placed: Placed) -> str:
     return seat
 
 
+def _bound(source: Source, is_within: bool) -> None:
+    if not is_within:
+        told = f"{source.path} has more than {MOST >> 20} MB or {MOST_LINES} lines of journals"
+        raise RestoreError(f"{told}: look whether they are its own, and move days from before the backup away")
+
+
 def journals_in(source: Source, wanted: frozenset[str]) -> list[SeatJournal]:
     """The journals of a source, by their seats. A line may be of a seat that nobody wants, and is passed over."""
     files = _files_of(source)
     sizes = {it: os.lstat(it).st_size for it in files}
-    if sum(sizes.values()) > MOST:
-        told = f"{source.path} has more than {MOST >> 20} MB of journals"
-        raise RestoreError(f"{told}: look whether they are its own, and move days from before the backup away")
+    _bound(source, sum(sizes.values()) <= MOST)
     found: dict[tuple[int, str], list[Placed]] = {}
     groups = [(number, file) for number, group in enumerate(journals_of(files)) for file in group]
     placed = ((number, file, it) for number, file in groups for it in _placed(file, sizes[file]))
-    for number, file, it in placed:
+    for count, (number, file, it) in enumerate(placed):
+        _bound(source, count < MOST_LINES)
         seat = _tested(source, _unnamed(source, file), it)
         if seat in wanted or not seat:
             found.setdefault((number, seat), []).append(it)
@@ -197,7 +202,7 @@ def take_journals(sources: Iterable[Source], customers: dict[str, Customer], lef
         try:
             found = journals_in(source, frozenset(owner))
         except (RestoreError, StationError, OSError) as error:
-            raise error_of(sorted(names), f"{said_of(error)}. Nothing was moved") from None
+            raise error_of(sorted(names), f"{shown(said_of(error))}. Nothing was moved") from None
         for journal in found:
             customer = owner[journal.seat] if journal.seat else customers[source.customer]
             customer.journals.append(journal)

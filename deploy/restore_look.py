@@ -75,7 +75,7 @@ def _numbers_otherwise(seat: str, found: Requests, row: dict[str, Any] | None, i
     """A station asks for a number once it has the reply to the one before, so one number behind the last may be asked
     for, and none may be done."""
     last, digest = (row["last"], row["digest"]) if row else (0, "")
-    if last in found and digest not in {it.digest for it in found[last]}:
+    if last in found and not any(it.digest in (digest, "") for it in found[last]):
         yield f"{found[last][-1].place} has number {last} of {seat}, which is another request in the lost store"
     ahead = [nr for nr in sorted(found) if nr > last + 1 or nr > last and any(it.is_done for it in found[nr])]
     if ahead and not is_restored:

@@ -17,7 +17,8 @@ from typing import Any
 from backup_copy import BackupError
 from token_file import Outer, TokenError, Tokens, read, tokens_of
 from wanekupo.errors import StationError
-from wanekupo.journal import Asked, request_digest, requests_in, serials_of
+from wanekupo.journal import Asked, requests_in, serials_of
+from wanekupo.restore import tested_requests
 from wanekupo.texts import shown
 
 # How the name of a seat begins that is for restores alone.
@@ -105,7 +106,7 @@ def standing(lines: Iterable[Placed]) -> Requests:
             continue
         those = found.setdefault(line["asked"]["nr"] if "asked" in line else line["nr"], [])
         if "asked" in line:
-            digest = line.get("digest") or request_digest(line["path"], line["asked"])
+            digest = line.get("digest", "")  # one that a person wrote may have none
             if not those or those[-1].digest != digest:
                 those.append(Request(f"line {number} of {shown(file)}", digest))
         elif line["status"] != 200:
@@ -126,6 +127,7 @@ def requests_of_seats(customers: Iterable[Customer]) -> dict[str, Requests]:
 def asked_of(customer: Customer) -> list[Asked]:
     """The requests of a customer's journals by their times, in which each serial number has one record."""
     asked = list(heapq.merge(*(requests_in(it.lines) for it in customer.journals), key=lambda it: it.at))
+    tested_requests(asked)
     serials_of(asked)
     return asked
 

@@ -8,7 +8,7 @@ import itertools
 import os
 from typing import Any, Callable, Iterable, Iterator, Mapping, Sequence
 
-from wanekupo.errors import Differs, OutOfStep, Refused
+from wanekupo.errors import BadJournal, Differs, OutOfStep, Refused
 from wanekupo.journal import Asked, Record, merged, records_of, states_of
 from wanekupo.rows import Rows, parts_of
 from wanekupo.station import Station
@@ -19,7 +19,27 @@ EXISTS = 16
 # Lost or given up: a device in one of these states is scrapped again after a restore.
 GIVEN_UP = ("quarantined", "scrapped")
 
+# Of a request that is brought back, and of an identity's reply, the members that have to be texts.
+TEXTS = {"/v1/order": ("name",), "/v1/map": ("text",)}
+RECORD = ("issuer", "serial", "key_sha256", "chip")
+
+# What a person does where a line can't be brought back.
+REFUSED = "That line was changed, or another journal contradicts it: look at both in copies."
+
 Ticked = Callable[..., None]
+
+
+def tested_requests(asked: Iterable[Asked]) -> None:
+    """Whether requests have what they are brought back by. A reply's texts are in visible ASCII: they are printed."""
+    for it in asked:
+        reply = (it.reply or {}) if it.is_done() else {}
+        own = [it.members.get(name) for name in TEXTS.get(it.path, ()) if it.may_be_done()]
+        told = [reply.get("state", "")]
+        if it.is_done() and it.path == "/v1/identity":
+            told += [*(reply.get(name) for name in RECORD), "" if reply.get("mac") is None else reply["mac"]]
+        is_told = all(isinstance(text, str) and text.isascii() and text.isprintable() for text in told)
+        if not is_told or not all(isinstance(text, str) for text in own):
+            raise BadJournal(f"line {it.line} of {it.file} isn't as a station writes it", REFUSED)
 
 
 def restore(
@@ -38,6 +58,7 @@ def restore_requests(
     then what became of devices. What is there already changes nothing, so it may be done again. `left` has the devices
     whose last state isn't the store's, with both. `told` gets how many of all of these are done, of how many. A request
     that the server refuses is named, with its line."""
+    tested_requests(asked)
     made_before = [it for it in asked if it.path in ("/v1/order", "/v1/map") and it.may_be_done()]
     records, states = records_of(asked), states_of(asked)
     of = len(made_before) + len(records) + len(states)
@@ -73,10 +94,6 @@ def _named(what: str, it: Asked) -> Iterator[None]:
         raise
     except Refused as refused:
         raise Differs(_told(f"{what}: refused as {refused}", it), REFUSED) from refused
-
-
-# What a person does where a line can't be brought back.
-REFUSED = "That line was changed, or another journal contradicts it: look at both in copies."
 
 
 def _order_again(station: Station, it: Asked) -> bool:
