@@ -43,7 +43,8 @@ FOLDERS = """bin dev etc/drbd.d etc/station lib/drbd lib64 mnt modules proc root
 IMPORTED = """
 import argparse, contextlib, dataclasses, datetime, encodings.idna, fcntl, json, os, pathlib, pwd, re, shlex, shutil
 import signal, subprocess, sys, tempfile, time, tomllib, typing
-import backup_copy, backup_kept, backup_snapshot, restore_look, restore_place, restore_plan, wanekupo.restore
+import backup_copy, backup_kept, backup_snapshot, restore_journals, restore_look, restore_place, restore_plan
+import wanekupo.restore
 for module in list(sys.modules.values()):
     print(getattr(module, "__cached__", None) or "")
     print(getattr(module, "__file__", None) or "")

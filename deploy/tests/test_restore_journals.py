@@ -74,7 +74,7 @@ def test_lines_of_two_seats_of_a_folder_in_one_file(tmp_path):
 # What a file has, its name, which line is named, and why.
 FOREIGN = (
     ("another's line", "a1-2026-11-29.journal", [asked(1), asked(2, "b1")], 2, "is of the seat b1, and the folder pc7"),
-    ("another's file", "b1-2026-11-29.journal", [asked(1, "b1")], 1, "is of the seat b1, and the folder pc7 is of a1, a2"),
+    ("another's file", "b1-2026-11-29.journal", [asked(1, "b1")], 1, "and the folder pc7 is of a1, a2"),
     ("no seat, another's name", "b1-2026-11-29.journal", [asked(1, None)], 1, "is of no seat that it names"),
     ("a seat that isn't there", "a1.journal", [asked(1, "\x1b[2Jc1")], 1, "is of the seat \\x1b[2Jc1, and"),
     ("zeros", "a1.journal", [asked(1, digest="0" * 64)], 1, "its digest isn't that of what it asks"),
@@ -186,7 +186,7 @@ def test_what_comes_while_it_reads_is_left(tmp_path, monkeypatch):
 # Root's file.
 
 TABLES = (
-    ('[folders]\npc7 = ["a1", "a2"]\nrestored = ["restore-acme"]\n', {"pc7": {"a1", "a2"}, "restored": {"restore-acme"}}),
+    ('[folders]\npc7 = ["a1", "a2"]\nrestored = ["r1"]\n', {"pc7": {"a1", "a2"}, "restored": {"r1"}}),
     ("[folders]\n", {}),
     ('[folders]\npc7 = []\n', {"pc7": set()}),
     ('[folders]\npc7 = ["a1", "a1"]\n', {"pc7": {"a1"}}),

@@ -40,7 +40,8 @@ NUMBERS = (
     ("no journal, and a word", customer(), {}, {"a1": 2}, "a1", []),
     ("who can order nothing", customer(can_order=False), {}, {"a1": 2}, "", []),
     ("the one that asks, new", customer(seats=["a1"], seat="a1"), {}, {}, "", []),
-    ("the one that asks", customer(seats=["a1"], seat="a1"), {}, {"a1": 1}, "", ["the seat a1 of acme has no journal here"]),
+    ("the one that asks", customer(seats=["a1"], seat="a1"), {}, {"a1": 1}, "",
+     ["the seat a1 of acme has no journal here"]),
     ("a gap", customer(), requests(a1=[3, 6]), {"a1": 2}, "", ["the numbers 4 to 5 of a1 are in no journal"]),
     ("too short", customer(), requests(a1=[1]), {"a1": 2}, "",
      ["the journal of a1 ends with number 1, and the backup has 2 of it"]),
@@ -93,8 +94,10 @@ LOST = (
     ("one of two with that number", {"a1": {3: [Request("line 8", "00"), Request("line 9", "d3", True)]}}, {}, []),
     ("one by a person's hand", {"a1": {3: [Request("line 9", "", True)]}}, {}, []),
     ("one more that was done", requests(a1=[3, 4]), {}, ["line 4 has number 4 of a1, and the lost store's last is 3"]),
-    ("two more without a reply", requests(a1=[3, -4, -5]), {}, ["line 5 has number 5 of a1, and the lost store's last is 3"]),
-    ("a seat that asked for nothing", requests(a9=[1]), {}, ["line 1 has number 1 of a9, and the lost store's last is 0"]),
+    ("two more without a reply", requests(a1=[3, -4, -5]), {},
+     ["line 5 has number 5 of a1, and the lost store's last is 3"]),
+    ("a seat that asked for nothing", requests(a9=[1]), {},
+     ["line 1 has number 1 of a9, and the lost store's last is 0"]),
     ("a store that was restored since", requests(a1=[3, 4, 5]), RESTORED, []),
     ("another request in such a one", {"a1": {3: [Request("line 9", "00", True)]}}, RESTORED,
      ["line 9 has number 3 of a1, which is another request in the lost store"]),
@@ -130,7 +133,8 @@ ROWS = (
      ["line 2 of f has the serial number A001 of acme-ca, and the lost store has another key with it"]),
     ("a number that is not there", identity("A002", "0000"),
      ["line 2 of f has the serial number A002 of acme-ca, and the lost store hasn't it"]),
-    ("an import without a reply", line("/v1/import", 1, {"issuer": "acme-ca", "csv": "serial,key_sha256\nA9,00\n"}), []),
+    ("an import without a reply", line("/v1/import", 1, {"issuer": "acme-ca", "csv": "serial,key_sha256\nA9,00\n"}),
+     []),
 )  # fmt: skip
 
 

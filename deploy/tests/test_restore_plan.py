@@ -36,7 +36,7 @@ STANDING = (
     ("asked and answered", [asked(1), replied(1)], {1: [("d", True)]}),
     ("no reply", [asked(1), replied(1), asked(2, "e")], {1: [("d", True)], 2: [("e", False)]}),
     ("sent again", [asked(1), asked(1), replied(1)], {1: [("d", True)]}),
-    ("refused, and another with its number", [asked(1), replied(1, 409), asked(1, "e"), replied(1)], {1: [("e", True)]}),
+    ("refused, and another", [asked(1), replied(1, 409), asked(1, "e"), replied(1)], {1: [("e", True)]}),
     ("refused", [asked(1), replied(1, 404)], {}),
     ("a late copy", [asked(1, "d"), replied(1, 409), asked(1, "late"), replied(1)], {1: [("late", True)]}),
     (
