@@ -263,6 +263,9 @@ class Plant:
         self.site.write_text(site_text())
         for customer in CUSTOMERS:
             (self.folder / f"tokens/restore-{customer}.token").write_text(token_of(f"restore-{customer}"))
+        self.folders = self.folder / "journals.toml"
+        rows = [f'{seat} = ["{seat}"]\n' for seats in CUSTOMERS.values() for seat in seats]
+        self.folders.write_text("[folders]\n" + "".join(rows))
         self.shared = {customer: [] for customer in CUSTOMERS}
         seats = [(customer, seat) for customer, seats in CUSTOMERS.items() for seat in seats]
         self.lines = [Line(self, customer, seat, number) for number, (customer, seat) in enumerate(seats)]
@@ -304,15 +307,18 @@ class Plant:
         return Path(said.splitlines()[-1].removeprefix("backed up in "))
 
     def gather(self):
-        """The journals come off the stations."""
+        """The journals come off the stations, each into the folder of its key."""
         for line in self.lines:
-            told = line.wanekupo("ship-journal", str(self.folder / "gathered"))
+            own = self.folder / "gathered" / line.seat
+            own.mkdir(exist_ok=True)
+            told = line.wanekupo("ship-journal", str(own))
             if told.returncode:
                 raise Failed(f"{line.seat}: {told}")
 
     def restore(self, backup, is_killed):
         words = [backup, self.site, self.folder / "gathered", "--db", self.db, "--program", self.program]
         words += ["--tokens", self.folder / "tokens", "--port", str(self.port), "--backups", self.folder / "restored"]
+        words += ["--folders", self.folders]
         (self.folder / "restored").mkdir(exist_ok=True)
         for _ in range(2 if is_killed else 0):
             call = self.random.randint(1, 60)

@@ -1,21 +1,25 @@
-"""What a restore goes by: the site, whose each journal is, which numbers it has, and by which seat a customer is asked.
+"""What a restore goes by: the site, which requests and numbers journals have, and by which seat a customer is asked.
 
 The site has the SHA-256 of each seat's token, and no token. So a token comes from the file of station-token, which has
 those of all seats, or from a folder with a file SEAT.token for one seat of each customer.
 """
 
+import contextlib
 import hashlib
+import heapq
 import os
 import tomllib
-from collections.abc import Iterable
+from collections.abc import Iterable, Iterator
 from dataclasses import dataclass, field
 from pathlib import Path
 from typing import Any
 
 from backup_copy import BackupError
-from token_file import TokenError, read, tokens_of
+from token_file import Outer, TokenError, Tokens, read, tokens_of
 from wanekupo.errors import StationError
-from wanekupo.journal import OF_A_DAY, SUFFIX, Asked, journals_of, merged, placed_lines_of, serials_of
+from wanekupo.journal import Asked, requests_in, serials_of
+from wanekupo.restore import tested_requests
+from wanekupo.texts import shown
 
 # How the name of a seat begins that is for restores alone.
 OWN = "restore"
@@ -25,19 +29,43 @@ class RestoreError(BackupError):
     """Why a restore doesn't go on; nothing was put in place."""
 
 
+def error_of(names: list[str], told: str) -> RestoreError:
+    """What the journals of a customer don't let go on, and how the others do."""
+    return RestoreError(f"{' and '.join(names)}: {told.rstrip('.')}. The others go on by --leave-out {names[0]}")
+
+
+@contextlib.contextmanager
+def named(customer: str) -> Iterator[None]:
+    """Says whose the line is that an error of the client's names."""
+    try:
+        yield
+    except StationError as error:
+        raise error_of([customer], told_of(error)) from error
+
+
+# A line of a journal, with its file and its number there.
+Placed = tuple[str, int, dict[str, Any]]
+
+
+@dataclass(frozen=True)
+class SeatJournal:
+    """The lines of a journal in their order, and the seat that they are of; one that a person wrote may have none."""
+
+    seat: str
+    lines: list[Placed]
+
+
 @dataclass
 class Customer:
-    """A customer of the site: its seats with the digests of their tokens, and its journals by their files."""
+    """A customer of the site: its seats with the digests of their tokens, its journals, and the requests in them."""
 
     name: str
     seats: dict[str, str]
     can_order: bool
-    journals: list[list[Path]] = field(default_factory=list)
+    journals: list[SeatJournal] = field(default_factory=list)
+    asked: list[Asked] = field(default_factory=list)
     seat: str = ""
     token: str = ""
-
-    def files(self) -> list[Path]:
-        return [file for group in self.journals for file in group]
 
 
 def customers_of(site: Path) -> dict[str, Customer]:
@@ -56,68 +84,50 @@ def customers_of(site: Path) -> dict[str, Customer]:
 # Journals.
 
 
-def _seats_in(files: list[Path]) -> set[str]:
-    """The seats that a journal names: in its lines, or by the names of its files."""
-    found = {line["seat"] for _, _, line in placed_lines_of(files) if line.get("seat")}
-    for file in [] if found else files:
-        day = OF_A_DAY.fullmatch(file.name)
-        found.add(day[1].rstrip("-") if day else file.name.partition(".")[0])
-    return found
+@dataclass(slots=True)
+class Request:
+    """A request that is done or may be done, by the line that asks for it."""
+
+    place: str
+    digest: str
+    is_done: bool = False
 
 
-def _places(path: Path) -> list[Path]:
-    """The journals that a path stands for: a file, or all folders below that have some, as those that were shipped."""
-    if not path.is_dir():
-        return [path]
-
-    def unread(error: OSError) -> None:
-        raise RestoreError(f"this user can't read {error.filename}: a journal may be there")
-
-    walked = os.walk(path, onerror=unread)
-    return sorted(Path(folder) for folder, _, names in walked if any(name.endswith(SUFFIX) for name in names))
+Requests = dict[int, list[Request]]
 
 
-def _word(word: str, customers: dict[str, Customer]) -> tuple[str, str]:
-    """The customer that a word names, where it does, and its path: `acme=folder`."""
-    name, found, path = word.partition("=")
-    return (name, path) if found and name in customers else ("", word)
-
-
-def numbers_in(lines: Iterable[dict[str, Any]]) -> set[int]:
-    """The numbers with which requests are or may be done, by the lines of a seat in their order. Where the station was
-    told to go on with a lower number, the greater ones are of a store that is no more."""
-    found: set[int] = set()
-    for line in lines:
+def standing(lines: Iterable[Placed]) -> Requests:
+    """The requests of a seat that are or may be done, by their numbers. Where the station was told to go on with a
+    lower number, those with greater ones are of a store that is no more."""
+    found: Requests = {}
+    for file, number, line in lines:
         if "resynchronized" in line:
-            found = {it for it in found if it < line["resynchronized"]}
-        elif "asked" in line:
-            found.add(line["asked"]["nr"])
-        elif line.get("status") != 200:
-            found.discard(line["nr"])
-    return found
+            found = {it: those for it, those in found.items() if it < line["resynchronized"]}
+            continue
+        those = found.setdefault(line["asked"]["nr"] if "asked" in line else line["nr"], [])
+        if "asked" in line:
+            digest = line.get("digest", "")  # one that a person wrote may have none
+            if not those or those[-1].digest != digest:
+                those.append(Request(f"line {number} of {shown(file)}", digest))
+        elif line["status"] != 200:
+            del those[-1:]
+        elif those:
+            those[-1].is_done = True
+    return {it: those for it, those in found.items() if those}
 
 
-def take_journals(words: Iterable[str], customers: dict[str, Customer]) -> dict[str, set[int]]:
-    """Gives each customer its journals. What comes back are the numbers of each seat that they have."""
-    owner = {seat: customer for customer in customers.values() for seat in customer.seats}
-    lines: dict[str, list[dict[str, Any]]] = {}
-    for word in words:
-        named, path = _word(word, customers)
-        for files in journals_of(_places(Path(path)) or [path]):
-            seats = {it for it in _seats_in(files) if it in owner}
-            whose = {owner[it].name for it in seats} or {named}
-            if len(whose) != 1 or whose == {""} or named and whose != {named}:
-                told = f"{files[0]} doesn't say whose it is" if whose == {""} else f"{files[0]} is of {sorted(whose)}"
-                raise RestoreError(f"{told}: give each customer's journals as CUSTOMER=PATH")
-            customers[whose.pop()].journals.append(files)
-            for seat in seats:
-                lines.setdefault(seat, []).extend(line for _, _, line in placed_lines_of(files))
-    return {seat: numbers_in(sorted(its, key=lambda line: line["at"])) for seat, its in lines.items()}
+def requests_of_seats(customers: Iterable[Customer]) -> dict[str, Requests]:
+    """The requests of each seat that has a journal, by their times; those of one journal stay in their order."""
+    found: dict[str, list[list[Placed]]] = {}
+    for journal in (it for customer in customers for it in customer.journals if it.seat):
+        found.setdefault(journal.seat, []).append(journal.lines)
+    return {seat: standing(heapq.merge(*its, key=lambda placed: placed[2]["at"])) for seat, its in found.items()}
 
 
 def asked_of(customer: Customer) -> list[Asked]:
-    """The requests of a customer's journals, in which each serial number has one record."""
-    asked = merged(customer.files())
+    """The requests of a customer's journals by their times, in which each serial number has one record."""
+    asked = list(heapq.merge(*(requests_in(it.lines) for it in customer.journals), key=lambda it: it.at))
+    tested_requests(asked)
     serials_of(asked)
     return asked
 
@@ -125,15 +135,31 @@ def asked_of(customer: Customer) -> list[Asked]:
 # Tokens.
 
 
-def tokens_at(path: Path) -> dict[str, str]:
-    """The token of each seat, by the file of station-token or a folder of files SEAT.token."""
+def tokens_at(path: Path) -> tuple[dict[str, str], list[Outer]]:
+    """The token of each seat, by the file of station-token or a folder of files SEAT.token; and of that file the outer
+    tokens and certificates that haven't ended."""
     try:
         if path.is_dir():
-            return {it.stem: it.read_text(encoding="ascii").strip() for it in sorted(path.glob("*.token"))}
+            return {it.stem: it.read_text(encoding="ascii").strip() for it in sorted(path.glob("*.token"))}, []
         text = read(path)
-        return {it.seat: it.inner for it in tokens_of(text, path).seats.values()} if text else {}
+        tokens = tokens_of(text, path) if text else Tokens()
+        return {it.seat: it.inner for it in tokens.seats.values()}, tokens.open_ones()
     except (TokenError, OSError, ValueError) as error:
         raise RestoreError(str(error)) from None
+
+
+def check_left_out(left_out: Iterable[str], customers: dict[str, Customer], outers: Iterable[Outer], at: Path) -> None:
+    """Refuses to leave a customer out whose stations could go on: a store that doesn't know what they were given would
+    give it once more. They can't without an outer token, which ends by `station-token revoke`."""
+    for name in left_out:
+        if name not in customers:
+            raise RestoreError(f"--leave-out {name}: the site file has no such customer")
+        if not at.is_file():
+            told = f"--leave-out {name} needs the file of station-token, which shows that its stations can't go on"
+            raise RestoreError(f"{told}, and {at} is none: --tokens")
+        if seats := sorted({it.seat for it in outers if not it.looks} & customers[name].seats.keys()):
+            told = f"the stations of {name} could go on, and would get numbers and addresses once more"
+            raise RestoreError(f"{told}. First end the tokens of {', '.join(seats)}: station-token revoke {seats[0]}")
 
 
 def choose_seats(customers: dict[str, Customer], tokens: dict[str, str], named: list[str], at: Path) -> list[str]:
@@ -145,7 +171,7 @@ def choose_seats(customers: dict[str, Customer], tokens: dict[str, str], named: 
             continue
         digests = {seat: hashlib.sha256(tokens.get(seat, "").encode()).hexdigest() for seat in customer.seats}
         fit = [seat for seat in customer.seats if seat in tokens and digests[seat] == customer.seats[seat]]
-        busy = {it for files in customer.journals for it in _seats_in(files)}
+        busy = {it.seat for it in customer.journals}
         if not fit:
             seats = ", ".join(customer.seats) or "it has none"
             told = f"no token of {customer.name} is in {at}: one of these seats' is needed: {seats}"

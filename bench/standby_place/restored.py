@@ -23,7 +23,7 @@ mount -o nodev,nosuid,noexec /dev/drbd0 /var/lib/station
 cd / && /usr/bin/setpriv --reuid station --regid station --clear-groups /usr/share/wanekupo/backup --program station \
   --site /etc/station/site.toml --db /var/lib/station/books.db /var/backups/station/older-half
 /usr/share/wanekupo/restore /var/backups/station/older-half /etc/station/site.toml /run/stick/journals \
-  --tokens /run/stick/tokens
+  --distrust-lost --tokens /run/stick/tokens --folders /run/stick/journals.toml
 """
 
 
@@ -60,20 +60,25 @@ def stick(place: Place) -> None:
     """What the operator brings on a stick: the journals, the tokens, and the programs that this guest hasn't."""
     data = io.BytesIO()
     with tarfile.open(fileobj=data, mode="w") as tar:
+        texts = {"journals.toml": "[folders]\n"}
         for each in place.line.stations:
-            tar.add(each.journal, f"run/stick/journals/{each.journal.name}")
-            text = token_of(each.customer, int(each.name[-1])).encode()
-            found = tarfile.TarInfo(f"run/stick/tokens/{each.name}.token")
+            tar.add(each.journal, f"run/stick/journals/{each.name}/{each.journal.name}")
+            texts[f"tokens/{each.name}.token"] = token_of(each.customer, int(each.name[-1]))
+            texts["journals.toml"] += f'{each.name} = ["{each.name}"]\n'
+        for name, text in texts.items():
+            found = tarfile.TarInfo(f"run/stick/{name}")
             found.size, found.mode = len(text), 0o600
-            tar.addfile(found, io.BytesIO(text))
+            tar.addfile(found, io.BytesIO(text.encode()))
         for name in TOOLS:
             tar.add(ROOT / "deploy" / name, f"usr/share/wanekupo/{name}")
-        for path in (ROOT / "clients/python/wanekupo").glob("*.py"):
-            tar.add(path, f"usr/lib/python3/dist-packages/wanekupo/{path.name}")
+        package = ROOT / "clients/python"
+        for path in (package / "wanekupo").rglob("*.py"):
+            tar.add(path, f"usr/lib/python3/dist-packages/{path.relative_to(package)}")
     place.second.stick.write_bytes(data.getvalue())
     place.second.ask("cd / && timeout 120 nc 10.0.2.100 10 < /dev/null > /run/stick.tar; tar xf /run/stick.tar", 200)
     place.second.ask("chown -R root:root /usr/lib/python3/dist-packages /usr/share/wanekupo", 60)
-    place.second.ask("chown -R station:station /run/stick && mkdir -p /var/backups/station")
+    place.second.ask("chown -R station:station /run/stick && chown root:root /run/stick/journals.toml")
+    place.second.ask("mkdir -p /var/backups/station")
     place.second.ask("chown station:station /var/backups/station && chmod 700 /var/backups/station")
 
 

@@ -241,7 +241,8 @@ class Restore(StationCase):
         self.program.restored(self.folder / "backup")
         with self.station(file="restore.json") as station, self.assertRaises(Differs) as found:
             restore(station, [self.folder / "hole"])
-        self.assertEqual(str(found.exception), "order o3: mac is 020000000010, and was 020000000012")
+        told = "order o3: mac is 020000000010, and was 020000000012 (line "
+        self.assertTrue(str(found.exception).startswith(told), found.exception)
 
     def test_several_journals(self):
         """They are read by their times, each in its own order."""

@@ -2,14 +2,15 @@
 
 from __future__ import annotations
 
+import contextlib
 import hashlib
 import itertools
 import os
-from typing import Any, Callable, Iterable, Mapping
+from typing import Any, Callable, Iterable, Iterator, Mapping, Sequence
 
-from wanekupo.errors import Differs, Refused
-from wanekupo.journal import Asked, merged, serials_of, states_of
-from wanekupo.rows import parts_of
+from wanekupo.errors import BadJournal, Differs, OutOfStep, Refused
+from wanekupo.journal import Asked, Record, merged, records_of, states_of
+from wanekupo.rows import Rows, parts_of
 from wanekupo.station import Station
 
 # The refusal of an order that is there.
@@ -18,19 +19,49 @@ EXISTS = 16
 # Lost or given up: a device in one of these states is scrapped again after a restore.
 GIVEN_UP = ("quarantined", "scrapped")
 
+# Of a request that is brought back, and of an identity's reply, the members that have to be texts.
+TEXTS = {"/v1/order": ("name",), "/v1/map": ("text",)}
+RECORD = ("issuer", "serial", "key_sha256", "chip")
+
+# What a person does where a line can't be brought back.
+REFUSED = "That line was changed, or another journal contradicts it: look at both in copies."
+
+Ticked = Callable[..., None]
+
+
+def tested_requests(asked: Iterable[Asked]) -> None:
+    """Whether requests have what they are brought back by. A reply's texts are in visible ASCII: they are printed."""
+    for it in asked:
+        reply = (it.reply or {}) if it.is_done() else {}
+        own = [it.members.get(name) for name in TEXTS.get(it.path, ()) if it.may_be_done()]
+        told = [reply.get("state", "")]
+        if it.is_done() and it.path == "/v1/identity":
+            told += [*(reply.get(name) for name in RECORD), "" if reply.get("mac") is None else reply["mac"]]
+        is_told = all(isinstance(text, str) and text.isascii() and text.isprintable() for text in told)
+        if not is_told or not all(isinstance(text, str) for text in own):
+            raise BadJournal(f"line {it.line} of {it.file} isn't as a station writes it", REFUSED)
+
 
 def restore(
     station: Station,
     files: Iterable[str | os.PathLike[str]],
     told: Callable[[int, int], None] = lambda done, of: None,
 ) -> dict[str, Any]:
-    """Brings what journals say into a restored store: the orders and maps in their order, the serial numbers, and then
-    what became of devices. What is there already changes nothing, so it may be done again. `left` has the devices
-    whose last state isn't the store's, with both. `told` gets how many of all of these are done, of how many."""
-    asked = merged(files)
+    """Brings what journals say into a restored store, as `restore_requests` does."""
+    return restore_requests(station, merged(files), told)
+
+
+def restore_requests(
+    station: Station, asked: Sequence[Asked], told: Callable[[int, int], None] = lambda done, of: None
+) -> dict[str, Any]:
+    """Brings requests by their times into a restored store: the orders and maps in their order, the serial numbers, and
+    then what became of devices. What is there already changes nothing, so it may be done again. `left` has the devices
+    whose last state isn't the store's, with both. `told` gets how many of all of these are done, of how many. A request
+    that the server refuses is named, with its line."""
+    tested_requests(asked)
     made_before = [it for it in asked if it.path in ("/v1/order", "/v1/map") and it.may_be_done()]
-    serials, states = serials_of(asked), states_of(asked)
-    of = len(made_before) + sum(map(len, serials.values())) + len(states)
+    records, states = records_of(asked), states_of(asked)
+    of = len(made_before) + len(records) + len(states)
     ticks = itertools.count(1)
 
     def ticked(count: int = 1) -> None:
@@ -45,59 +76,103 @@ def restore(
         else:
             made["maps"] += _map_again(station, it)
         ticked()
-    counts = _serials_again(station, serials, ticked)
-    return {**made, **counts, **_devices_again(station, states, ticked)}
+    counts = _serials_again(station, records, ticked)
+    places = {it.members["chip"]: it for it in asked if "chip" in it.members and it.is_done()}
+    return {**made, **counts, **_devices_again(station, states, places, ticked)}
+
+
+def _told(what: str, it: Asked) -> str:
+    return f"{what} (line {it.line} of {it.file})"
+
+
+@contextlib.contextmanager
+def _named(what: str, it: Asked) -> Iterator[None]:
+    """Says of a request that is refused which line has it: the server has no word of that."""
+    try:
+        yield
+    except OutOfStep:
+        raise
+    except Refused as refused:
+        raise Differs(_told(f"{what}: refused as {refused}", it), REFUSED) from refused
 
 
 def _order_again(station: Station, it: Asked) -> bool:
     """Makes an order, or looks at the one that is there: it has to be as the lost one."""
     members = {name: value for name, value in it.members.items() if name != "nr"}
-    is_new = True
-    try:
-        reply = station.post(it.path, members)
-    except Refused as refused:
-        if refused.no != EXISTS:
-            raise Differs(f"order {members['name']}: refused as {refused}") from refused
-        is_new, reply = False, station.get(it.path, name=members["name"])
+    is_new, what = True, f"order {members['name']}"
+    with _named(what, it):
+        try:
+            reply = station.post(it.path, members)
+        except Refused as refused:
+            if refused.no != EXISTS:
+                raise
+            is_new, reply = False, station.get(it.path, name=members["name"])
     expected = (it.reply if it.is_done() else members) or {}
     for name in sorted(expected):
         if name != "next" and reply.get(name) != expected[name]:
-            raise Differs(f"order {members['name']}: {name} is {reply.get(name)}, and was {expected[name]}")
+            raise Differs(_told(f"{what}: {name} is {reply.get(name)}, and was {expected[name]}", it))
     return is_new
 
 
 def _map_again(station: Station, it: Asked) -> bool:
     digest = hashlib.sha256(it.members["text"].encode()).hexdigest()
-    if station.import_map(it.members["text"]) != digest:
-        raise Differs(f"map {digest}")
+    with _named(f"map {digest}", it):
+        if station.import_map(it.members["text"]) != digest:
+            raise Differs(_told(f"map {digest}", it))
     return True
 
 
-def _serials_again(
-    station: Station, serials: Mapping[str, Mapping[str, str]], ticked: Callable[[int], None]
-) -> dict[str, int]:
+def _serials_again(station: Station, records: Mapping[tuple[str, str], Record], ticked: Ticked) -> dict[str, int]:
     added = present = 0
-    for issuer in serials:
-        for part in parts_of(serials[issuer].items()):
-            done = station.import_serials(issuer, part)
-            added, present = added + done.added, present + done.present
-            ticked(len(part))
+    by_issuer: dict[str, dict[str, Record]] = {}
+    for (issuer, serial), record in records.items():
+        by_issuer.setdefault(issuer, {})[serial] = record
+    parts = [(own, part) for own in by_issuer.values() for part in parts_of(_rows_of(own))]
+    for own, part in parts:
+        counts = _part_again(station, own, part)
+        added, present = added + counts[0], present + counts[1]
+        ticked(len(part))
     return {"added": added, "present": present}
 
 
-def _devices_again(station: Station, states: Mapping[str, str], ticked: Callable[[], None]) -> dict[str, Any]:
+def _rows_of(own: Mapping[str, Record]) -> Rows:
+    return [(serial, it.key_sha256) for serial, it in own.items()]
+
+
+def _part_again(station: Station, own: Mapping[str, Record], part: Rows) -> tuple[int, int]:
+    """Imports a part. Where it is refused its rows are asked for one by one, and the first one that is refused again is
+    named; where none is it was done so."""
+    issuer = own[part[0][0]].issuer
+    try:
+        done = station.import_serials(issuer, part)
+        return done.added, done.present
+    except OutOfStep:
+        raise
+    except Refused:
+        counts = 0, 0
+    for row in part:
+        with _named(f"serial number {row[0]} of {issuer}", own[row[0]].asked):
+            done = station.import_serials(issuer, [row])
+        counts = counts[0] + done.added, counts[1] + done.present
+    return counts
+
+
+def _devices_again(
+    station: Station, states: Mapping[str, str], places: Mapping[str, Asked], ticked: Ticked
+) -> dict[str, Any]:
     """Scraps and ships again what is there to be scrapped or shipped."""
     scrapped, shipped, left = [], [], {}
     for chip, state in states.items():
         device = station.find_device(chip)
         now = device.state if device else None
-        if state in GIVEN_UP and now not in (None, *GIVEN_UP):
-            station.scrap(chip)
-            scrapped.append(chip)
-        elif state == "shipped" and now == "identified":
-            station.ship(chip)
-            shipped.append(chip)
-        elif now != state and not (state in GIVEN_UP and now in GIVEN_UP):
-            left[chip] = [state, now]
+        with _named(f"chip {chip}, {state} in its journal and {now} in the store", places[chip]):
+            if state in GIVEN_UP and now not in (None, *GIVEN_UP):
+                station.scrap(chip)
+                scrapped.append(chip)
+            elif state == "shipped" and now == "identified":
+                station.ship(chip)
+                shipped.append(chip)
+            elif now != state and not (state in GIVEN_UP and now in GIVEN_UP):
+                left[chip] = [state, now]
         ticked()
     return {"scrapped": scrapped, "shipped": shipped, "left": left}

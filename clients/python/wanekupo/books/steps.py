@@ -134,7 +134,7 @@ class Book:
 Members = dict[str, Any]
 
 
-def _tested_digest(file: str, number: int, line: Members) -> Optional[Fault]:
+def digest_fault(file: str, number: int, line: Members) -> Optional[Fault]:
     """A request whose digest isn't that of what it asks was changed behind the station's back."""
     try:
         found = request_digest(line["path"], line["asked"])
@@ -165,7 +165,7 @@ def _take(book: Book, file: str, number: int, line: Members) -> None:
     book.seat = book.seat or seat
     last = book.steps[-1] if book.steps else None
     if "asked" in line:
-        fault = _tested_digest(file, number, line)
+        fault = digest_fault(file, number, line)
         if fault:
             book.faults.append(fault)
         is_again = last and last.status is None and (last.path, last.asked) == (line["path"], line["asked"])

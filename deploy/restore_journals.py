@@ -1,0 +1,208 @@
+"""Whose a journal is: who may write it says so, and not what stands in it. Each is read once.
+
+A station's key writes into one folder, and a file of root's has the seats of each (docs/reference/files.md, Folders of
+journals):
+
+    [folders]
+    pc7 = ["a1", "a2"]
+
+A line of another seat stops a restore before it moves anything, and so does one whose digest isn't that of what it
+asks. No link is followed below the folder of all, and files are plain ones, of a bounded size. All that a restore does
+it does by the lines that were read here: what comes meanwhile changes nothing.
+"""
+
+import os
+import tomllib
+from collections.abc import Iterable, Iterator
+from dataclasses import dataclass
+from pathlib import Path
+from typing import NoReturn
+
+from backup_copy import said_of
+from restore_plan import Customer, Placed, RestoreError, SeatJournal, error_of
+from wanekupo.books.steps import digest_fault
+from wanekupo.errors import StationError
+from wanekupo.files import OTHERS_WRITE, opened_plain
+from wanekupo.journal import OF_A_DAY, SUFFIX, journals_of
+from wanekupo.journal_lines import lines_of
+from wanekupo.texts import shown
+
+# The most bytes and lines of a folder's journals, which are in memory all at once; and the most bytes of root's file.
+MOST, MOST_LINES, LONGEST = 1 << 31, 4_000_000, 1 << 20
+
+Folders = dict[str, frozenset[str]]
+
+
+@dataclass(frozen=True)
+class Source:
+    """Where journals lie, and the seats that they may be of. Where a person says whose they are it is the customer's
+    name: these may have been written by hand. Else a station writes there."""
+
+    path: Path
+    seats: frozenset[str]
+    customer: str = ""
+
+
+# The file that says whose folders are.
+
+
+def folders_at(path: Path) -> Folders:
+    """The seats of each folder by a file that nobody but root or this user may write; none where it isn't there."""
+    try:
+        with open(opened_plain(path, os.O_RDONLY), "rb") as file:
+            found = os.fstat(file.fileno())
+            if found.st_uid not in (0, os.geteuid()) or found.st_mode & OTHERS_WRITE:
+                raise RestoreError(f"{path} is another user's, or others may write it: it says whose journals are")
+            return folders_in(file.read(LONGEST).decode(), path)
+    except FileNotFoundError:
+        return {}
+    except (OSError, ValueError, StationError) as error:
+        raise RestoreError(f"{path} can't be read: {error}") from None
+
+
+def folders_in(text: str, path: Path) -> Folders:
+    """The same of its text. A seat has one folder: what lies in another one isn't its own."""
+    table = tomllib.loads(text).get("folders")
+    if not isinstance(table, dict):
+        raise RestoreError(f"{path} has no table [folders]")
+    owner: dict[str, str] = {}
+    for name, seats in table.items():
+        if not isinstance(seats, list) or not all(isinstance(it, str) and it for it in seats) or "/" in name:
+            raise RestoreError(f'{path}: {name!r} has to be the name of a folder, with seats as ["a1", "a2"]')
+        for seat in seats:
+            if owner.setdefault(seat, name) != name:
+                raise RestoreError(f"{path}: the seat {seat} has two folders, {owner[seat]} and {name}")
+    return {name: frozenset(seats) for name, seats in table.items()}
+
+
+# Where journals are.
+
+
+def sources_of(words: Iterable[str], customers: dict[str, Customer], folders: Folders, at: Path) -> list[Source]:
+    """What words stand for: the folder of all, or a customer's journals as `acme=PATH`."""
+    found: list[Source] = []
+    for word in words:
+        name, equals, path = word.partition("=")
+        if equals and name in customers:
+            found.append(Source(Path(path), frozenset(customers[name].seats), name))
+        else:
+            found += _shipped(Path(word), folders, at)
+    return found
+
+
+def _unread(error: OSError) -> NoReturn:
+    raise RestoreError(f"this user can't read {shown(str(error.filename))}: a journal may be there") from None
+
+
+def _entries(path: Path) -> list[os.DirEntry[str]]:
+    try:
+        return sorted(os.scandir(path), key=lambda it: it.name)
+    except OSError as error:
+        _unread(error)
+
+
+def _shipped(path: Path, folders: Folders, at: Path) -> Iterator[Source]:
+    """The folders of a folder of all."""
+    if not path.is_dir():
+        raise RestoreError(f"{path} doesn't say whose it is: give it as CUSTOMER={path}")
+    if not folders:
+        told = f"{at} says which seats each folder in {path} has, and it isn't there or empty"
+        raise RestoreError(f"{told}: write it (docs/reference/files.md), or give each customer's as CUSTOMER=PATH")
+    for it in _entries(path):
+        place = shown(it.path)
+        if it.is_symlink():
+            raise RestoreError(f"{place} is a link, and isn't followed: have the folder itself there")
+        if it.is_dir() and it.name not in folders:
+            raise RestoreError(f"{at} doesn't say which seats the folder {place} has: add it, or move it away")
+        if it.is_dir():
+            yield Source(Path(it.path), folders[it.name])
+        elif it.name.endswith(SUFFIX):
+            raise RestoreError(f"{place} is in no station's folder: give it as CUSTOMER={place}")
+
+
+def _files_of(source: Source) -> list[Path]:
+    """The files of a source's journals, in all folders below."""
+    if not source.path.is_dir():
+        return [source.path]
+    walked = os.walk(source.path, onerror=_unread)
+    return [Path(folder, it) for folder, _, names in walked for it in sorted(names) if it.endswith(SUFFIX)]
+
+
+# What they say.
+
+
+def _placed(file: Path, size: int) -> Iterator[Placed]:
+    """The lines of a file, up to the size that it had before any was read."""
+    for line in lines_of(file, follows_links=False):
+        if line.end > size:
+            return
+        if line.fault:
+            told = f"line {line.number} of {shown(str(file))} {line.fault}"
+            raise RestoreError(f"{told}: look at it in a copy; one that was cut hides the line behind it")
+        yield str(file), line.number, line.members
+
+
+def seat_named(file: Path) -> str:
+    """The seat that a file's name has, of a day or not."""
+    day = OF_A_DAY.fullmatch(file.name)
+    return day[1].rstrip("-") if day else file.name.partition(".")[0]
+
+
+def _unnamed(source: Source, file: Path) -> str:
+    """Whose the lines without a seat are: the folder's only one's, or the one's of the file's name. What a person gives
+    may be of none, as it was written by hand."""
+    if len(source.seats) == 1 and not source.customer:
+        return next(iter(source.seats))
+    return seat_named(file) if seat_named(file) in source.seats else ""
+
+
+def _tested(source: Source, otherwise: str, placed: Placed) -> str:
+    """The seat of a line, where it may be of this source, and asks what it asked."""
+    file, number, line = placed
+    seat, place = line.get("seat") or otherwise, f"line {number} of {shown(file)}"
+    if seat not in source.seats and (seat or not source.customer):
+        whose = f"of the seat {shown(seat)}" if seat else "of no seat that it names"
+        owner = f"{source.customer} has" if source.customer else f"the folder {source.path.name} is of"
+        raise RestoreError(f"{place} is {whose}, and {owner} {', '.join(sorted(source.seats)) or 'none'}")
+    fault = digest_fault(file, number, line) if "asked" in line else None
+    if fault and ("digest" in line or not source.customer):
+        raise RestoreError(f"{place} {fault.told}")
+    return seat
+
+
+def _bound(source: Source, is_within: bool) -> None:
+    if not is_within:
+        told = f"{source.path} has more than {MOST >> 20} MB or {MOST_LINES} lines of journals"
+        raise RestoreError(f"{told}: look whether they are its own, and move days from before the backup away")
+
+
+def journals_in(source: Source, wanted: frozenset[str]) -> list[SeatJournal]:
+    """The journals of a source, by their seats. A line may be of a seat that nobody wants, and is passed over."""
+    files = _files_of(source)
+    sizes = {it: os.lstat(it).st_size for it in files}
+    _bound(source, sum(sizes.values()) <= MOST)
+    found: dict[tuple[int, str], list[Placed]] = {}
+    groups = [(number, file) for number, group in enumerate(journals_of(files)) for file in group]
+    placed = ((number, file, it) for number, file in groups for it in _placed(file, sizes[file]))
+    for count, (number, file, it) in enumerate(placed):
+        _bound(source, count < MOST_LINES)
+        seat = _tested(source, _unnamed(source, file), it)
+        if seat in wanted or not seat:
+            found.setdefault((number, seat), []).append(it)
+    return [SeatJournal(seat, lines) for (_, seat), lines in found.items()]
+
+
+def take_journals(sources: Iterable[Source], customers: dict[str, Customer], left_out: Iterable[str]) -> None:
+    """Gives each customer its journals. Those of one that is left out aren't read, where they have a folder."""
+    owner = {seat: it for name, it in customers.items() if name not in left_out for seat in it.seats}
+    for source in sources:
+        if source.customer in left_out or not source.seats & owner.keys():
+            continue
+        names = {source.customer} if source.customer else {owner[it].name for it in source.seats if it in owner}
+        try:
+            found = journals_in(source, frozenset(owner))
+        except (RestoreError, StationError, OSError) as error:
+            raise error_of(sorted(names), f"{shown(said_of(error))}. Nothing was moved") from None
+        for journal in found:
+            customer = owner[journal.seat] if journal.seat else customers[source.customer]
+            customer.journals.append(journal)
