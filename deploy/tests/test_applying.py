@@ -1,4 +1,4 @@
-"""The steps of a growth: their order, what each leaves where it fails, and what is asked before a token is handed out."""
+"""The steps of a growth: their order, what each leaves where it fails, and what is asked before a token is given."""
 
 import argparse
 import http.client
@@ -320,7 +320,8 @@ def asked(monkeypatch, answer, *words):
 
 
 @pytest.mark.parametrize("answer, status", [
-    (200, 200), (urllib.error.HTTPError("u", 404, "", None, None), 404), (urllib.error.HTTPError("u", 401, "", None, None), 401),
+    (200, 200), (urllib.error.HTTPError("u", 404, "", None, None), 404),
+    (urllib.error.HTTPError("u", 401, "", None, None), 401),
 ])  # fmt: skip
 def test_the_status_of_an_answer(monkeypatch, answer, status):
     assert asked(monkeypatch, answer, "http://127.0.0.1:1/", "")[0] == status

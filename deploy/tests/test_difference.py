@@ -1,4 +1,4 @@
-"""What one site gives more than another, by the table of a growth in docs/reference/files.md, and what two may share."""
+"""What one site gives more than another, by the table of a growth in docs/reference/files.md; what two may share."""
 
 import pytest
 from site_tool.difference import Customer, Given, counted, difference, given_of, joined, listed, of_pool, shared
@@ -47,7 +47,8 @@ def test_seat_names():
     (site_of(with_(ACME, pools=[*ACME.pools, (0x020000000030, 65536)]), BOLT),
      ["acme gets 65,536 addresses (020000000030 to 02000001002f)"]),
     (site_of(ACME, with_(BOLT, pools=[(0x020000000030, 1)])), ["bolt gets 1 address (020000000030 to 020000000030)"]),
-    (site_of(with_(ACME, issuers=["acme-ca", "n", "m"], seats={"a1": ONE, "a2": FOUR}, pools=[*ACME.pools, (0, 2)]), BOLT),
+    (site_of(with_(ACME, issuers=["acme-ca", "n", "m"], seats={"a1": ONE, "a2": FOUR}, pools=[*ACME.pools, (0, 2)]),
+     BOLT),
      ["acme gets 2 issuers (n, m), 1 seat (a2) and 2 addresses (000000000000 to 000000000001)"]),
     (site_of(ACME, BOLT, Customer("cog", ["c"], [], {})), ["cog is a new customer with 1 issuer (c)"]),
     (site_of(ACME, BOLT, Customer("cog", [], [], {})), ["cog is a new customer"]),
@@ -110,7 +111,8 @@ def test_the_addresses_of_both_are_told():
 
 @pytest.mark.parametrize("other, told", [
     (site_of(Customer("acme", [], [], {}), manager=""), "the customer acme"),
-    (site_of(Customer("cog", ["x", "bolt-ca"], [], {}), manager=""), "the issuer bolt-ca of bolt, which is cog's there"),
+    (site_of(Customer("cog", ["x", "bolt-ca"], [], {}), manager=""),
+     "the issuer bolt-ca of bolt, which is cog's there"),
     (site_of(Customer("cog", [], [], {"x": FOUR, "a1": "f" * 64}), manager=""), "the seat a1, which is cog's there"),
     (site_of(Customer("cog", [], [], {"x": FOUR, "y": TWO}), manager=""), "the token of the seat b1"),
     (site_of(Customer("cog", [], [], {"x": THREE}), manager=""), "the token of the manager"),
@@ -138,6 +140,8 @@ def test_joined_is_all_customers_without_managers():
 
 def test_words():
     assert [counted(1, "seat"), counted(2, "seat"), counted(0, "seat")] == ["1 seat", "2 seats", "0 seats"]
-    assert [counted(1, "address", "addresses"), counted(1000, "address", "addresses")] == ["1 address", "1,000 addresses"]
+    assert [counted(1, "address", "addresses"), counted(1000, "address", "addresses")] == ["1 address",
+        "1,000 addresses"]
     assert [listed(["a"]), listed(["a", "b"]), listed(["a", "b", "c"])] == ["a", "a and b", "a, b and c"]
-    assert [of_pool((0x0200000000FF, 2)), of_pool((10, 1))] == ["0200000000ff to 020000000100", "00000000000a to 00000000000a"]
+    assert [of_pool((0x0200000000FF, 2)), of_pool((10, 1))] == ["0200000000ff to 020000000100",
+        "00000000000a to 00000000000a"]

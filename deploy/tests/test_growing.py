@@ -39,7 +39,8 @@ def kept(old, new):
 
 
 @pytest.mark.parametrize("item, text", [
-    ("x", '"x"'), (4, "4"), (["a", "b"], '["a", "b"]'), ([], "[]"), ({"first": "02", "count": 4}, '{ first = "02", count = 4 }'),
+    ("x", '"x"'), (4, "4"), (["a", "b"], '["a", "b"]'), ([], "[]"),
+    ({"first": "02", "count": 4}, '{ first = "02", count = 4 }'),
 ])  # fmt: skip
 def test_value_of(item, text):
     assert value_of(item) == text and tomllib.loads(f"v = {text}")["v"] == item
@@ -54,7 +55,8 @@ def test_lines_of_tables():
 
 
 @pytest.mark.parametrize("text", [
-    SECTIONS, SECTIONS.rstrip("\n"), INLINE, "customer = []\n", "customer = []", "# x\ncustomer = [] # none yet\nmore = 1\n",
+    SECTIONS, SECTIONS.rstrip("\n"), INLINE, "customer = []\n", "customer = []",
+    "# x\ncustomer = [] # none yet\nmore = 1\n",
     "customer = [ ]\n[manager]\ntoken = '03'\n", "\ufeff" + SECTIONS, SECTIONS.replace("\n", "\r\n"),
     "manager.token = '03'\ncustomer = [{ name = 'a', issuer = [] }]", INLINE.replace("\n]", ",\n]"),
 ])  # fmt: skip
@@ -67,7 +69,8 @@ def test_a_customer_more(text):
 
 
 @pytest.mark.parametrize("name, kind, items", [
-    ("acme", "issuer", ["acme-2"]), ("bolt", "issuer", ["b2", "b3"]), ("acme", "seat", [SEAT]), ("bolt", "seat", [SEAT]),
+    ("acme", "issuer", ["acme-2"]), ("bolt", "issuer", ["b2", "b3"]), ("acme", "seat", [SEAT]),
+    ("bolt", "seat", [SEAT]),
     ("acme", "pool", [POOL, {"first": "020000000040", "count": 1}]), ("bolt", "pool", [POOL]),
 ])  # fmt: skip
 @pytest.mark.parametrize("text", [

@@ -111,7 +111,8 @@ def test_a_key_of_a_short_block():
 def test_number_of_fields(many, faults):
     names = "".join(f'{{ name = "F{it}", block = {2 + it // 64}, bit = {it % 64}, count = 1 }},\n'
                     for it in range(many - 5))  # fmt: skip
-    text = MAP.replace("{ words = 8 }]", "{ words = 8 }, { words = 2 }, { words = 2 }]").replace("\n]", "\n" + names + "]")
+    text = MAP.replace("{ words = 8 }]", "{ words = 8 }, { words = 2 }, { words = 2 }]")
+    text = text.replace("\n]", "\n" + names + "]")
     assert faults_of(text) == faults
 
 

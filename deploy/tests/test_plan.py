@@ -9,7 +9,8 @@ from site_tool import plan as plans
 from site_tool.plan import PLACED, PREPARED, STOPPING, Plan, Wish, drop_plan, keep_plan, read_plan
 from token_file import TokenError
 
-FULL = Plan(STOPPING, "/b/before-1", True, ["/o.toml"], [Wish("a1", "acme", "/t/a1.token", "line 5"), Wish("h", "acme")])
+FULL = Plan(STOPPING, "/b/before-1", True, ["/o.toml"],
+    [Wish("a1", "acme", "/t/a1.token", "line 5"), Wish("h", "acme")])
 
 
 @pytest.mark.parametrize("plan", [Plan(), FULL, Plan(PLACED, "", False, [], [])])

@@ -1,11 +1,8 @@
 """The command that grows a site: what its words ask for, what is refused, and what is written when."""
 
-import argparse
-import os
 import signal
 import subprocess
 import sys
-from types import SimpleNamespace
 
 import pytest
 from scripts import script
@@ -177,7 +174,8 @@ def given(text):
 
 
 @pytest.mark.parametrize("line, customer, issuers, pools, seats", [
-    ("add-customer bolt --issuer b --issuer c --pool 020000000020 4 --seat b1", "bolt", ["b", "c"], [(0x020000000020, 4)], ["b1"]),
+    ("add-customer bolt --issuer b --issuer c --pool 020000000020 4 --seat b1", "bolt", ["b", "c"],
+     [(0x020000000020, 4)], ["b1"]),
     ("add-customer bolt", "bolt", [], [], []),
     ("add-customer acme --issuer n --seat a2", "acme", ["acme-ca", "n"], [(0x020000000010, 4)], ["a1", "a2"]),
     ("add-seat acme a2 a3", "acme", ["acme-ca"], [(0x020000000010, 4)], ["a1", "a2", "a3"]),
@@ -295,7 +293,8 @@ def test_apply_looks_again(place, monkeypatch):
     done = []
     monkeypatch.setattr(site, "apply", lambda it, plan: done.append(plan))
     site.apply_command(words("apply", "--other-site", "/two.toml"), place)
-    assert done[0].wishes == [Wish("a1", "acme", "/t")] and done[0].is_tried and done[0].others == ["/one.toml", "/two.toml"]
+    assert done[0].wishes == [Wish("a1", "acme", "/t")] and done[0].is_tried
+    assert done[0].others == ["/one.toml", "/two.toml"]
     assert (TEXT, place.next.read_text()) in place.tested and (place.next.read_text(), done[0].others) in place.tested
     monkeypatch.setattr(site, "tested_growth", lambda *_: (_ for _ in ()).throw(TokenError(1, "refused")))
     with pytest.raises(TokenError, match="refused"):
@@ -343,7 +342,8 @@ def test_diff(place, tmp_path, capsys):
 
 
 @pytest.mark.parametrize("line", [
-    "", "add-seat acme", "add-pool acme 020000000010", "add-issuer acme", "add-customer", "diff a", "check", "grow acme",
+    "", "add-seat acme", "add-pool acme 020000000010", "add-issuer acme", "add-customer", "diff a", "check",
+    "grow acme",
     "add-seat acme a1 --app", "apply now",
 ])  # fmt: skip
 def test_wrong_words(line, capsys):

@@ -110,7 +110,8 @@ def test_faults(old, new, faults):
 
 def test_lower_numbers_hide_the_others():
     """A member of a wrong form is told alone: nothing is compared with it."""
-    assert faults_of(SITE.replace('"bolt"', '"acme"').replace("count = 16", "count = 0")) == [(2, 6, "customer.pool.count")]
+    text = SITE.replace('"bolt"', '"acme"').replace("count = 16", "count = 0")
+    assert faults_of(text) == [(2, 6, "customer.pool.count")]
 
 
 def test_a_wide_pool_hides_none():

@@ -74,16 +74,19 @@ def test_number_of(said, number):
 
 @pytest.mark.parametrize("text, is_map", [
     (SITE, False), ("customer = []\n", False), ("[manager]\ntoken = 'x'\n", False), ("", False),
-    ("name = 'm'\nwr = 'W'\n", True), ("rd='R'", True), ("  coding = 1\n", True), ("[[field]]\n", True), ("[[ block ]]\n", True),
+    ("name = 'm'\nwr = 'W'\n", True), ("rd='R'", True), ("  coding = 1\n", True), ("[[field]]\n", True),
+    ("[[ block ]]\n", True),
     ("[block]\n", True), ("block = []\ncustomer = []\n", False), ("# wr = 1\n", False), ("fields = 1", False),
-    ("x = 'wr = 1'\n", False), ("[[field]]\n[[customer]]\n", False), ("wrong = 1\n", False), ("manager.token = 1\nwr = 1", False),
+    ("x = 'wr = 1'\n", False), ("[[field]]\n[[customer]]\n", False), ("wrong = 1\n", False),
+    ("manager.token = 1\nwr = 1", False),
 ])  # fmt: skip
 def test_is_map(text, is_map):
     assert trying.is_map(text) == is_map
 
 
 @pytest.mark.parametrize("done, said", [
-    ((0, "ready"), ""), ((1, "station: map fault 2\n"), "station: map fault 2"), ((-9, ""), "status -9"), ((1, "\n"), "status 1"),
+    ((0, "ready"), ""), ((1, "station: map fault 2\n"), "station: map fault 2"), ((-9, ""), "status -9"),
+    ((1, "\n"), "status 1"),
 ])  # fmt: skip
 def test_a_map_is_the_programs_to_take(place, done, said):
     """A program that was killed says nothing, and took nothing."""
@@ -100,13 +103,17 @@ def test_a_site_is_the_programs_to_take(tmp_path):
 
 @pytest.mark.parametrize("text, said, lines", [
     (SITE, "", []),
-    (NO_SITE, "station: site fault 2", ["F:5: customer.seat.name: \"a/1\" is no name: 1 to 32 of A-Z a-z 0-9 . _ - (fault 2)",
+    (NO_SITE, "station: site fault 2",
+     ["F:5: customer.seat.name: \"a/1\" is no name: 1 to 32 of A-Z a-z 0-9 . _ - (fault 2)",
                                         "station: site fault 2"]),
-    (SITE, "status -9", ["F: this tool reads it otherwise than the program does, whose number holds: tell its makers", "status -9"]),
-    (SITE, "station: site fault 4", ["F: this tool reads it otherwise than the program does, whose number holds: tell its makers",
+    (SITE, "status -9", ["F: this tool reads it otherwise than the program does, whose number holds: tell its makers",
+     "status -9"]),
+    (SITE, "station: site fault 4",
+     ["F: this tool reads it otherwise than the program does, whose number holds: tell its makers",
                                      "station: site fault 4"]),
     (NO_SITE, "", ["F: this tool reads it otherwise than the program does, whose number holds: tell its makers"]),
-    (NO_SITE, "station: site fault 3", ["F: this tool reads it otherwise than the program does, whose number holds: tell its makers",
+    (NO_SITE, "station: site fault 3",
+     ["F: this tool reads it otherwise than the program does, whose number holds: tell its makers",
                                         "station: site fault 3"]),
 ])  # fmt: skip
 def test_checked(tmp_path, text, said, lines):
@@ -155,7 +162,8 @@ def test_a_growth_is_tried_over_a_store_that_holds_the_old_text(place):
 
 
 @pytest.mark.parametrize("done, says, told", [
-    ((1, "station: fault\n"), "", "station: fault"), ((-9, ""), "", "status -9"), ((0, ""), "store fault 1", "store fault 1"),
+    ((1, "station: fault\n"), "", "station: fault"), ((-9, ""), "", "status -9"),
+    ((0, ""), "store fault 1", "store fault 1"),
 ])  # fmt: skip
 def test_what_is_no_growth_to_the_program(tmp_path, done, says, told):
     place = FakePlace(tmp_path, lambda text, db: says if db else "")
@@ -239,7 +247,8 @@ def test_others(tmp_path):
     (tmp_path / "two.toml").write_text(MORE.replace("acme", "bolt").replace("'a1'", "'b1'").replace(ONE, TWO))
     trying.tested_others(place, SITE, [str(tmp_path / "two.toml")])
     other, both = (it[1] for it in place.calls)
-    assert other == (tmp_path / "two.toml").read_text() and set(trying.given_of(both, "t").customers) == {"acme", "bolt"}
+    assert other == (tmp_path / "two.toml").read_text() and set(trying.given_of(both, "t").customers) == {"acme",
+        "bolt"}
     (tmp_path / "three.toml").write_text(SITE.replace("acme", "cog").replace("'a1'", "'c1'"))
     with pytest.raises(TokenError, match="three.toml has it too: the token of the seat a1"):
         trying.tested_others(place, SITE, [str(tmp_path / "two.toml"), str(tmp_path / "three.toml")])
