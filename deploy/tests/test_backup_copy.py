@@ -28,7 +28,7 @@ def store(tmp_path):
 
 
 class Machine:
-    """The programs: sqlite3 prints counts, `station` opens a copy. It notes what each is asked, and may change files."""
+    """The programs: sqlite3 prints counts, `station` opens a copy. It notes what each is asked, and may alter files."""
 
     def __init__(self):
         self.calls, self.status, self.prints, self.opens, self.meanwhile = [], 0, {}, 0, lambda: None
@@ -77,7 +77,8 @@ def test_size_of(tmp_path):
 
 def test_digest_of_file(tmp_path):
     (tmp_path / "a").write_bytes(b"abc")
-    assert backup_copy.digest_of_file(tmp_path / "a") == "ba7816bf8f01cfea414140de5dae2223b00361a396177a9cb410ff61f20015ad"
+    abc = "ba7816bf8f01cfea414140de5dae2223b00361a396177a9cb410ff61f20015ad"  # by FIPS 180-4
+    assert backup_copy.digest_of_file(tmp_path / "a") == abc
 
 
 def test_now(monkeypatch):
