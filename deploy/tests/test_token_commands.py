@@ -60,37 +60,6 @@ def done(file, *text):
 # ---- forms
 
 
-@pytest.mark.parametrize("day, until", [("2026-06-15", "2026-06-15T23:59"), ("2026-12-24", "2026-12-24T23:59")])
-def test_the_last_minute_of_a_day(day, until):
-    assert token.minute_of(day) == until
-
-
-@pytest.mark.parametrize("day", ["2026-06-14", "2025-12-31", "2026-02-30", "2026-13-01", "26-12-24",
-    "2026-12-24T10:00", "",
-                                 "2026-12-24\n", "2026-6-20"])  # fmt: skip
-def test_no_day(day):
-    with pytest.raises(TokenError):
-        token.minute_of(day)
-
-
-@pytest.mark.parametrize("grace, seconds", [("30m", 1800), ("8h", 28800), ("2d", 172800), ("0m", 0), ("0d", 0)])
-def test_the_minute_behind_a_span(monkeypatch, grace, seconds):
-    class Clock(token.datetime.datetime):
-        @classmethod
-        def now(cls, tz=None):
-            return cls(2026, 6, 15, 12, 0)
-
-    monkeypatch.setattr(token.datetime, "datetime", Clock)
-    expected = (Clock(2026, 6, 15, 12, 0) + token.datetime.timedelta(seconds=seconds)).strftime("%Y-%m-%dT%H:%M")
-    assert token.minute_after(grace) == (expected if seconds else "")
-
-
-@pytest.mark.parametrize("grace", ["", "8", "h", "8s", "-8h", "8h ", "8h\n", "1.5h", "10000m", "8hh"])
-def test_no_span(grace):
-    with pytest.raises(TokenError, match="no span"):
-        token.minute_after(grace)
-
-
 @pytest.mark.parametrize("form, text, is_one", [
     (token.NAME, "a1", True), (token.NAME, "a1\n", False), (token.NAME, "x" * 33, False), (token.NAME, "a 1", False),
     (token.SERVER, "station2", True), (token.SERVER, "127.0.0.1:881", True), (token.SERVER, "127.0.0.1:0", False),
@@ -344,40 +313,6 @@ def test_revoke(file, name, ended):
         done(file, "revoke", "a1:12")
     with pytest.raises(TokenError):
         done(file, "revoke", "a1:")
-
-
-def test_rotate_now(file, capsys):
-    with_outers(file, outer(1, looks=True, until="2026-12-24T23:59", holder="line 5"))
-    old, new = done(file, "rotate", "a1").outers
-    assert (old.ended, old.text) == (NOW, "") and capsys.readouterr().out == new.text + "\n"
-    assert (new.looks, new.until, new.holder, new.seat) == (True, "2026-12-24T23:59", "line 5", "a1")
-    assert (new.token, new.number, new.ended) == ("a1:10", 2, "") and new.text != outer(1).text
-
-
-@pytest.mark.parametrize("until, ends", [("", "2026-06-15T20:00"), ("2026-12-24T23:59", "2026-06-15T20:00"),
-                                         ("2026-06-15T23:59", "2026-06-15T20:00")])  # fmt: skip
-def test_rotate_after_a_grace(file, monkeypatch, until, ends):
-    monkeypatch.setattr(token, "minute_after", lambda grace: {"8h": "2026-06-15T20:00"}[grace])
-    with_outers(file, outer(1, until=until))
-    old, new = done(file, "rotate", "a1:1", "--grace", "8h").outers
-    assert (old.until, old.ended, old.text, new.until) == (ends, "", outer(1).text, until)
-    with pytest.raises(TokenError, match="rotated already"):
-        done(file, "rotate", "a1:1")
-
-
-def test_a_grace_makes_no_token_live_longer(file, monkeypatch):
-    monkeypatch.setattr(token, "minute_after", lambda grace: "2026-06-17T12:00")
-    with_outers(file, outer(1, until="2026-06-15T23:59"))
-    assert done(file, "rotate", "a1", "--grace", "2d").outers[0].until == "2026-06-15T23:59"
-
-
-def test_rotate_refuses(file):
-    with_outers(file, outer(1), outer(2), outer(3, "b1", text="", subject="CN=pc7"))
-    before = read(file)
-    for name, said in (("a1", "which[?] a1:1, a1:2"), ("b1", "certificate's")):
-        with pytest.raises(TokenError, match=said):
-            done(file, "rotate", name)
-    assert read(file) == before
 
 
 def test_list(file, capsys):
