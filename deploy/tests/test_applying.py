@@ -25,7 +25,7 @@ class FakePlace:
     def __init__(self, folder):
         self.site, self.next, self.plan = folder / "site.toml", folder / "site.next.toml", folder / "site.growth"
         self.tokens, self.backups, self.parts = folder / "tokens.conf", folder / "backups", folder / "parts"
-        self.store = self.db = folder / "books.db"
+        self.db = folder / "books.db"
         self.program = "station"
         self.args = argparse.Namespace(stop="STOP it", start="START it", restarts="RESTARTS it", wait=9.0, port=880,
                                        nginx="https://n", certificate="/c.pem", patience=1.0)  # fmt: skip
@@ -44,11 +44,8 @@ class FakePlace:
             return subprocess.CompletedProcess(words, 0, open(words[-1], newline="").read(), "")
         return subprocess.CompletedProcess(words, int(fails), self.prints.get(words[0], ""), "told\n" if fails else "")
 
-    def as_owner(self, *words):
-        return ["AS", *words]
-
     def ran(self, *words, given=""):
-        return self.noted("USER", words[1:], given) if words[0] == "AS" else self.noted("ROOT", words, given)
+        return self.noted("ROOT", words, given)
 
     def service(self, command):
         done = self.noted("SERVICE", command.split()[:1])
@@ -77,7 +74,7 @@ def place(tmp_path, monkeypatch):
     monkeypatch.setattr(applying, "keep_plan", lambda path, plan: (
         made.calls.append(("PLAN", plan.stage)), keep_plan(path, plan)))  # fmt: skip
     monkeypatch.setattr(applying, "tried_over_backup", lambda it, backup, old, new: made.calls.append(
-        ("TRIED", str(getattr(backup, "path", backup)), old, new)))  # fmt: skip
+        ("TRIED", str(backup.path), old, new)))  # fmt: skip
     monkeypatch.setattr(applying, "is_up", lambda it: ("SERVICE", "START") in it.calls)
     monkeypatch.setattr(applying.time, "sleep", lambda _: None)
     monkeypatch.setattr(applying, "say", lambda text: made.calls.append(("SAY", text)))
@@ -119,7 +116,7 @@ def test_the_backup_is_made_as_the_user_of_the_old_text(place):
     plan = Plan(is_tried=True)
     applying.stop_and_back_up(place, plan)
     (call,) = [it for it in place.calls if it[:2] == ("USER", str(place.parts / "backup"))]
-    assert list(call[2:]) == ["--program", "station", "--site", str(place.site), "--db", str(place.store), plan.backup]
+    assert list(call[2:]) == ["--program", "station", "--site", str(place.site), "--db", str(place.db), plan.backup]
     assert os.path.dirname(plan.backup) == str(place.backups) and "before-" in plan.backup
 
 

@@ -7,6 +7,8 @@ from types import SimpleNamespace
 import pytest
 from site_tool import trying
 from site_tool.faults import Fault
+from store_copy import Backup
+from store_user import UserError
 from token_file import TokenError
 
 ONE, TWO = "%064x" % 1, "%064x" % 2
@@ -32,19 +34,14 @@ class FakePlace:
         open(words[-1].removeprefix("of="), "w").write(given)
         return subprocess.CompletedProcess(words, 0, "", "")
 
-    def as_owner(self, *words):
-        return list(words)
-
     def ran(self, *words, given=""):
         self.calls.append(words)
-        if words[0] == "dd":
-            return self.wrote(*words, given=given)
         status, said = self.map_done
         return subprocess.CompletedProcess(words, status, "", said)
 
-    def replayed(self, site, db=None, *user, **as_whom):
+    def replayed(self, site, db=None, user=None):
         text = site.read_text()
-        self.calls.append(("replayed", text, db and db.name, bool(user or as_whom)))
+        self.calls.append(("replayed", text, db and db.name, bool(user)))
         return self.says(text, db)
 
     def newest_backup(self):
@@ -177,16 +174,6 @@ def test_a_loss_is_no_growth(place):
     assert all(it[0] != "P" for it in place.calls)
 
 
-class FakeBackup(type(__import__("pathlib").Path())):
-    """A backup: a folder, or a file that is encrypted."""
-
-    is_encrypted = size = 0
-
-    @property
-    def path(self):
-        return self
-
-
 @pytest.mark.parametrize("text, refused", [("old", 0), ("new", 1)])
 def test_a_copy_is_opened_with_the_text_of_now_and_then_with_the_new_one(place, tmp_path, text, refused):
     (tmp_path / "room").mkdir()
@@ -202,7 +189,6 @@ def test_a_copy_is_opened_with_the_text_of_now_and_then_with_the_new_one(place, 
 
 def test_a_text_that_cannot_be_written_is_not_tried(place, tmp_path):
     place.user = SimpleNamespace(run=lambda *words, given="": subprocess.CompletedProcess(words, 1, "", "full\n"))
-    place.ran = place.user.run
     with pytest.raises(TokenError, match="full"):
         trying.try_over(place, tmp_path / "books.db", "old", "new", "what")
     assert place.calls == []
@@ -210,10 +196,9 @@ def test_a_text_that_cannot_be_written_is_not_tried(place, tmp_path):
 
 def test_over_the_newest_backup(place, tmp_path):
     assert trying.tried_over_copy(place, "old", "new")[0] is False
-    place.backup = FakeBackup(tmp_path / "2026")
-    place.backup.mkdir()
+    place.backup = Backup(tmp_path / "2026", 7, is_encrypted=False)
     assert trying.tried_over_copy(place, "old", "new") == (True, "a copy of the backup 2026 took it")
-    assert [it for it in place.calls if it[0] == "copied"][0][1] in (place.backup, place.backup / "books.db")
+    assert ("copied", tmp_path / "2026/books.db", 7) in place.calls
     place.says = lambda text, db: "why" if text == "new" else ""
     with pytest.raises(TokenError, match="why"):
         trying.tried_over_copy(place, "old", "new")
@@ -221,8 +206,7 @@ def test_over_the_newest_backup(place, tmp_path):
 
 def test_over_a_copy_of_a_store_that_runs(place, tmp_path):
     """Where the newest backup is encrypted. Where no copy can be made, it is told that nothing was tried."""
-    place.backup = FakeBackup(tmp_path / "2026.tar.age")
-    place.backup.is_encrypted = 1
+    place.backup = Backup(tmp_path / "2026.tar.age", 0, is_encrypted=True)
     is_tried, told = trying.tried_over_copy(place, "old", "new")
     assert is_tried and "as it is now" in told and ("copied",) in place.calls
     place.says = lambda text, db: "why" if text == "new" else ""
@@ -230,7 +214,7 @@ def test_over_a_copy_of_a_store_that_runs(place, tmp_path):
         trying.tried_over_copy(place, "old", "new")
 
     def refuse():
-        raise (getattr(trying, "NoCopy", None) or trying.UserError)("no room")
+        raise UserError("no room")
 
     place.copied_running = refuse
     is_tried, told = trying.tried_over_copy(place, "old", "new")
