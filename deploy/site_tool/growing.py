@@ -42,6 +42,8 @@ def customer_lines(customer: dict[str, Any]) -> str:
 
 def with_customer(text: str, customer: dict[str, Any], title: str) -> str:
     """The text with a customer more, at its end."""
+    if text.startswith(MARK):
+        return MARK + with_customer(text.removeprefix(MARK), customer, title)
     document, places = parsed(text, title)
     wanted = copy.deepcopy(document)
     wanted["customer"].append(customer)
@@ -57,6 +59,8 @@ def with_customer(text: str, customer: dict[str, Any], title: str) -> str:
 
 def with_items(text: str, name: str, kind: str, items: list[Any], title: str) -> str:
     """The text with more issuers, seats or pools of a customer, behind those that are there."""
+    if text.startswith(MARK):
+        return MARK + with_items(text.removeprefix(MARK), name, kind, items, title)
     document, places = parsed(text, title)
     place = next((at for at, it in enumerate(document["customer"]) if it["name"] == name), None)
     if place is None:
@@ -109,7 +113,7 @@ def taken(tried: list[str], wanted: dict[str, Any], title: str, lines: str) -> s
     """The first text that is the wanted site."""
     for text in tried:
         try:
-            if tomllib.loads(text.removeprefix(MARK)) == wanted:
+            if tomllib.loads(text) == wanted:
                 return text
         except tomllib.TOMLDecodeError:
             continue

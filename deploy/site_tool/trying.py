@@ -37,7 +37,7 @@ def program_says(place: Place, path: Path, as_map: bool) -> str:
     if not as_map:
         return place.replayed(path)
     done = place.ran(place.program, "check-map", str(path))
-    return "" if done.returncode == 0 else done.stderr.strip()
+    return "" if done.returncode == 0 else (done.stderr.strip() or f"status {done.returncode}")
 
 
 def checked(place: Place, path: Path, as_map: bool) -> list[str]:
@@ -79,7 +79,7 @@ def tested_growth(place: Place, old: str, new: str, title: str) -> list[str]:
     with written(old) as before, written(new) as after:
         db = before.with_name("books.db")
         done = place.ran(place.program, "replay", "--site", str(before), "--db", str(db))
-        said = done.stderr.strip() if done.returncode else place.replayed(after, db)
+        said = (done.stderr.strip() or f"status {done.returncode}") if done.returncode else place.replayed(after, db)
     if said:
         raise TokenError(1, f"{title}: the program doesn't take it as a growth: {said}")
     return found.gains

@@ -1,0 +1,455 @@
+"""The commands for tokens: what each makes, ends and prints, what is refused, and what is left where nginx refuses."""
+
+import os
+import re
+import stat
+import subprocess
+import sys
+
+import pytest
+import token_file
+from scripts import script
+from token_file import Outer, Seat, TokenError, Tokens, put, read, text_of, tokens_of
+
+token = script("token")
+NOW = "2026-06-15T12:00"
+# The SHA-256 of `abc`, `hello` and `test`, by sha256sum(1).
+ABC = "ba7816bf8f01cfea414140de5dae2223b00361a396177a9cb410ff61f20015ad"
+HELLO = "2cf24dba5fb0a30e26e83b2ac5b9e29e1b161e5c1fa7425e73043362938b9824"
+TEST = "9f86d081884c7d659a2feaa0c55ad015a3bf4f1b2b0b822cd15d6c15b0f00a08"
+SITE = f"""customer = [
+  {{ name = "acme", issuer = [], seat = [{{ name = "a1", token = "{ABC.upper()}" }}] }},
+  {{ name = "bolt", issuer = [], seat = [{{ name = "b1", token = "{HELLO}" }}] }},
+]
+manager = {{ token = "{TEST}" }}
+"""
+
+
+def seats(*made):
+    return Tokens({it.seat: it for it in made or (Seat("a1", "acme", "abc"), Seat("b1", "bolt", "hello"))})
+
+
+def outer(number, seat="a1", **more):
+    mine = {"token": f"{seat}:{number}", "looks": False, "mark": "0" * 12, "since": NOW,
+        "text": f"wanekupo_{number:064x}"}
+    return Outer(**{"number": number, "seat": seat, **mine, **more})
+
+
+@pytest.fixture(autouse=True)
+def moment(monkeypatch):
+    for module in (token, token_file):
+        monkeypatch.setattr(module, "now", lambda: NOW)
+
+
+@pytest.fixture
+def file(tmp_path):
+    return tmp_path / "tokens.conf"
+
+
+def words(file, *text):
+    return token.parser().parse_args(["--file", str(file), "--no-reload", *text])
+
+
+def done(file, *text):
+    """What a command makes of the file, and what it prints."""
+    args = words(file, *text)
+    token.run(args)
+    return tokens_of(read(file), file)
+
+
+# ---- forms
+
+
+@pytest.mark.parametrize("form, text, is_one", [
+    (token.NAME, "a1", True), (token.NAME, "a1\n", False), (token.NAME, "x" * 33, False), (token.NAME, "a 1", False),
+    (token.SERVER, "station2", True), (token.SERVER, "127.0.0.1:881", True), (token.SERVER, "127.0.0.1:0", False),
+    (token.SERVER, "10.0.0.1:881", False), (token.SERVER, "station; }", False), (token.SERVER, "127x0.0.1:1", False),
+    (token.SUBJECT, "CN=pc7,O=Plant", True), (token.SUBJECT, 'CN="x"', False), (token.SUBJECT, "CN=$x", False),
+    (token.SUBJECT, "CN=a\\Eb", False), (token.SUBJECT, "CN", False), (token.SUBJECT, "CN=a\n", False),
+    (token.SUBJECT, "CN=a*", False), (token.SUBJECT, "CN=a;b", False),
+])  # fmt: skip
+def test_forms(form, text, is_one):
+    """What stands in nginx's file can't end a text, a variable or a regular expression there."""
+    if is_one:
+        assert token.of_form(form, text, "x") == text
+    else:
+        with pytest.raises(TokenError, match="is no x"):
+            token.of_form(form, text, "x")
+
+
+# ---- nginx
+
+
+@pytest.mark.parametrize("command, answer", [
+    ("true", (True, "")), ("false", (False, "why")), ("gone", (False, "[Errno 2] No such file")),
+])  # fmt: skip
+def test_ran(monkeypatch, command, answer):
+    calls = []
+
+    def run(words, **more):
+        calls.append((words, more["stdin"]))
+        if words[0] == "gone":
+            raise FileNotFoundError(2, "No such file")
+        return subprocess.CompletedProcess(words, words[0] == "false", "", "why\n" if words[0] == "false" else "")
+
+    monkeypatch.setattr(token.subprocess, "run", run)
+    assert token.ran(f"{command} -a 'b c'") == answer
+    assert calls == [([command, "-a", "b c"], subprocess.DEVNULL)]
+
+
+def process(folder, number, title, parent):
+    (folder / str(number)).mkdir(parents=True)
+    (folder / str(number) / "cmdline").write_bytes(title)
+    (folder / str(number) / "status").write_text(f"Name:\tnginx\nPid:\t{number}\nPPid:\t{parent}\nTracerPid:\t7\n")
+
+
+def test_workers(tmp_path, monkeypatch):
+    """Those of this nginx, that take connections: none that is shutting down, and none of another nginx."""
+    proc = tmp_path / "proc"
+    process(proc, 10, b"nginx: worker process\0", 7)
+    process(proc, 11, b"nginx: worker process\0\0\0 ", 7)
+    process(proc, 12, b"nginx: worker process is shutting down\0", 7)
+    process(proc, 13, b"nginx: worker process\0", 77)
+    process(proc, 14, b"nginx: cache manager process\0", 7)
+    process(proc, 15, b"sh\0-c\0nginx: worker process\0", 7)
+    (proc / "16").mkdir()
+    (tmp_path / "pid").write_text("7\n")
+    real = token.Path
+    monkeypatch.setattr(token, "Path",
+        lambda name: real(str(name).replace("/proc", str(proc))) if name == "/proc" else real(name))
+    assert token.workers(str(tmp_path / "pid")) == {"10", "11"}
+    assert token.workers(str(tmp_path / "none")) == set()
+
+
+def told(monkeypatch, seen, answer=(True, "")):
+    """What is told where the workers are those of `seen`, one after the other; what was run."""
+    calls, left, moments = [], iter(seen), iter(range(0, 10000, 4))
+    monkeypatch.setattr(token, "workers", lambda pid: calls.append(pid) or next(left, seen[-1]))
+    monkeypatch.setattr(token, "ran", lambda command: calls.append(command) or answer)
+    monkeypatch.setattr(token.time, "monotonic", lambda: next(moments))
+    monkeypatch.setattr(token.time, "sleep", lambda _: None)
+    return token.told("RELOAD", "PID"), calls
+
+
+def test_nginx_has_read_it_where_a_new_worker_is_there(monkeypatch):
+    said, calls = told(monkeypatch, [{"1", "2"}, {"1", "2"}, {"2", "3"}])
+    assert said == "" and calls[:2] == ["PID", "RELOAD"], "the workers of before are counted before"
+
+
+def test_nginx_that_starts_no_worker_has_not(monkeypatch):
+    for seen in ([{"1"}], [{"1", "2"}, {"1"}], [set()]):
+        said, calls = told(monkeypatch, seen)
+        assert "started no worker in 30 seconds" in said and 5 < len(calls) < 15
+    said, calls = told(monkeypatch, [{"1"}, {"2"}], (False, "no pid"))
+    assert said == "no pid" and len(calls) == 2
+    assert told(monkeypatch, [{"1"}, {"2"}], (False, ""))[0] == "RELOAD", "a failure without words is one"
+
+
+@pytest.mark.parametrize("before", ["old", None])
+def test_where_nginx_refuses_the_file_of_before_is_back(file, monkeypatch, before):
+    if before:
+        put(file, before)
+    monkeypatch.setattr(token, "ran", lambda command: (False, "emerg"))
+    monkeypatch.setattr(token, "told", lambda *_: pytest.fail("what fails its test isn't read"))
+    args = token.parser().parse_args(["--file", str(file), "list"])
+    with pytest.raises(TokenError, match="nothing was changed:\nemerg") as error:
+        token.commit(args, seats(), before)
+    assert error.value.status == 4 and (file.read_text() if before else os.listdir(file.parent)) == (before or [])
+
+
+@pytest.mark.parametrize("wrong, status", [("", None), ("no worker", 5)])
+def test_commit(file, monkeypatch, wrong, status):
+    calls = []
+    monkeypatch.setattr(token, "ran", lambda command: calls.append((command, file.exists())) or (True, ""))
+    monkeypatch.setattr(token, "told", lambda command, pid: calls.append((command, pid)) or wrong)
+    late = token.commit(token.parser().parse_args(["--file", str(file), "list"]), seats(), None)
+    assert (late and late.status) == status and read(file) == text_of(seats())
+    assert calls == [("nginx -t -q", True), ("nginx -s reload", "/run/nginx.pid")]
+    assert token.commit(words(file, "list"), seats(), None) is None and len(calls) == 2, "--no-reload"
+
+
+# ---- seats
+
+
+def test_a_new_seat(file, capsys):
+    found = done(file, "seat", "a1", "--customer", "acme")
+    inner = found.seats["a1"].inner
+    assert found.seats == {"a1": Seat("a1", "acme", inner)} and re.fullmatch("[0-9a-f]{64}", inner)
+    out, err = capsys.readouterr()
+    assert out == f'[[customer.seat]]\nname = "a1"\ntoken = "{token.digest_of(inner)}"\n' and inner not in out + err
+    assert stat.S_IMODE(file.stat().st_mode) == 0o600
+    again = done(file, "seat", "a1", "--customer", "acme")
+    assert again == found and capsys.readouterr().out == out, "a seat that is there keeps its token"
+
+
+def test_two_seats_have_two_tokens(file):
+    found = done(file, "seat", "a1", "--customer", "acme")
+    found = done(file, "seat", "@manager")
+    assert found.seats["@manager"].inner != found.seats["a1"].inner and found.seats["@manager"].customer == "@manager"
+
+
+@pytest.mark.parametrize("text", [
+    ["seat", "a/1", "--customer", "acme"], ["seat", "a1"], ["seat", "a1", "--customer", ""],
+    ["seat", "a1", "--customer", "a b"],
+    ["seat", "@a/1"], ["seat", "a1", "--customer", "acme", "--server", "evil.example:1"], ["seat", "@@m"],
+    ["seat", "a1", "--customer", "acme", "--into", "/nowhere/site.toml"], ["add", "a9"],
+    ["inner", "a9", "--to", "/nowhere/x"],
+    ["revoke", "a9"], ["rotate", "a9"],
+])  # fmt: skip
+def test_refused_words_change_nothing(file, text):
+    with pytest.raises(TokenError) as error:
+        token.run(words(file, *text))
+    assert error.value.status == 1 and not file.exists()
+
+
+def test_another_server(file, capsys):
+    put(file, text_of(seats()))
+    assert done(file, "seat", "a1", "--server", "127.0.0.1:881").seats["a1"] == Seat("a1", "acme", "abc",
+        "127.0.0.1:881")
+
+
+@pytest.mark.parametrize("seat, inner, is_known", [
+    ("a1", "abc", True), ("b1", "hello", True), ("a1", "hello", False), ("b1", "abc", False), ("a2", "abc", False),
+    ("@manager", "test", True), ("@manager", "abc", False), ("@other", "test", True),
+])  # fmt: skip
+def test_a_known_seat(file, tmp_path, capsys, seat, inner, is_known):
+    """It is taken over where the site has that seat with that token, and with its own customer."""
+    (tmp_path / "site.toml").write_text(SITE)
+    (tmp_path / "inner").write_text(inner + "\n")
+    text = ["seat", seat, "--known", str(tmp_path / "inner"), "--site", str(tmp_path / "site.toml")]
+    if not is_known:
+        with pytest.raises(TokenError, match=f"has no seat {seat} with the token of"):
+            done(file, *text)
+        assert not file.exists()
+        return
+    customer = {"a1": "acme", "b1": "bolt"}.get(seat, seat)
+    assert done(file, *text).seats == {seat: Seat(seat, customer, inner)}
+    with pytest.raises(TokenError, match="is there already"):
+        done(file, *text)
+
+
+@pytest.mark.parametrize("text", ["", "a b", 'a"b', "a$b", "a\\b", "é", "a\nb"])
+def test_a_token_that_nginx_cannot_have(tmp_path, text):
+    (tmp_path / "inner").write_text(text + "\n")
+    with pytest.raises((TokenError, UnicodeError)):
+        token.inner_of(str(tmp_path / "inner"))
+
+
+def test_a_seat_into_a_site_file(file, tmp_path):
+    (tmp_path / "new.toml").write_text("# mine\n[[customer]]\nname = 'acme'\nissuer = []\n")
+    found = done(file, "seat", "a2", "--customer", "acme", "--into", str(tmp_path / "new.toml"))
+    digest = token.digest_of(found.seats["a2"].inner)
+    text = "# mine\n[[customer]]\nname = 'acme'\nissuer = []\n"
+    seat = f'[[customer.seat]]\nname = "a2"\ntoken = "{digest}"\n'
+    assert (tmp_path / "new.toml").read_text() == text + seat
+
+
+# ---- outer tokens
+
+
+@pytest.mark.parametrize("more, changes", [
+    ([], {}), (["--look"], {"looks": True}), (["--until", "2026-12-24"], {"until": "2026-12-24T23:59"}),
+    (["--holder", "line 5"], {"holder": "line 5"}), (["--certificate", "CN=pc7"], {"subject": "CN=pc7", "text": ""}),
+])  # fmt: skip
+def test_add(file, capsys, more, changes):
+    put(file, text_of(seats()))
+    found = done(file, "add", "a1", *more)
+    (made,) = found.outers
+    out, err = capsys.readouterr()
+    assert (made.token, made.number, made.seat, made.since, made.ended) == ("a1:1", 1, "a1", NOW, "")
+    expected = {"looks": False, "until": "", "holder": "", "subject": "", **changes}
+    assert {name: getattr(made, name) for name in expected} == expected and found.seats["a1"].given == 1
+    if made.subject:
+        assert out == "" and made.mark == token.mark_of("CN=pc7")
+    else:
+        assert out == made.text + "\n" and re.fullmatch("wanekupo_[0-9a-f]{64}", made.text) and made.text not in err
+        assert made.mark == token.mark_of(made.text) and made.mark in err
+
+
+@pytest.mark.parametrize("more", [
+    ["--until", "2026-06-14"], ["--certificate", "CN=$x"], ["--holder", "a\nb"], ["--holder", "x" * 81],
+    ["--holder", "é"],
+])  # fmt: skip
+def test_add_refuses(file, more):
+    put(file, text_of(seats()))
+    with pytest.raises(TokenError):
+        done(file, "add", "a1", *more)
+    assert read(file) == text_of(seats())
+
+
+def test_a_certificate_has_one_seat(file):
+    tokens = seats()
+    tokens.outers = [outer(1, text="", subject="CN=pc7")]
+    put(file, text_of(tokens))
+    with pytest.raises(TokenError, match="has a seat already"):
+        done(file, "add", "b1", "--certificate", "CN=pc7")
+    assert done(file, "add", "b1", "--certificate", "CN=pc").outers[1].subject == "CN=pc"
+    done(file, "revoke", "a1:1")
+    assert done(file, "add", "b1", "--certificate", "CN=pc7").outers[2].seat == "b1"
+
+
+def test_a_number_and_a_name_are_never_given_again(file):
+    put(file, text_of(seats()))
+    for text in (["add", "a1"], ["add", "b1"], ["add", "a1"], ["revoke", "a1"], ["add", "a1"]):
+        found = done(file, *text)
+    assert [(it.token, it.number) for it in found.outers] == [("a1:1", 1), ("b1:1", 2), ("a1:2", 3), ("a1:3", 4)]
+    assert len({it.text for it in found.outers if it.text}) == 2
+
+
+def with_outers(file, *outers):
+    tokens = seats(Seat("a1", "acme", "abc", given=9), Seat("a", "acme", "x"), Seat("b1", "bolt", "hello", given=9))
+    tokens.outers = list(outers)
+    put(file, text_of(tokens))
+
+
+@pytest.mark.parametrize("name, ended", [("a1", [1, 2]), ("a1:1", [1]), ("a1:2", [2]), ("b1", [4])])
+def test_revoke(file, name, ended):
+    """One, or all of a seat; those of other seats go on, and a name that begins alike is another one."""
+    with_outers(file, outer(1), outer(2), outer(12, ended=NOW, text=""), outer(4, "b1"), outer(21, "a"))
+    found = done(file, "revoke", name)
+    assert [it.number for it in found.outers if it.ended and it.number != 12] == ended
+    assert all(bool(it.text) != bool(it.ended) for it in found.outers), "one that has ended keeps no text"
+    with pytest.raises(TokenError, match="no outer token|has ended"):
+        done(file, "revoke", "a1:12")
+    with pytest.raises(TokenError):
+        done(file, "revoke", "a1:")
+
+
+def test_list(file, capsys):
+    with_outers(file, outer(1, looks=True, holder="line 5"), outer(2, until="2026-06-14T23:59"),
+        outer(3, until="2026-06-15T12:00"),
+                outer(4, text="", ended="2026-01-01T00:00"), outer(5, "b1", text="", subject="CN=pc7"))  # fmt: skip
+    before = read(file)
+    done(file, "list")
+    out, err = capsys.readouterr()
+    rows = [re.split(r"  +", line) for line in out.splitlines()]
+    assert rows[0] == ["name", "seat", "may", "until", "since", "known by", "holder"]
+    assert rows[1:] == [["a1:1", "a1", "look", "-", NOW, "0" * 12, "line 5"],
+        ["a1:2", "a1", "all", "2026-06-14 past", NOW, "0" * 12],
+                        ["a1:3", "a1", "all", "2026-06-15T12:00", NOW, "0" * 12],
+                        ["b1:5", "b1", "all", "-", NOW, "CN=pc7"]]  # fmt: skip
+    assert "wanekupo_" not in out + err and err == "without an outer token: a\n" and read(file) == before
+    done(file, "list", "--all")
+    assert "ended 2026-01-01T00:00" in capsys.readouterr().out
+
+
+def test_the_seat_of_health_needs_no_outer_token(file, capsys):
+    put(file, text_of(seats(Seat("health", "acme", "x"))))
+    done(file, "list")
+    assert capsys.readouterr().err == ""
+
+
+def test_inner(file, tmp_path, capsys):
+    put(file, text_of(seats()))
+    done(file, "inner", "a1", "--to", str(tmp_path / "a1.token"))
+    made = tmp_path / "a1.token"
+    assert made.read_text() == "abc\n" and stat.S_IMODE(made.stat().st_mode) == 0o600
+    out, err = capsys.readouterr()
+    assert out == "" and "abc" not in err
+    with pytest.raises(FileExistsError):
+        done(file, "inner", "b1", "--to", str(tmp_path / "a1.token"))
+    assert (tmp_path / "a1.token").read_text() == "abc\n"
+
+
+@pytest.mark.parametrize("made, told", [
+    ((Seat("a1", "acme", "abc"), Seat("b1", "bolt", "hello"), Seat("@manager", "@manager", "test")), ""),
+    ((Seat("a1", "acme", "abc"), Seat("b1", "bolt", "hello")), "@manager"),
+    ((Seat("a1", "acme", "abc"), Seat("b1", "bolt", "xx"), Seat("@manager", "@manager", "test")), "b1"),
+    ((Seat("a1", "acme", "abc"), Seat("b1", "bolt", "hello"), Seat("c1", "acme", "xx"), Seat("@m", "@m", "test")),
+     "c1"),
+    ((Seat("a1", "bolt", "abc"), Seat("b1", "bolt", "hello"), Seat("@manager", "@manager", "test")), "a1"),
+])  # fmt: skip
+def test_check(file, tmp_path, capsys, made, told):
+    (tmp_path / "site.toml").write_text(SITE)
+    put(file, text_of(seats(*made)))
+    if told:
+        with pytest.raises(TokenError, match=told) as error:
+            done(file, "check", "--site", str(tmp_path / "site.toml"))
+        assert error.value.status == 1
+        return
+    done(file, "check", "--site", str(tmp_path / "site.toml"))
+    assert "3 seats, as in" in capsys.readouterr().err
+
+
+def test_write_makes_a_changed_file_anew(file):
+    put(file, text_of(seats()) + "# mine\n")
+    for text in (["list"], ["add", "a1"]):
+        with pytest.raises(TokenError, match="changed by hand"):
+            token.run(words(file, *text))
+    assert done(file, "write") == seats()
+
+
+# ---- a run
+
+
+def test_a_token_is_in_its_file_and_on_no_screen(file, tmp_path, capsys):
+    put(file, text_of(seats()))
+    made = done(file, "add", "a1", "--to", str(tmp_path / "a1.token")).outers[0]
+    out, err = capsys.readouterr()
+    assert (tmp_path / "a1.token").read_text() == made.text + "\n" and made.text not in out + err
+    assert stat.S_IMODE((tmp_path / "a1.token").stat().st_mode) == 0o600
+
+
+def test_a_token_that_nginx_refuses_is_in_no_file(file, tmp_path, monkeypatch, capsys):
+    put(file, text_of(seats()))
+    monkeypatch.setattr(token, "ran", lambda command: (False, "emerg"))
+    args = token.parser().parse_args(["--file", str(file), "add", "a1", "--to", str(tmp_path / "a1.token")])
+    with pytest.raises(TokenError) as error:
+        token.run(args)
+    assert error.value.status == 4 and not (tmp_path / "a1.token").exists() and read(file) == text_of(seats())
+    assert capsys.readouterr().out == ""
+
+
+def test_a_token_stays_where_nginx_may_go_on_as_before(file, tmp_path, monkeypatch, capsys):
+    put(file, text_of(seats()))
+    monkeypatch.setattr(token, "ran", lambda command: (True, ""))
+    monkeypatch.setattr(token, "told", lambda *_: "no worker")
+    args = token.parser().parse_args(["--file", str(file), "add", "a1", "--to", str(tmp_path / "a1.token")])
+    with pytest.raises(TokenError) as error:
+        token.run(args)
+    assert error.value.status == 5 and (tmp_path / "a1.token").exists() and len(tokens_of(read(file), file).outers) == 1
+
+
+def test_where_a_token_can_have_no_file_none_is_made(file, tmp_path):
+    put(file, text_of(seats()))
+    (tmp_path / "a1.token").write_text("mine")
+    with pytest.raises(FileExistsError):
+        done(file, "add", "a1", "--to", str(tmp_path / "a1.token"))
+    assert (tmp_path / "a1.token").read_text() == "mine" and read(file) == text_of(seats())
+
+
+def test_one_run_at_a_time(file):
+    put(file, text_of(seats()))
+    with token.alone(file, 0), pytest.raises(TokenError) as error:
+        token.run(token.parser().parse_args(["--file", str(file), "--no-reload", "--wait", "0", "add", "a1"]))
+    assert error.value.status == 3 and read(file) == text_of(seats())
+
+
+def test_a_look_changes_no_file(file, monkeypatch):
+    put(file, text_of(seats()))
+    monkeypatch.setattr(token, "commit", lambda *_: pytest.fail("nothing is changed"))
+    token.run(words(file, "list"))
+
+
+@pytest.mark.parametrize("error, status, told", [
+    (None, 0, ""), (TokenError(3, "busy"), 3, "busy"), (TokenError(5, "late"), 5, "late"),
+    (OSError(2, "No such file", "/f"), 1, "/f"),
+    (UnicodeDecodeError("ascii", b"\xff", 0, 1, "why"), 1, "why"),
+])  # fmt: skip
+def test_main(monkeypatch, capsys, error, status, told):
+    def run(args):
+        assert args.command == "list" and args.file == "/etc/station/tokens.conf"
+        if error:
+            raise error
+
+    monkeypatch.setattr(token, "run", run)
+    monkeypatch.setattr(sys, "argv", ["token", "list"])
+    assert token.main() == status and told in capsys.readouterr().err
+
+
+@pytest.mark.parametrize("text", ["", "add", "rotate", "inner a1", "seat", "grow a1", "revoke",
+    "add a1 --untill 2026-12-24"])
+def test_wrong_words(text, capsys):
+    with pytest.raises(SystemExit) as error:
+        token.parser().parse_args(text.split())
+    assert error.value.code == 2
