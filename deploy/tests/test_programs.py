@@ -1,4 +1,4 @@
-"""What each program of deploy answers to --help, and that it leaves no bytecode beside itself, as root's tools may not."""
+"""What each program of deploy answers to --help, and that it leaves no bytecode beside itself."""
 
 import os
 import shutil
@@ -24,7 +24,8 @@ def test_there_are_programs():
 @pytest.mark.parametrize("program", PROGRAMS, ids=lambda path: str(path.relative_to(DEPLOY)))
 def test_help_leaves_no_bytecode(program: Path, tmp_path: Path) -> None:
     for folder in ("deploy", "clients/python/wanekupo"):
-        shutil.copytree(DEPLOY.parent / folder, tmp_path / folder, ignore=shutil.ignore_patterns("__pycache__", "tests"))
+        ignored = shutil.ignore_patterns("__pycache__", "tests")
+        shutil.copytree(DEPLOY.parent / folder, tmp_path / folder, ignore=ignored)
     its = tmp_path / program.relative_to(DEPLOY.parent)
     environment = {name: text for name, text in os.environ.items() if name != "PYTHONDONTWRITEBYTECODE"}
     words = [sys.executable, str(its), "--help"]

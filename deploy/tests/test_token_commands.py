@@ -81,7 +81,8 @@ def test_forms(form, text, is_one):
 
 
 @pytest.mark.parametrize("command, answer", [
-    ("true", (True, "")), ("false", (False, "why")), ("gone", (False, "[Errno 2] No such file")),
+    ("true", (True, "")), ("false", (False, "why")),
+    ("gone", (False, "there is no gone: install it, or say --no-reload where another proxy reads the file")),
 ])  # fmt: skip
 def test_ran(monkeypatch, command, answer):
     calls = []
@@ -89,7 +90,7 @@ def test_ran(monkeypatch, command, answer):
     def run(words, **more):
         calls.append((words, more["stdin"]))
         if words[0] == "gone":
-            raise FileNotFoundError(2, "No such file")
+            raise FileNotFoundError(2, "No such file", "gone")
         return subprocess.CompletedProcess(words, words[0] == "false", "", "why\n" if words[0] == "false" else "")
 
     monkeypatch.setattr(token.subprocess, "run", run)
