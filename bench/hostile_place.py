@@ -72,13 +72,13 @@ class Maker(Orders):
         order = f'"order":"{name_of(number)}"'.encode()
         return [asked.replace(b'"order":"life"', order) for asked in self.settled(number)]
 
-    def long_ledger(self):
+    def long_ledger(self, entries):
         """The requests that give one chip many entries."""
         chip = f"{LONG:012x}"
         order = {"name": "long", "issuer": "acme-ca", "prefix": "G", "width": 3, "first": 1, "quantity": 9, "macs": 0}
         before = [self.ask("/v1/order", **order)]
         before.append(self.ask("/v1/device", chip=chip, order="long", map=DIGEST, blocks=blocks_of(1)))
-        return before + [self.ask("/v1/plan", chip=chip, wishes=[]) for _ in range(ENTRIES)]
+        return before + [self.ask("/v1/plan", chip=chip, wishes=[]) for _ in range(entries)]
 
 
 class Store:
@@ -96,7 +96,7 @@ class Store:
         self.tokens, self.number = facts["tokens"], facts["number"]
         return self
 
-    def make(self, program):
+    def make(self, program, entries=ENTRIES):
         """Has the program serve the requests that make it, by a stream."""
         self.folder.mkdir(parents=True, exist_ok=True)
         tokens = {seat: secrets.token_hex(32) for seat in [*SEATS, HONEST, "manager"]}
@@ -110,7 +110,7 @@ class Store:
             for first in range(1, self.devices + 1, PART):
                 numbers = range(first, min(first + PART, self.devices + 1))
                 send(made, [asked for number in numbers for asked in seat.settled_in(number)])
-            send(made, seat.long_ledger())
+            send(made, seat.long_ledger(entries))
             made.end()
         facts = {"devices": self.devices, "number": seat.number + 1, "tokens": tokens}
         self.facts.write_text(json.dumps(facts), encoding="utf-8")

@@ -135,9 +135,15 @@ class Image:
         for library in libraries_of(source):
             self.put(library, str(library))
 
-    def make(self) -> "Image":
+    def prepare(self) -> "Image":
+        """What it has without Debian's packages: the scripts with what is planted in them."""
         for name in FOLDERS.split():
             (self.tree / name).mkdir(parents=True, exist_ok=True)
+        self.put_scripts()
+        return self
+
+    def make(self) -> "Image":
+        self.prepare()
         self.put(Path("/bin/busybox"), "bin/busybox")
         for number, module in enumerate(self.packages.modules()):
             self.put(module, f"modules/{number:02}-{module.name}")
@@ -154,7 +160,6 @@ class Image:
                 self.put(path, str(path), 0o644)
         (self.tree / "usr/bin/python3").symlink_to("python3.11")
         (self.tree / "usr/bin/env").symlink_to("/bin/busybox")
-        self.put_scripts()
         return self.pack()
 
     def put_scripts(self) -> None:

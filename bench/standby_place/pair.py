@@ -46,12 +46,13 @@ def resource_text(times: float) -> str:
 
 
 def image_of(
-    packages: Packages, folder: Path, programs: list[Path], times: float, edits: Iterable[Edit] = ()
+    packages: Packages, folder: Path, programs: list[Path], times: float, edits: Iterable[Edit] = (), is_made=True
 ) -> Image:
     """The first file system of both guests. The first of the server's programs runs, the last is the newer one."""
     named = {"station-1": programs[0], "station-2": programs[-1]}
     texts = {"etc/drbd.d/station.res": resource_text(times), "etc/station/site.toml": site_text()}
-    return Image(packages, folder, named, texts, edits).make()
+    image = Image(packages, folder, named, texts, edits)
+    return image.make() if is_made else image.prepare()
 
 
 class Pair:
