@@ -1,4 +1,4 @@
-"""What each program of deploy answers to --help, and that it leaves no bytecode beside itself."""
+"""What each program of deploy answers to --help, and that it leaves no bytecode beside itself: root runs it there."""
 
 import os
 import shutil
@@ -24,12 +24,12 @@ def test_there_are_programs():
 @pytest.mark.parametrize("program", PROGRAMS, ids=lambda path: str(path.relative_to(DEPLOY)))
 def test_help_leaves_no_bytecode(program: Path, tmp_path: Path) -> None:
     for folder in ("deploy", "clients/python/wanekupo"):
-        ignored = shutil.ignore_patterns("__pycache__", "tests")
-        shutil.copytree(DEPLOY.parent / folder, tmp_path / folder, ignore=ignored)
+        left = shutil.ignore_patterns("__pycache__", "tests")
+        shutil.copytree(DEPLOY.parent / folder, tmp_path / folder, ignore=left)
     its = tmp_path / program.relative_to(DEPLOY.parent)
     environment = {name: text for name, text in os.environ.items() if name != "PYTHONDONTWRITEBYTECODE"}
     words = [sys.executable, str(its), "--help"]
-    done = subprocess.run(words, env=environment, stdin=subprocess.DEVNULL, capture_output=True, text=True, timeout=60)
+    done = subprocess.run(words, env=environment, stdin=subprocess.DEVNULL, capture_output=True, text=True)
     assert (done.returncode, done.stderr) == (0, "")
     assert len(done.stdout) > 40
     assert list(tmp_path.rglob("__pycache__")) == []
