@@ -6,8 +6,8 @@
                                  "snapshot_size"} of the last one that made a snapshot
     backup.lock                  one run at a time has it
     .new-2026-11-29T020000Z      what a run has begun, and the next one removes
-    trial.N, tried-by-site.N     a copy that deploy/restart or deploy/site tries; an hour old, it was left by a kill,
-                                 and the next backup removes it
+    trial.N, tried-by-site.N     a copy that the restart or the site of a version before tried; an hour old, it was left
+                                 by a kill, and the next backup removes it
 """
 
 import contextlib
