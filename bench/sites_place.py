@@ -48,10 +48,14 @@ esac
 """
 
 COUNTER = r"""
-import os, signal, sys
+import fcntl, os, signal, sys
 _first = int(os.environ.setdefault("KILL_FIRST", str(os.getpid())))
-_at, _count = int(os.environ["KILL_AT"]), os.open(os.environ["KILL_COUNT"], os.O_WRONLY | os.O_APPEND)
-_started = os.open(os.environ["KILL_COUNT"] + ".words", os.O_WRONLY | os.O_APPEND)
+# High, as a process of the store user's has others at its lowest descriptors, and none of these.
+_count, _started = (
+    fcntl.fcntl(os.open(os.environ["KILL_COUNT"] + it, os.O_WRONLY | os.O_APPEND), fcntl.F_DUPFD_CLOEXEC, 100)
+    for it in ("", ".words")
+)
+_at = int(os.environ["KILL_AT"])
 _WRITES = os.O_WRONLY | os.O_RDWR | os.O_CREAT
 _DEEDS = {"os.rename", "os.remove", "os.mkdir", "os.rmdir", "os.chmod", "os.chown", "subprocess.Popen"}
 
@@ -61,9 +65,12 @@ def _counted(event, args):
             return
     elif event not in _DEEDS:
         return
-    if event == "subprocess.Popen":
-        os.write(_started, (repr(args[1]) + "\n").encode())
-    os.write(_count, b"x")
+    try:
+        if event == "subprocess.Popen":
+            os.write(_started, (repr(args[1]) + "\n").encode())
+        os.write(_count, b"x")
+    except OSError:
+        return
     if os.fstat(_count).st_size == _at:
         os.killpg(_first, signal.SIGKILL)
         os.kill(os.getpid(), signal.SIGKILL)

@@ -13,7 +13,7 @@ LIVES, LET = "This machine has tokens that {} didn't let in so: a1:1.", "may ask
 
 def typed(place: Place, guest: Guest, words: str) -> str:
     """A command of the tokens' tool that has to do what it says."""
-    status, said = guest.run(f"{TOKEN} {words}", 120)
+    status, said = guest.run(f"{TOKEN} {words}", 400)
     place.tell(f"{guest.name}: token {words}: status {status}: {said.strip()}")
     place.expect(status == 0, f"token {words}: status {status}: {said}")
     return said

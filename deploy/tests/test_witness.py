@@ -1,6 +1,9 @@
 """A takeover's comparison with the witness, by docs/how-to/standby.md; and what a resource of DRBD has to keep."""
 
-from datetime import datetime, timezone
+import re
+import tomllib
+from datetime import datetime, timedelta, timezone
+from pathlib import Path
 
 import pytest
 from half import Refused
@@ -100,6 +103,13 @@ def test_witnesses_of_files_and_commands_are_one(tmp_path):
     two.write_text(at(NOW) + "seat b1 4\nseat a1 3\n")
     found = gathered([str(one)], [f"cat {two}"], None)
     assert found == {"a1": Reply(17, f"{one}, line 2"), "b1": Reply(4, f"`cat {two}`, line 2")}
+
+
+def test_seats_that_only_look_as_the_page_has_them():
+    page = (Path(__file__).resolve().parents[2] / "docs/how-to/standby.md").read_text(encoding="utf-8")
+    (command,) = re.findall(r'`"(date -u [^"]*)"`', page)
+    found = gathered([], [tomllib.loads(f'it = "{command}"')["it"]], NOW - timedelta(seconds=1))
+    assert {seat: reply.number for seat, reply in found.items()} == {"health": 0, "restore-acme": 0}
 
 
 WRONG = [
