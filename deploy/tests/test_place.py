@@ -242,3 +242,12 @@ def test_copy_running(monkeypatch, capsys, status, err, kind, told):
     assert calls == [[str(DEPLOY / "backup"), "--trial", "--db", "/d/books.db", "--into", "/b",
         *(["--snapshot", kind] if kind else []),
                       "/room/store"]]  # fmt: skip
+
+
+def test_the_store_is_there(place, monkeypatch, tmp_path):
+    sizes = []
+    monkeypatch.setattr(places, "Store", lambda db: SimpleNamespace(db=db, size=lambda: sizes.append(db), user="USER"))
+    monkeypatch.setattr(places, "newest_backup", lambda user, folder: (user, folder))
+    del place.store
+    assert place.user == "USER" and sizes == [tmp_path / "books.db"] and place.newest_backup() == ("USER",
+        tmp_path / "b")

@@ -286,3 +286,8 @@ def test_wrong_words(capsys, text):
     with pytest.raises(SystemExit) as error:
         restart.words().parse_args(text.split())
     assert error.value.code == 2
+
+
+def test_a_signal_is_an_error():
+    with pytest.raises(restart.NoRestartError, match="stopped by a signal"):
+        restart.stopped(15, None)

@@ -8,6 +8,7 @@ import sys
 
 import pytest
 import token_file
+from half import Settings
 from scripts import script
 from token_file import Outer, Seat, TokenError, Tokens, put, read, text_of, tokens_of
 
@@ -453,3 +454,35 @@ def test_wrong_words(text, capsys):
     with pytest.raises(SystemExit) as error:
         token.parser().parse_args(text.split())
     assert error.value.code == 2
+
+
+@pytest.mark.parametrize("is_mounted, left, told, status", [
+    (True, None, "", None), (False, None, "the store isn't mounted here", None), (True, "frozen", "", 6),
+])  # fmt: skip
+def test_one_of_two_machines(file, tmp_path, monkeypatch, capsys, is_mounted, left, told, status):
+    """The other one is told by the volume; a change that nginx didn't read either keeps its own status."""
+    monkeypatch.setattr(token, "SETTINGS", tmp_path)
+    monkeypatch.setattr(token, "read_settings", lambda: Settings(tokens=str(file)))
+    monkeypatch.setattr(token.Half, "is_mounted", lambda it: is_mounted)
+
+    def leave(half, tokens):
+        if left:
+            raise token.Refused(left)
+
+    monkeypatch.setattr(token.living, "leave", leave)
+    missed = token.left_to_the_other(file, seats())
+    assert (missed and missed.status) == status and told in capsys.readouterr().err
+    put(file, text_of(seats()))
+    monkeypatch.setattr(token, "commit", lambda *_: TokenError(5, "no worker"))
+    with pytest.raises(TokenError, match="no worker" + ("\n.*frozen" if left else "")) as error:
+        token.run(words(file, "add", "a1"))
+    assert error.value.status == 5
+
+
+def test_on_one_machine_alone_nothing_is_left(file, tmp_path, monkeypatch):
+    monkeypatch.setattr(token.living, "leave", lambda *_: pytest.fail("left"))
+    monkeypatch.setattr(token.Half, "is_mounted", lambda it: True)
+    for settings, tokens in ((tmp_path / "none", file), (tmp_path, tmp_path / "other.conf")):
+        monkeypatch.setattr(token, "SETTINGS", settings)
+        monkeypatch.setattr(token, "read_settings", lambda tokens=tokens: Settings(tokens=str(tokens)))
+        assert token.left_to_the_other(file, seats()) is None
