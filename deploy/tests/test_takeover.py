@@ -319,7 +319,8 @@ def left(monkeypatch, tmp_path, now, error=None):
     own.folder = tmp_path
     user = SimpleNamespace(call=lambda call: calls.append("as the user") or call())
     handle = os.open(tmp_path, os.O_RDONLY)
-    monkeypatch.setattr(living, "Store", lambda db: {tmp_path / "books.db": SimpleNamespace(user=user, handle=handle)}[db])
+    monkeypatch.setattr(living, "Store", lambda db: {tmp_path / "books.db": SimpleNamespace(user=user,
+        handle=handle)}[db])
     monkeypatch.setattr(living, "living", lambda tokens: ["a", "b"])
 
     def put_whole(path, text):
