@@ -47,9 +47,10 @@ def test_a_text_as_it_is(tmp_path, data, text):
 
 
 def test_the_line_of_what_is_no_text(tmp_path):
-    (tmp_path / "f").write_bytes(b"a\nb\nc\xff")
-    with pytest.raises(TokenError, match=r"f:3: a byte that is no UTF-8"):
-        text_in(tmp_path / "f")
+    for data, line in ((b"a\nb\nc\xff", 3), (b"\n\xff\n", 2), (b"\xff", 1)):
+        (tmp_path / "f").write_bytes(data)
+        with pytest.raises(TokenError, match=f"f:{line}: a byte that is no UTF-8"):
+            text_in(tmp_path / "f")
 
 
 def test_names(place, tmp_path):

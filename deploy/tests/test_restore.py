@@ -10,6 +10,7 @@ from pathlib import Path
 from types import SimpleNamespace
 
 import pytest
+import restore_journals
 from backup_copy import BackupError
 from restore_plan import RestoreError
 from scripts import script
@@ -229,7 +230,7 @@ def test_no_backup_no_store(monkeypatch, tmp_path, place):
 # ---- the order
 
 
-def test_all_steps(monkeypatch, tmp_path):
+def test_all_steps(monkeypatch, tmp_path, capsys):
     place = FakePlace(tmp_path, lost=tmp_path / "lost-1/books.db")
     acme, bolt = SimpleNamespace(name="acme"), SimpleNamespace(name="bolt")
     given = {}
@@ -257,6 +258,8 @@ def test_all_steps(monkeypatch, tmp_path):
     assert given["replay"][-1] == [acme], "a customer who is left out gets nothing back"
     assert given["number_gaps"][0] == [acme] and given["number_gaps"][3] == {"a7", "b3"}
     assert given["end"][2] == ["gap", "row"]
+    told = capsys.readouterr().out
+    assert "the backup of T: orders 2" in told and f"what was there is in {tmp_path / 'lost-1'}" in told
 
 
 def test_a_run_that_was_cut_at_the_end_goes_on_there(monkeypatch, tmp_path):
@@ -375,6 +378,11 @@ def test_replay(monkeypatch, tmp_path, place, capsys):
     assert "acme: by the seat acme1: orders 2, scrapped 2, shipped 1; left 1" in capsys.readouterr().out
     with pytest.raises(RestoreError, match="doesn't open what it restored"):
         replayed(monkeypatch, tmp_path, place, [customer("acme")], opens=False)
+
+
+def test_a_folder_that_cannot_be_read_may_have_a_journal():
+    with pytest.raises(RestoreError, match="can't read /j/b1"):
+        restore_journals._unread(PermissionError(13, "Permission denied", "/j/b1"))
 
 
 def test_gather(monkeypatch, tmp_path, capsys):
