@@ -278,6 +278,15 @@ def test_what_a_child_tells(monkeypatch, said, status, told):
     store_user.signal.pthread_sigmask(store_user.signal.SIG_UNBLOCK, store_user.STOPS)
 
 
+def test_where_no_process_can_be_made_signals_come_again(monkeypatch):
+    monkeypatch.setattr(store_user.os, "geteuid", lambda: 0)
+    monkeypatch.setattr(store_user.os, "fork", lambda: (_ for _ in ()).throw(OSError(11, "again")))
+    store_user.signal.pthread_sigmask(store_user.signal.SIG_UNBLOCK, store_user.STOPS)
+    with pytest.raises(OSError):
+        USER.call(lambda: pytest.fail("as root"))
+    assert not store_user.signal.pthread_sigmask(store_user.signal.SIG_BLOCK, ()) & set(store_user.STOPS)
+
+
 # ---- the store
 
 
@@ -336,5 +345,6 @@ def test_a_room_is_roots_and_goes(tmp_path, monkeypatch):
         raise ValueError
     assert removed == [own.parent]
     removed.clear()
+    before = len(os.listdir("/proc/self/fd"))
     assert store_user.clear_rooms(tmp_path) == [own.parent.name], "one that nobody holds goes"
-    assert removed == [own.parent]
+    assert removed == [own.parent] and len(os.listdir("/proc/self/fd")) == before
