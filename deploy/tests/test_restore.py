@@ -319,6 +319,14 @@ def test_the_defaults(monkeypatch):
     assert not args.accept_missing and args.without == "" and args.stop == "" and args.backups is None
 
 
+def test_journals_by_whole_paths(monkeypatch, tmp_path):
+    """As another user, and in another folder: acme=PATH is a customer's, but where a file has that very name."""
+    monkeypatch.chdir(tmp_path)
+    (tmp_path / "a=b").write_text("")
+    found = restore.absolute(["acme=x/j", "j.journal", "a=b", "/abs"])
+    assert found == [f"acme={tmp_path}/x/j", f"{tmp_path}/j.journal", f"{tmp_path}/a=b", "/abs"]
+
+
 # ---- root's part
 
 

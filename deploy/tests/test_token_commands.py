@@ -245,6 +245,23 @@ def test_a_seat_into_a_site_file(file, tmp_path):
     assert (tmp_path / "new.toml").read_text() == text + seat
 
 
+@pytest.mark.parametrize("mode, is_fit", [(0o700, True), (0o755, True), (0o711, True), (0o775, False), (0o757, False)])
+def test_a_folder_that_others_write_is_refused(file, mode, is_fit):
+    """Whoever may write there may be every caller; who may pass through it reads no token."""
+    file.parent.chmod(mode)
+    if is_fit:
+        assert done(file, "seat", "a1", "--customer", "acme").seats
+    else:
+        with pytest.raises(TokenError, match="others may write it"):
+            done(file, "seat", "a1", "--customer", "acme")
+    file.parent.chmod(0o700)
+
+
+def test_titles():
+    found = [Seat("a1", "acme", "x").title(), Seat("@manager", "@manager", "x").title(), Seat("@b", "@b", "x").title()]
+    assert found == ["the seat a1 of acme", "the manager's seat @manager", "the manager's seat @b"]
+
+
 # ---- outer tokens
 
 

@@ -8,33 +8,12 @@ from types import SimpleNamespace
 
 import pytest
 import store_user
-from store_user import Store, StoreUser, UserError, opened, read_small, shown, user_named, user_of
+from store_user import Store, StoreUser, UserError, opened, user_named
 
 USER = StoreUser("station", 4242, 4243, "/home/station")
 
 
-@pytest.mark.parametrize("text, harmless", [("a\x1b[2Jb\r\n", "a?[2Jb?\n"), ("\x9b\x07é", "??é"), ("a\tb\nc",
-    "a?b\nc"), ("\u202e", "?")])
-def test_no_control_character_reaches_a_terminal(text, harmless):
-    assert shown(text) == harmless
-
-
 # ---- folders and files
-
-
-def test_a_folder_by_a_path_without_links(tmp_path, monkeypatch):
-    monkeypatch.setattr(store_user, "_held", lambda *_: None)
-    (tmp_path / "real/deep").mkdir(parents=True)
-    (tmp_path / "link").symlink_to(tmp_path / "real")
-    (tmp_path / "file").write_text("")
-    handle = opened(tmp_path / "real/deep")
-    assert os.fstat(handle).st_ino == (tmp_path / "real/deep").stat().st_ino
-    os.close(handle)
-    for name in ("link", "link/deep", "file", "file/deep"):
-        with pytest.raises(UserError, match="is a link, or no folder"):
-            opened(tmp_path / name)
-    with pytest.raises(UserError, match="there is no folder"):
-        opened(tmp_path / "none/deep")
 
 
 def test_no_descriptor_is_left(tmp_path, monkeypatch):
@@ -50,19 +29,6 @@ def of(user, mode):
     return SimpleNamespace(st_uid=user, st_mode=mode | stat.S_IFDIR)
 
 
-@pytest.mark.parametrize("above, below, is_held", [
-    (of(0, 0o755), of(7, 0o700), True), (of(7, 0o700), of(7, 0o700), True), (of(0, 0o1777), of(7, 0o700), True),
-    (of(0, 0o1777), of(0, 0o700), True), (of(8, 0o755), of(7, 0o700), False), (of(0, 0o775), of(7, 0o700), False),
-    (of(0, 0o757), of(7, 0o700), False), (of(0, 0o1777), of(8, 0o700), False), (of(8, 0o1777), of(7, 0o700), False),
-])  # fmt: skip
-def test_nobody_else_puts_another_folder_in_its_place(tmp_path, above, below, is_held):
-    if is_held:
-        store_user._held(tmp_path, above, below, {0, 7})
-    else:
-        with pytest.raises(UserError, match="can put another folder in the place of"):
-            store_user._held(tmp_path, above, below, {0, 7})
-
-
 @pytest.mark.parametrize("user, is_looked", [(0, True), (1000, False)])
 def test_root_looks_at_each_component(tmp_path, monkeypatch, user, is_looked):
     """The holders are root and the owner of the last folder."""
@@ -76,23 +42,6 @@ def test_root_looks_at_each_component(tmp_path, monkeypatch, user, is_looked):
     assert seen == ([(it, {0, owner}) for it in expected] if is_looked else [])
 
 
-def test_a_small_file(tmp_path):
-    (tmp_path / "f").write_bytes(b"12345")
-    assert read_small(tmp_path / "f", most=5) == b"12345"
-    with pytest.raises(UserError, match="more than 4 bytes"):
-        read_small(tmp_path / "f", most=4)
-    (tmp_path / "link").symlink_to(tmp_path / "f")
-    with pytest.raises(OSError):
-        read_small(tmp_path / "link")
-    for make, name in ((os.mkfifo, "pipe"), (os.mkdir, "folder")):
-        make(tmp_path / name)
-        with pytest.raises((UserError, OSError)):
-            read_small(tmp_path / name)
-    handle = os.open(tmp_path, os.O_RDONLY)
-    assert read_small(store_user.Path("f"), handle) == b"12345"
-    os.close(handle)
-
-
 # ---- the user
 
 
@@ -101,20 +50,6 @@ def folder_of(monkeypatch, owner, own, named=True):
         "geteuid": lambda: own}))
     monkeypatch.setattr(store_user.pwd, "getpwuid", lambda number: SimpleNamespace(
         pw_name="station", pw_uid=number, pw_gid=4243, pw_dir="/home/station") if named else {}[number])  # fmt: skip
-
-
-@pytest.mark.parametrize("owner, own, named, told", [
-    (4242, 0, True, ""), (4242, 4242, True, ""), (0, 0, True, "is root's"), (0, 4242, True, "is root's"),
-    (4242, 4244, True, "another user's"),
-    (4242, 0, False, "a user without a name"),
-])  # fmt: skip
-def test_whose_a_folder_is(tmp_path, monkeypatch, owner, own, named, told):
-    folder_of(monkeypatch, owner, own, named)
-    if told:
-        with pytest.raises(UserError, match=told):
-            user_of(3, tmp_path)
-    else:
-        assert user_of(3, tmp_path) == USER
 
 
 @pytest.mark.parametrize("name, number, told", [("station", 4242, ""), ("root", 0, "who is root"), ("toor", 0,
@@ -305,20 +240,6 @@ def test_the_sizes_of_a_store(store):
     before = len(os.listdir("/proc/self/fd"))
     store.size()
     assert len(os.listdir("/proc/self/fd")) == before
-
-
-@pytest.mark.parametrize("kind", ["gone", "link", "folder", "pipe", "another's"])
-def test_what_is_no_file_of_the_users_is_no_store(store, tmp_path, kind):
-    path = tmp_path / "books.db"
-    if kind == "another's":
-        store.user.number += 1
-    else:
-        path.unlink()
-        {"link": lambda: path.symlink_to(tmp_path / "books.db-wal"), "folder": path.mkdir,
-            "pipe": lambda: os.mkfifo(path),
-         "gone": lambda: None}[kind]()  # fmt: skip
-    with pytest.raises(UserError, match="there is no store|is no plain file of station"):
-        store.size()
 
 
 # ---- rooms
