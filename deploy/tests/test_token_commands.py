@@ -81,21 +81,19 @@ def test_forms(form, text, is_one):
 # ---- nginx
 
 
-@pytest.mark.parametrize("command, answer", [
-    ("true", (True, "")), ("false", (False, "why")), ("gone", (False, "[Errno 2] No such file")),
-])  # fmt: skip
-def test_ran(monkeypatch, command, answer):
+@pytest.mark.parametrize("command, is_fine, told", [("true", True, ""), ("false", False, "why"), ("gone", False, "gone")])
+def test_ran(monkeypatch, command, is_fine, told):
     calls = []
 
     def run(words, **more):
         calls.append((words, more["stdin"]))
         if words[0] == "gone":
-            raise FileNotFoundError(2, "No such file")
-        return subprocess.CompletedProcess(words, words[0] == "false", "", "why\n" if words[0] == "false" else "")
+            raise FileNotFoundError(2, "No such file", "gone")
+        return subprocess.CompletedProcess(words, int(not is_fine), "", f"{told}\n")
 
     monkeypatch.setattr(token.subprocess, "run", run)
-    assert token.ran(f"{command} -a 'b c'") == answer
-    assert calls == [([command, "-a", "b c"], subprocess.DEVNULL)]
+    found, said = token.ran(f"{command} -a 'b c'")
+    assert (found, told in said) == (is_fine, True) and calls == [([command, "-a", "b c"], subprocess.DEVNULL)]
 
 
 def process(folder, number, title, parent):
