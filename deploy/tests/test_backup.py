@@ -487,3 +487,11 @@ def test_main(monkeypatch, calls, capsys, text, missing, error, status, is_noted
     assert signals == {number: backup.ended for number in (signal.SIGTERM, signal.SIGINT, signal.SIGHUP)}
     assert ("noted" in heads(calls)) == is_noted and (status == 0 or "backup: " in capsys.readouterr().err)
     assert ("run" in heads(calls)) == (not missing or "--clean" in text)
+
+
+def test_the_numbers_of_a_copy_are_printed(monkeypatch, tmp_path, capsys):
+    seen = []
+    monkeypatch.setattr(backup, "copy_store", lambda *words: seen.append(words) or ["orders 1", "seat a1 2"])
+    backup.copy(args_of(tmp_path, snapshot="lvm"), "/snap/books.db", tmp_path / "x")
+    assert seen == [("/bin/P", "/s.toml", "/snap/books.db", tmp_path / "x", "lvm")]
+    assert capsys.readouterr().out == "orders 1\nseat a1 2\n"

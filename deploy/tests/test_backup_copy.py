@@ -35,6 +35,8 @@ class Machine:
 
     def run(self, words, **more):
         self.calls.append((list(map(str, words)), more))
+        if more.get("check") and (self.status or self.opens):
+            raise subprocess.CalledProcessError(1, words)
         if words[0] == "sqlite3":
             said = self.prints.get(Path(words[-2]).parent.name, self.prints.get("", COUNTS))
             return subprocess.CompletedProcess(words, self.status, said, "Error: why\n" if self.status else "")

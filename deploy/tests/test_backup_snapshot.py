@@ -97,16 +97,15 @@ def test_a_command_that_fails(machine, said, told):
 
 
 def test_a_signal_waits_for_a_command(monkeypatch):
-    seen = []
-    monkeypatch.setattr(backup_snapshot.subprocess, "run", lambda *_,
-        **more: seen.append(signal.pthread_sigmask(signal.SIG_BLOCK, ())))
-    before = signal.pthread_sigmask(signal.SIG_BLOCK, ())
+    seen, stops = [], {signal.SIGTERM, signal.SIGINT, signal.SIGHUP}
+    blocked = lambda: signal.pthread_sigmask(signal.SIG_BLOCK, ())
+    monkeypatch.setattr(backup_snapshot.subprocess, "run", lambda *_, **more: seen.append(blocked()))
+    signal.pthread_sigmask(signal.SIG_UNBLOCK, stops)
     backup_snapshot.called("x")
-    assert seen[0] >= {signal.SIGTERM, signal.SIGINT, signal.SIGHUP}
-    assert signal.pthread_sigmask(signal.SIG_BLOCK, ()) == before
+    assert seen[0] >= stops and not blocked() & stops
     with pytest.raises(ValueError), backup_snapshot.whole():
         raise ValueError
-    assert signal.pthread_sigmask(signal.SIG_BLOCK, ()) == before, "also behind an error"
+    assert not blocked() & stops, "also behind an error"
 
 
 def test_mounted_at(machine):

@@ -1,5 +1,6 @@
 """The folder of backups: what goes and what stays, what an encryption leaves, and what is said of the last backup."""
 
+import contextlib
 import json
 import os
 import stat
@@ -11,6 +12,8 @@ from types import SimpleNamespace
 
 import backup_kept
 import pytest
+import token_file
+import whole_file
 from backup_copy import BackupError
 from backup_kept import copy_off, encrypted, last_snapshot, new_name, note, placed, remove, remove_begun, tidy
 
@@ -116,6 +119,31 @@ def test_a_name_that_no_backup_has(tmp_path, monkeypatch):
     put(tmp_path / "2026-11-29T020001Z/file")
     put(tmp_path / "2026-11-29T020002Z.tar.age")
     assert new_name(tmp_path) == "2026-11-29T020003Z"
+
+
+@pytest.mark.parametrize("patience, is_had", [(0, False), (2, False), (5, True)])
+def test_a_lock_is_waited_for(tmp_path, monkeypatch, patience, is_had):
+    """Another run has it until the fourth look, one a second."""
+    looks, moments = iter(range(100)), iter(range(100))
+
+    def flock(handle, what):
+        if next(looks) < 3:
+            raise BlockingIOError
+
+    monkeypatch.setattr(whole_file.fcntl, "flock", flock)
+    monkeypatch.setattr(whole_file.time, "monotonic", lambda: next(moments))
+    monkeypatch.setattr(whole_file.time, "sleep", lambda _: None)
+    with contextlib.nullcontext() if is_had else pytest.raises(BackupError, match="busy"):
+        with whole_file.held(tmp_path / "lock", BackupError("busy"), patience):
+            assert is_had
+
+
+def test_a_file_that_goes_is_synced(tmp_path, monkeypatch):
+    synced = []
+    monkeypatch.setattr(token_file, "sync", lambda path: synced.append((path, os.listdir(path))))
+    put(tmp_path / "f")
+    token_file.put(tmp_path / "f", None)
+    assert synced == [(tmp_path, [])]
 
 
 # ---- encryption

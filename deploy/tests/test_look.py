@@ -204,6 +204,11 @@ def test_the_contents_of_a_half(monkeypatch, own, tmp_path):
     assert sqlite3[:4] == ("sqlite3", "-safe", "-readonly", "books.db")
     with pytest.raises(OSError):
         os.fstat(store.handle)
+    store.handle, store.user = os.open(tmp_path, os.O_RDONLY), SimpleNamespace(number=8)
+    user.calls.clear()
+    with pytest.raises(Refused, match="of number 8"):
+        look.contents(own)
+    assert user.calls == [], "nothing is done as a user who isn't the store's"
 
 
 def test_another_number_of_the_user(monkeypatch, own):

@@ -11,7 +11,7 @@ import store_copy
 from conftest import DEPLOY
 from site_tool import place as places
 from site_tool.place import Place, text_in, written
-from store_copy import Backup, NoCopyError, copy_files, copy_running, newest_in
+from store_copy import Backup, NoCopyError, copy_files, copy_running
 from token_file import TokenError
 
 
@@ -47,9 +47,10 @@ def test_a_text_as_it_is(tmp_path, data, text):
 
 
 def test_the_line_of_what_is_no_text(tmp_path):
-    (tmp_path / "f").write_bytes(b"a\nb\nc\xff")
-    with pytest.raises(TokenError, match=r"f:3: a byte that is no UTF-8"):
-        text_in(tmp_path / "f")
+    for data, line in ((b"a\nb\nc\xff", 3), (b"\n\xff\n", 2), (b"\xff", 1)):
+        (tmp_path / "f").write_bytes(data)
+        with pytest.raises(TokenError, match=f"f:{line}: a byte that is no UTF-8"):
+            text_in(tmp_path / "f")
 
 
 def test_names(place, tmp_path):
@@ -182,30 +183,7 @@ def whole(name, time, store=5, log=3, more=()):
     return [f"d 4096 {time}.5 {name}", *(f"f {size} {time}.5 {name}/{file}" for file, size in files.items())]
 
 
-NEW, OLD = whole("2026-02", 200), whole("2026-03", 100)
-
-
-@pytest.mark.parametrize("rows, newest", [
-    ([], None), (NEW + OLD, Backup(Path("/b/2026-02"), 8, False)), (OLD + NEW, Backup(Path("/b/2026-02"), 8, False)),
-    ([*OLD, "f 7 300.0 x.tar.age"], Backup(Path("/b/x.tar.age"), 0, True)),
-    ([*NEW, "f 7 100.0 x.tar.age"], Backup(Path("/b/2026-02"), 8, False)),
-    ([*OLD, "f 0 300.0 x.tar.age"], Backup(Path("/b/2026-03"), 8, False)),
-    ([*OLD, "f 7 300.0 x.tar"], Backup(Path("/b/2026-03"), 8, False)),
-    ([*OLD, "f 7 300.0 .new-x.tar.age"], Backup(Path("/b/2026-03"), 8, False)),
-    ([*OLD, *whole(".new-1", 300)], Backup(Path("/b/2026-03"), 8, False)),
-    ([*OLD, *whole("half", 300)[:-1]], Backup(Path("/b/2026-03"), 8, False)),
-    ([*OLD, *whole("e", 300, log=0)], Backup(Path("/b/2026-03"), 8, False)),
-    ([*OLD, *whole("tried", 300), "d 4096 1.0 tried/trial"], Backup(Path("/b/2026-03"), 8, False)),
-    ([*OLD, *whole("a\x1bb", 300)], Backup(Path("/b/2026-03"), 8, False)),
-    ([*OLD, "l 7 300.0 x.tar.age"], Backup(Path("/b/2026-03"), 8, False)),
-    (whole("a b", 300), Backup(Path("/b/a b"), 8, False)),
-    ([*OLD, *whole("../x", 300)], Backup(Path("/b/2026-03"), 8, False)),
-    ([*OLD, "f 7 300.0 d/x.tar.age"], Backup(Path("/b/2026-03"), 8, False)),
-    ([it.replace("f ", "l ") for it in NEW], None),
-])  # fmt: skip
-def test_newest_in(rows, newest):
-    """By its time, and whole: what is begun, tried, empty, a link or of a strange name is none."""
-    assert newest_in(listing(*rows), Path("/b")) == newest
+NEW = whole("2026-02", 200)
 
 
 def test_newest_backup():
@@ -242,3 +220,12 @@ def test_copy_running(monkeypatch, capsys, status, err, kind, told):
     assert calls == [[str(DEPLOY / "backup"), "--trial", "--db", "/d/books.db", "--into", "/b",
         *(["--snapshot", kind] if kind else []),
                       "/room/store"]]  # fmt: skip
+
+
+def test_the_store_is_there(place, monkeypatch, tmp_path):
+    sizes = []
+    monkeypatch.setattr(places, "Store", lambda db: SimpleNamespace(db=db, size=lambda: sizes.append(db), user="USER"))
+    monkeypatch.setattr(places, "newest_backup", lambda user, folder: (user, folder))
+    del place.store
+    assert place.user == "USER" and sizes == [tmp_path / "books.db"] and place.newest_backup() == ("USER",
+        tmp_path / "b")

@@ -10,6 +10,7 @@ from pathlib import Path
 from types import SimpleNamespace
 
 import pytest
+import restore_journals
 from backup_copy import BackupError
 from restore_plan import RestoreError
 from scripts import script
@@ -229,7 +230,7 @@ def test_no_backup_no_store(monkeypatch, tmp_path, place):
 # ---- the order
 
 
-def test_all_steps(monkeypatch, tmp_path):
+def test_all_steps(monkeypatch, tmp_path, capsys):
     place = FakePlace(tmp_path, lost=tmp_path / "lost-1/books.db")
     acme, bolt = SimpleNamespace(name="acme"), SimpleNamespace(name="bolt")
     given = {}
@@ -257,6 +258,8 @@ def test_all_steps(monkeypatch, tmp_path):
     assert given["replay"][-1] == [acme], "a customer who is left out gets nothing back"
     assert given["number_gaps"][0] == [acme] and given["number_gaps"][3] == {"a7", "b3"}
     assert given["end"][2] == ["gap", "row"]
+    told = capsys.readouterr().out
+    assert "the backup of T: orders 2" in told and f"what was there is in {tmp_path / 'lost-1'}" in told
 
 
 def test_a_run_that_was_cut_at_the_end_goes_on_there(monkeypatch, tmp_path):
@@ -316,6 +319,14 @@ def test_the_defaults(monkeypatch):
     assert not args.accept_missing and args.without == "" and args.stop == "" and args.backups is None
 
 
+def test_journals_by_whole_paths(monkeypatch, tmp_path):
+    """As another user, and in another folder: acme=PATH is a customer's, but where a file has that very name."""
+    monkeypatch.chdir(tmp_path)
+    (tmp_path / "a=b").write_text("")
+    found = restore.absolute(["acme=x/j", "j.journal", "a=b", "/abs"])
+    assert found == [f"acme={tmp_path}/x/j", f"{tmp_path}/j.journal", f"{tmp_path}/a=b", "/abs"]
+
+
 # ---- root's part
 
 
@@ -338,3 +349,61 @@ def test_root_reads_the_tokens_and_stops_the_server_before_it_becomes_another(mo
     calls.clear()
     restore.run(args_of(tmp_path))
     assert "stop" not in calls and calls[-2:] == [("server", 880), "as the user"]
+
+
+# ---- what the journals bring back
+
+
+def customer(name, journals=("j",)):
+    return SimpleNamespace(name=name, seat=f"{name}1", token="T", journals=list(journals), asked=["requests"])
+
+
+def replayed(monkeypatch, tmp_path, place, customers, opens=True):
+    calls = []
+
+    @contextlib.contextmanager
+    def station(url, token, state, journal, closes_journal):
+        calls.append((url, token, state.name, journal, closes_journal))
+        yield "STATION"
+
+    monkeypatch.setattr(restore, "served",
+        lambda *words: calls.append(("served", *words)) or contextlib.nullcontext("URL"))
+    monkeypatch.setattr(restore, "Journal", lambda path, seat: (path.name, seat))
+    monkeypatch.setattr(restore, "Station", station)
+    monkeypatch.setattr(restore, "Progress", lambda name: contextlib.nullcontext(name))
+    monkeypatch.setattr(restore, "restore_requests", lambda it, asked, told: calls.append((it, asked, told)) or {
+        "orders": 2, "left": {"c1": ("ready", "blank")}, "scrapped": [1, 2], "shipped": [3]})  # fmt: skip
+    monkeypatch.setattr(restore, "opened_by", lambda program, site, db: calls.append(("opened", db)) or opens)
+    return restore.replay(args_of(tmp_path), place, customers), calls
+
+
+def test_replay(monkeypatch, tmp_path, place, capsys):
+    """Each customer by a seat of its own, over the restored files; the program opens what comes of it."""
+    left, calls = replayed(monkeypatch, tmp_path, place, [customer("acme"), customer("bolt", ()), customer("cog")])
+    assert left == {name: {"c1": ("ready", "blank")} for name in ("acme", "cog")}
+    assert calls[0] == ("served", "P", tmp_path / "site.toml", place.made) and calls[-1] == ("opened", place.made)
+    assert calls[1] == ("URL", "T", "acme1.json", ("acme1.journal", "acme1"), True) and len(calls) == 6
+    assert "acme: by the seat acme1: orders 2, scrapped 2, shipped 1; left 1" in capsys.readouterr().out
+    with pytest.raises(RestoreError, match="doesn't open what it restored"):
+        replayed(monkeypatch, tmp_path, place, [customer("acme")], opens=False)
+
+
+def test_a_folder_that_cannot_be_read_may_have_a_journal():
+    with pytest.raises(RestoreError, match="can't read /j/b1"):
+        restore_journals._unread(PermissionError(13, "Permission denied", "/j/b1"))
+
+
+def test_gather(monkeypatch, tmp_path, capsys):
+    calls = []
+    acme, bolt = customer("acme"), customer("bolt")
+    monkeypatch.setattr(restore, "sources_of", lambda *words: calls.append(words) or "SOURCES")
+    monkeypatch.setattr(restore, "take_journals", lambda *words: calls.append(words))
+    monkeypatch.setattr(restore, "choose_seats", lambda *words: calls.append(words) or ["acme has a station"])
+    monkeypatch.setattr(restore, "asked_of", lambda it: [it.name])
+    monkeypatch.setattr(restore, "requests_of_seats", lambda customers: {it.name: it.asked for it in customers})
+    args = args_of(tmp_path, leave_out=["cog"], journals=["/j"], seat=["a9"])
+    both = {"acme": acme, "bolt": bolt}
+    assert restore.gather(args, both, {"a1": "T"}, "FOLDERS") == {"acme": ["acme"], "bolt": ["bolt"]}
+    assert calls == [(["/j"], both, "FOLDERS", args.folders), ("SOURCES", both, ["cog"]),
+        (both, {"a1": "T"}, ["a9"], args.tokens)]
+    assert capsys.readouterr().out == "warning: acme has a station\n"

@@ -282,3 +282,37 @@ def test_the_server_starts_over_its_volume_alone(monkeypatch, capsys, answer, st
     with pytest.raises(SystemExit) as found:
         runpy.run_path(str(DEPLOY / "standby/is-mounted"), run_name="__main__")
     assert found.value.code == status and told in capsys.readouterr().err
+
+
+# ---- from their first line to their last
+
+
+def test_fence_peer_that_is_refused_says_nothing_is_off(monkeypatch, capsys):
+    monkeypatch.setattr(half, "read_settings", lambda: (_ for _ in ()).throw(Refused("Why.")))
+    with pytest.raises(SystemExit) as found:
+        runpy.run_path(str(DEPLOY / "standby/fence-peer"), run_name="__main__")
+    assert found.value.code == 1 and capsys.readouterr().err == "fence-peer: Why.\n"
+
+
+@pytest.mark.parametrize("name", ["takeover", "stepdown", "other-is-off"])
+def test_a_script_is_ended_by_what_it_was_called(monkeypatch, name):
+    calls = []
+    monkeypatch.setattr(half, "ended", lambda title, call: calls.append((title, call.__name__)))
+    runpy.run_path(str(DEPLOY / "standby" / name), run_name="__main__")
+    assert calls == [(name, "main")]
+
+
+def test_the_address_is_taken_again_where_two_took_it_at_once(monkeypatch):
+    own = FakeHalf(PRIMARY)
+    put_in(monkeypatch, other, own)
+    monkeypatch.setattr(other, "run", lambda words: half.subprocess.CompletedProcess(words, 1, "", ""))
+    assert other.say("there") == 0 and own.calls[-2] == "take_address"
+
+
+def test_the_name_is_the_words(monkeypatch):
+    monkeypatch.setattr(sys, "argv", ["other-is-off", "there"])
+    monkeypatch.setattr(other, "say", lambda name: 7 if name == "there" else 0)
+    assert other.main() == 7
+    monkeypatch.setattr(sys, "argv", ["other-is-off"])
+    with pytest.raises(SystemExit):
+        other.main()

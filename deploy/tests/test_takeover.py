@@ -2,8 +2,10 @@
 
 import argparse
 import contextlib
+import os
 import sys
 from datetime import datetime, timezone
+from types import SimpleNamespace
 
 import half
 import pytest
@@ -305,3 +307,44 @@ def test_there_is_no_option_that_overrules_it(monkeypatch, capsys):
     with pytest.raises(SystemExit) as error:
         takeover.main()
     assert error.value.code == 2 and half.Refused
+
+
+# ---- the list of tokens beside the store
+
+
+def left(monkeypatch, tmp_path, now, error=None):
+    """What is written, and as whom. The list is by token_file."""
+    living, calls = takeover.living, []
+    own = FakeHalf(now)
+    own.folder = tmp_path
+    user = SimpleNamespace(call=lambda call: calls.append("as the user") or call())
+    handle = os.open(tmp_path, os.O_RDONLY)
+    monkeypatch.setattr(living, "Store", lambda db: {tmp_path / "books.db": SimpleNamespace(user=user,
+        handle=handle)}[db])
+    monkeypatch.setattr(living, "living", lambda tokens: ["a", "b"])
+
+    def put_whole(path, text):
+        calls.append((path, text))
+        if error:
+            raise error
+
+    monkeypatch.setattr(living, "put_whole", put_whole)
+    try:
+        living.leave(own, "TOKENS")
+    finally:
+        with contextlib.suppress(OSError):
+            os.close(handle)
+            calls.append("left open")
+    return calls
+
+
+def test_the_list_is_left_as_the_stores_user(monkeypatch, tmp_path):
+    assert left(monkeypatch, tmp_path, BOTH) == ["as the user", (tmp_path / "tokens.living", "a\nb\n")]
+    with pytest.raises(Refused, match="can't be written beside the store: .*full"):
+        left(monkeypatch, tmp_path, BOTH, OSError(28, "full"))
+
+
+def test_nothing_is_left_while_writes_are_frozen(monkeypatch, tmp_path):
+    with pytest.raises(Refused, match="writes are frozen"):
+        left(monkeypatch, tmp_path, state(is_frozen=True))
+    assert os.listdir(tmp_path) == []

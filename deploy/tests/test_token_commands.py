@@ -8,6 +8,7 @@ import sys
 
 import pytest
 import token_file
+from half import Settings
 from scripts import script
 from token_file import Outer, Seat, TokenError, Tokens, put, read, text_of, tokens_of
 
@@ -80,22 +81,19 @@ def test_forms(form, text, is_one):
 # ---- nginx
 
 
-@pytest.mark.parametrize("command, answer", [
-    ("true", (True, "")), ("false", (False, "why")),
-    ("gone", (False, "there is no gone: install it, or say --no-reload where another proxy reads the file")),
-])  # fmt: skip
-def test_ran(monkeypatch, command, answer):
+@pytest.mark.parametrize("command, is_fine, told", [("true", True, ""), ("false", False, "why"), ("gone", False, "gone")])
+def test_ran(monkeypatch, command, is_fine, told):
     calls = []
 
     def run(words, **more):
         calls.append((words, more["stdin"]))
         if words[0] == "gone":
             raise FileNotFoundError(2, "No such file", "gone")
-        return subprocess.CompletedProcess(words, words[0] == "false", "", "why\n" if words[0] == "false" else "")
+        return subprocess.CompletedProcess(words, int(not is_fine), "", f"{told}\n")
 
     monkeypatch.setattr(token.subprocess, "run", run)
-    assert token.ran(f"{command} -a 'b c'") == answer
-    assert calls == [([command, "-a", "b c"], subprocess.DEVNULL)]
+    found, said = token.ran(f"{command} -a 'b c'")
+    assert (found, told in said) == (is_fine, True) and calls == [([command, "-a", "b c"], subprocess.DEVNULL)]
 
 
 def process(folder, number, title, parent):
@@ -243,6 +241,23 @@ def test_a_seat_into_a_site_file(file, tmp_path):
     text = "# mine\n[[customer]]\nname = 'acme'\nissuer = []\n"
     seat = f'[[customer.seat]]\nname = "a2"\ntoken = "{digest}"\n'
     assert (tmp_path / "new.toml").read_text() == text + seat
+
+
+@pytest.mark.parametrize("mode, is_fit", [(0o700, True), (0o755, True), (0o711, True), (0o775, False), (0o757, False)])
+def test_a_folder_that_others_write_is_refused(file, mode, is_fit):
+    """Whoever may write there may be every caller; who may pass through it reads no token."""
+    file.parent.chmod(mode)
+    if is_fit:
+        assert done(file, "seat", "a1", "--customer", "acme").seats
+    else:
+        with pytest.raises(TokenError, match="others may write it"):
+            done(file, "seat", "a1", "--customer", "acme")
+    file.parent.chmod(0o700)
+
+
+def test_titles():
+    found = [Seat("a1", "acme", "x").title(), Seat("@manager", "@manager", "x").title(), Seat("@b", "@b", "x").title()]
+    assert found == ["the seat a1 of acme", "the manager's seat @manager", "the manager's seat @b"]
 
 
 # ---- outer tokens
@@ -454,3 +469,35 @@ def test_wrong_words(text, capsys):
     with pytest.raises(SystemExit) as error:
         token.parser().parse_args(text.split())
     assert error.value.code == 2
+
+
+@pytest.mark.parametrize("is_mounted, left, told, status", [
+    (True, None, "", None), (False, None, "the store isn't mounted here", None), (True, "frozen", "", 6),
+])  # fmt: skip
+def test_one_of_two_machines(file, tmp_path, monkeypatch, capsys, is_mounted, left, told, status):
+    """The other one is told by the volume; a change that nginx didn't read either keeps its own status."""
+    monkeypatch.setattr(token, "SETTINGS", tmp_path)
+    monkeypatch.setattr(token, "read_settings", lambda: Settings(tokens=str(file)))
+    monkeypatch.setattr(token.Half, "is_mounted", lambda it: is_mounted)
+
+    def leave(half, tokens):
+        if left:
+            raise token.Refused(left)
+
+    monkeypatch.setattr(token.living, "leave", leave)
+    missed = token.left_to_the_other(file, seats())
+    assert (missed and missed.status) == status and told in capsys.readouterr().err
+    put(file, text_of(seats()))
+    monkeypatch.setattr(token, "commit", lambda *_: TokenError(5, "no worker"))
+    with pytest.raises(TokenError, match="no worker" + ("\n.*frozen" if left else "")) as error:
+        token.run(words(file, "add", "a1"))
+    assert error.value.status == 5
+
+
+def test_on_one_machine_alone_nothing_is_left(file, tmp_path, monkeypatch):
+    monkeypatch.setattr(token.living, "leave", lambda *_: pytest.fail("left"))
+    monkeypatch.setattr(token.Half, "is_mounted", lambda it: True)
+    for settings, tokens in ((tmp_path / "none", file), (tmp_path, tmp_path / "other.conf")):
+        monkeypatch.setattr(token, "SETTINGS", settings)
+        monkeypatch.setattr(token, "read_settings", lambda tokens=tokens: Settings(tokens=str(tokens)))
+        assert token.left_to_the_other(file, seats()) is None

@@ -29,37 +29,6 @@ def args_of(**more):
     return argparse.Namespace(**{**vars(restart.words().parse_args([])), **more})
 
 
-@pytest.mark.parametrize("value, number", [
-    ("5", 5), ("5.0", 5), ("5e5", 500000), ("0", 0), ("", None), ("x", None), ("-1", None), ("NaN", None),
-    ("+Inf", None), ("1e300", None),
-    ("5 17", None),
-])  # fmt: skip
-def test_number_of(value, number):
-    assert restart.number_of(value) == number
-
-
-def test_metrics_in():
-    assert restart.metrics_in(text_of(), "F", NOW) == restart.Metrics(NOW - 60, 500000, 100_000_000, 1_000_000_000,
-        200_000_000)
-
-
-@pytest.mark.parametrize("age, is_taken", [(0, True), (1200, True), (1201, False), (-60, True), (-61, False)])
-def test_old_metrics_are_none(age, is_taken):
-    text = text_of(metrics_timestamp_seconds=NOW - age)
-    if is_taken:
-        assert restart.metrics_in(text, "F", NOW).written == NOW - age
-    else:
-        with pytest.raises(restart.NoRestartError, match=f"the metrics in F are {age} s old"):
-            restart.metrics_in(text, "F", NOW)
-
-
-@pytest.mark.parametrize("name", ROWS)
-@pytest.mark.parametrize("value", [None, "NaN", "x"])
-def test_metrics_that_lack_something(name, value):
-    with pytest.raises(restart.NoRestartError, match="old|wanekupo_metrics_success of F"):
-        restart.metrics_in(text_of(**{name: value}), "F", NOW)
-
-
 def test_no_metrics(tmp_path, monkeypatch):
     with pytest.raises(restart.NoRestartError, match="there are no metrics in .*wanekupo-metrics.timer"):
         restart.read_metrics(tmp_path / "none")
@@ -69,19 +38,6 @@ def test_no_metrics(tmp_path, monkeypatch):
     assert restart.read_metrics(tmp_path / "f").left == 500000
     with pytest.raises(restart.NoRestartError):
         restart.read_metrics(tmp_path / "link")
-
-
-@pytest.mark.parametrize("changes, log, reasons", [
-    ({}, 0, []), ({"left": 199_999}, 0, ["199999 connections are left"]), ({"left": 200_000}, 0, []),
-    ({}, 64_000_000, []), ({}, 64_000_001, ["the log has 64 MB"]),
-    ({"held": 500_000_000}, 0, []), ({"held": 500_000_001}, 0, ["the server holds 500 MB"]),
-    ({"left": 1, "held": 900_000_000}, 99_600_000,
-     ["1 connections are left", "the log has 100 MB", "the server holds 900 MB"]),
-])  # fmt: skip
-def test_reasons_of(changes, log, reasons):
-    metrics = restart.Metrics(**{"written": NOW, "left": 500_000, "held": 0, "may_have": 1_000_000_000, "needs": 0,
-        **changes})
-    assert restart.reasons_of(args_of(), metrics, log) == reasons
 
 
 def test_free_memory(monkeypatch):
@@ -286,3 +242,8 @@ def test_wrong_words(capsys, text):
     with pytest.raises(SystemExit) as error:
         restart.words().parse_args(text.split())
     assert error.value.code == 2
+
+
+def test_a_signal_is_an_error():
+    with pytest.raises(restart.NoRestartError, match="stopped by a signal"):
+        restart.stopped(15, None)

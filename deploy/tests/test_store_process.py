@@ -1,0 +1,271 @@
+"""As whom the store's work is done: which folder is one, who is no store's user, and what a process of his gets. What
+needs root is tried by bench/roads."""
+
+import os
+import stat
+import subprocess
+from types import SimpleNamespace
+
+import pytest
+import store_user
+from store_user import Store, StoreUser, UserError, opened, user_named
+
+USER = StoreUser("station", 4242, 4243, "/home/station")
+
+
+# ---- folders and files
+
+
+def test_no_descriptor_is_left(tmp_path, monkeypatch):
+    monkeypatch.setattr(store_user, "_held", lambda *_: None)
+    before = os.listdir("/proc/self/fd")
+    os.close(opened(tmp_path))
+    with pytest.raises(UserError):
+        opened(tmp_path / "none")
+    assert len(os.listdir("/proc/self/fd")) == len(before)
+
+
+def of(user, mode):
+    return SimpleNamespace(st_uid=user, st_mode=mode | stat.S_IFDIR)
+
+
+@pytest.mark.parametrize("user, is_looked", [(0, True), (1000, False)])
+def test_root_looks_at_each_component(tmp_path, monkeypatch, user, is_looked):
+    """The holders are root and the owner of the last folder."""
+    seen = []
+    monkeypatch.setattr(store_user.os, "geteuid", lambda: user)
+    monkeypatch.setattr(store_user, "_held", lambda path, above, below, holders: seen.append((path, holders)))
+    (tmp_path / "deep").mkdir()
+    os.close(opened(tmp_path / "deep"))
+    owner = tmp_path.stat().st_uid
+    expected = [*reversed((tmp_path / "deep").parents), tmp_path / "deep"][1:]
+    assert seen == ([(it, {0, owner}) for it in expected] if is_looked else [])
+
+
+# ---- the user
+
+
+def folder_of(monkeypatch, owner, own, named=True):
+    monkeypatch.setattr(store_user, "os", SimpleNamespace(**{**vars(os), "fstat": lambda handle: of(owner, 0o700),
+        "geteuid": lambda: own}))
+    monkeypatch.setattr(store_user.pwd, "getpwuid", lambda number: SimpleNamespace(
+        pw_name="station", pw_uid=number, pw_gid=4243, pw_dir="/home/station") if named else {}[number])  # fmt: skip
+
+
+@pytest.mark.parametrize("name, number, told", [("station", 4242, ""), ("root", 0, "who is root"), ("toor", 0,
+    "who is root"),
+                                                ("none", None, "there is no user none")])  # fmt: skip
+def test_a_user_by_name(monkeypatch, name, number, told):
+    monkeypatch.setattr(store_user.pwd, "getpwnam", lambda it: {}[it] if number is None else SimpleNamespace(
+        pw_name="station", pw_uid=number, pw_gid=4243, pw_dir="/home/station"))  # fmt: skip
+    if told:
+        with pytest.raises(UserError, match=told):
+            user_named(name)
+    else:
+        assert user_named(name) == USER
+
+
+@pytest.mark.parametrize("own", [0, 4242])
+def test_a_command_becomes_the_users_for_good(monkeypatch, own):
+    """Each has no rights to get, and ends with who started it; what is root's already is given away too."""
+    monkeypatch.setattr(store_user.os, "geteuid", lambda: own)
+    monkeypatch.setattr(store_user.shutil, "which", lambda name: f"/bin/{name}")
+    rights = ["--reuid", "4242", "--regid", "4243", "--init-groups"] if own == 0 else []
+    assert USER.words("find", "/b", "-x") == ["setpriv", *rights, "--inh-caps=-all", "--no-new-privs", "--pdeathsig",
+        "KILL", "--",
+                                              "/bin/find", "/b", "-x"]  # fmt: skip
+
+
+def test_none_of_roots_words(monkeypatch):
+    monkeypatch.setenv("SECRET", "x")
+    monkeypatch.setenv("PATH", "/root/bin")
+    monkeypatch.setattr(store_user.os, "geteuid", lambda: 0)
+    found = USER.environment()
+    assert set(found) == {"PATH", "HOME", "USER", "LOGNAME", "LC_ALL"} and found["HOME"] == "/home/station"
+    assert "/root" not in found["PATH"] and found["USER"] == found["LOGNAME"] == "station"
+    monkeypatch.setattr(store_user.os, "geteuid", lambda: 4242)
+    assert USER.environment()["SECRET"] == "x"
+
+
+class FakeChild:
+    """A process that has printed, and ended."""
+
+    def __init__(self, words, **more):
+        FakeChild.words, FakeChild.more = words, more
+        FakeChild.given = os.read(more["stdin"], 100)
+        self.pid = 0
+
+    def __enter__(self):
+        return self
+
+    def __exit__(self, *_):
+        pass
+
+    def wait(self):
+        return 3
+
+
+def test_a_process_has_a_session_of_its_own_and_no_descriptor(monkeypatch):
+    monkeypatch.setattr(store_user.subprocess, "Popen", FakeChild)
+    monkeypatch.setattr(store_user, "_gathered", lambda child, most, end: [b"out\xff", b"err"])
+    done = USER.run("find", "x", given="text", fds=(7,), cwd="/shown")
+    assert (done.returncode, done.stdout, done.stderr, FakeChild.given) == (3, "out\ufffd", "err", b"text")
+    more = FakeChild.more
+    assert more["start_new_session"] is True and more["pass_fds"] == (7,
+        ) and more["cwd"] == "/shown" and more["umask"] == 0o077
+    assert more["stdout"] == more["stderr"] == subprocess.PIPE and more["env"] == USER.environment()
+    USER.run("find")
+    assert FakeChild.given == b"" and FakeChild.more["pass_fds"] == () and FakeChild.more["cwd"] == "/"
+
+
+@pytest.mark.parametrize("error", [UserError("printed too much"), KeyboardInterrupt()])
+def test_a_process_that_is_given_up_is_ended(monkeypatch, error):
+    ended = []
+    monkeypatch.setattr(store_user.subprocess, "Popen", FakeChild)
+    monkeypatch.setattr(store_user, "_gathered", lambda *_: (_ for _ in ()).throw(error))
+    monkeypatch.setattr(store_user, "_ended", lambda child: ended.append("ended"))
+    with pytest.raises(type(error)):
+        USER.run("find")
+    assert ended == ["ended"]
+
+
+def test_a_program_that_is_missing(monkeypatch):
+    monkeypatch.setattr(store_user.subprocess, "Popen", lambda *_,
+        **__: (_ for _ in ()).throw(FileNotFoundError(2, "No such file")))
+    with pytest.raises(UserError, match="^find: No such file$"):
+        USER.run("find")
+
+
+def gathered(parts, most=100, end=None):
+    """What is gathered of two pipes that have these parts."""
+    reads = []
+    for data in parts:
+        read, write = os.pipe()
+        os.write(write, data)
+        os.close(write)
+        reads.append(os.fdopen(read, "rb"))
+    child = SimpleNamespace(stdout=reads[0], stderr=reads[1])
+    try:
+        return store_user._gathered(child, most, end)
+    finally:
+        for it in reads:
+            it.close()
+
+
+def test_what_a_process_prints_is_bounded():
+    assert gathered([b"x" * 100, b"y"]) == [b"x" * 100, b"y"]
+    for parts in ([b"x" * 101, b""], [b"", b"y" * 101]):
+        with pytest.raises(UserError, match="printed too much"):
+            gathered(parts)
+    with pytest.raises(UserError, match="took too long"):
+        gathered([b"x", b"y"], end=0)
+
+
+class Stubborn:
+    """A process that ends by a signal, or by none."""
+
+    pid = 77
+
+    def __init__(self, ends_by):
+        self.ends_by, self.signals, self.is_over = ends_by, [], False
+
+    def poll(self):
+        return 0 if self.is_over else None
+
+    def wait(self, patience):
+        if not self.is_over:
+            raise subprocess.TimeoutExpired("x", patience)
+
+
+@pytest.mark.parametrize("ends_by, signals", [(15, [15]), (9, [15, 9])])
+def test_a_process_is_asked_to_end_and_then_ended(monkeypatch, ends_by, signals):
+    child = Stubborn(ends_by)
+
+    def killpg(group, number):
+        assert group == 77
+        child.signals.append(int(number))
+        child.is_over = number == ends_by
+
+    monkeypatch.setattr(store_user.os, "killpg", killpg)
+    store_user._ended(child)
+    assert child.signals == signals
+
+
+def test_the_users_own_run_calls_in_its_own_process(monkeypatch):
+    monkeypatch.setattr(store_user.os, "geteuid", lambda: 4242)
+    monkeypatch.setattr(store_user.os, "fork", lambda: pytest.fail("forked"))
+    assert USER.call(lambda: 3) == 3 and USER.call(lambda: None) == 0
+
+
+@pytest.mark.parametrize("said, status, told", [("why", 0, "^why$"), ("", 9, "was killed"), ("", 0, ""), ("", 3 << 8,
+    "")])
+def test_what_a_child_tells(monkeypatch, said, status, told):
+    """Its error comes back as words, and its number as its status; of one that was killed there is neither."""
+    monkeypatch.setattr(store_user.os, "geteuid", lambda: 0)
+    monkeypatch.setattr(store_user.os, "fork", lambda: 77)
+    monkeypatch.setattr(store_user, "_waited", lambda child, pipes,
+        mask: ([os.close(it) for pair in pipes for it in pair], (said, status))[1])
+    if told:
+        with pytest.raises(UserError, match=told):
+            USER.call(lambda: pytest.fail("as root"))
+    else:
+        assert USER.call(lambda: pytest.fail("as root")) == status >> 8
+    store_user.signal.pthread_sigmask(store_user.signal.SIG_UNBLOCK, store_user.STOPS)
+
+
+def test_where_no_process_can_be_made_signals_come_again(monkeypatch):
+    monkeypatch.setattr(store_user.os, "geteuid", lambda: 0)
+    monkeypatch.setattr(store_user.os, "fork", lambda: (_ for _ in ()).throw(OSError(11, "again")))
+    store_user.signal.pthread_sigmask(store_user.signal.SIG_UNBLOCK, store_user.STOPS)
+    with pytest.raises(OSError):
+        USER.call(lambda: pytest.fail("as root"))
+    assert not store_user.signal.pthread_sigmask(store_user.signal.SIG_BLOCK, ()) & set(store_user.STOPS)
+
+
+# ---- the store
+
+
+@pytest.fixture
+def store(tmp_path, monkeypatch):
+    monkeypatch.setattr(store_user, "_held", lambda *_: None)
+    monkeypatch.setattr(store_user, "user_of", lambda handle,
+        folder: SimpleNamespace(name="station", number=tmp_path.stat().st_uid))
+    (tmp_path / "books.db").write_text("DB")
+    (tmp_path / "books.db-wal").write_text("LOG")
+    return Store(tmp_path / "books.db")
+
+
+def test_the_sizes_of_a_store(store):
+    assert (store.size(), store.size("-wal")) == (2, 3)
+    before = len(os.listdir("/proc/self/fd"))
+    store.size()
+    assert len(os.listdir("/proc/self/fd")) == before
+
+
+# ---- rooms
+
+
+def test_a_room_that_is_too_small(tmp_path, monkeypatch):
+    monkeypatch.setattr(store_user, "_held", lambda *_: None)
+    monkeypatch.setattr(store_user.shutil, "disk_usage",
+        lambda path: SimpleNamespace(free=5_000_000 + store_user.BESIDE - 1))
+    with pytest.raises(UserError, match="a copy needs 5 MB in .*--room"), store_user.room(USER, 5_000_000, tmp_path):
+        pytest.fail("there is no room")
+    assert os.listdir(tmp_path) == []
+
+
+def test_a_room_is_roots_and_goes(tmp_path, monkeypatch):
+    owned, removed = [], []
+    monkeypatch.setattr(store_user, "_held", lambda *_: None)
+    monkeypatch.setattr(store_user.os, "chown", lambda path, *ids: owned.append((path.name, ids)))
+    monkeypatch.setattr(store_user, "_removed", lambda room: removed.append(room))
+    with pytest.raises(ValueError), store_user.room(USER, 5, tmp_path) as own:
+        assert own.is_dir() and own.name == "own" and stat.S_IMODE(own.stat().st_mode) == 0o700
+        assert stat.S_IMODE(own.parent.stat().st_mode) == 0o711 and owned == [("own", (4242, 4243))]
+        assert store_user.clear_rooms(tmp_path) == [], "one that a run holds stays"
+        raise ValueError
+    assert removed == [own.parent]
+    removed.clear()
+    before = len(os.listdir("/proc/self/fd"))
+    assert store_user.clear_rooms(tmp_path) == [own.parent.name], "one that nobody holds goes"
+    assert removed == [own.parent] and len(os.listdir("/proc/self/fd")) == before
