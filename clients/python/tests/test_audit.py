@@ -241,7 +241,7 @@ class Clocks(unittest.TestCase):
     def test_times_to_come(self):
         """By more than an hour."""
         steps = [step for _, step in paired(("a", 0), ("a", 3600), ("a", 3601), ("a", "2098-01-01T00:00:00Z"))]
-        self.assertEqual([it.line for it in to_come(steps, clock(0))], [3, 4])
+        self.assertEqual([it.step.line for it in to_come(steps, clock(0))], [3, 4])
 
 
 class Chains(unittest.TestCase):

@@ -6,9 +6,10 @@ import bisect
 import sys
 from collections import Counter, defaultdict
 from dataclasses import dataclass, field
-from typing import Iterable, Iterator, NamedTuple
+from itertools import chain
+from typing import Iterable, Iterator, NamedTuple, Union
 
-from wanekupo.books.clocks import Timed, Window, contradictions, to_come, window_of
+from wanekupo.books.clocks import Contradiction, Timed, ToCome, Window, contradictions, to_come, window_of
 from wanekupo.books.coherence import faults_of
 from wanekupo.books.matching import Matched, Seated, matched, seated, steps_by_chip
 from wanekupo.books.numbers import Span, counts, spans_of, whole_customers
@@ -157,7 +158,7 @@ def _told(left: Left, told: str) -> str:
 def _left_faults(audit: Audit, laid: Laid, window: Window, whole: set[str], lost: set[str]) -> Iterator[Found]:
     """The entries that are left over. A seat without a journal is told once. Of what is in front of the first line
     nothing is known but of customers whose journals are `whole`; what is behind the last one counts."""
-    inside = sum(audit.period.has(step.at) for _, step, *_ in (*laid.pairs, *laid.odd))
+    inside = sum(audit.period.has(step.at) for _, step, *_ in chain(laid.pairs, laid.odd))
     audit.entries, audit.outside = inside, len(laid.pairs) + len(laid.odd) - inside
     without: dict[tuple[str, str], int] = defaultdict(int)
     for left in laid.left:
@@ -210,20 +211,19 @@ def _journal_faults(journals: Iterable[Seated], store: Books) -> Iterator[Found]
 
 def _clock_faults(journals: Iterable[Seated], pairs: list[Timed], period: Period, now: str) -> Iterator[Found]:
     """Times that can't be, told once for a file: where the first one is, what it contradicts, and how many more."""
-    wrong: dict[str, dict[int, tuple[Step, str]]] = defaultdict(dict)
+    wrong: dict[str, dict[int, Union[Contradiction, ToCome]]] = defaultdict(dict)
     for it in contradictions(pairs):
         if it.is_of(period):
-            wrong[it.step.file][it.step.line] = it.step, it.told()
+            wrong[it.step.file][it.step.line] = it
     for own in journals:
-        for step in to_come(own.book.steps, now):
-            told = f"has {step.at}, and this machine's clock has {now}: that is a time to come"
-            wrong[step.file].setdefault(step.line, (step, told))
-        for file in own.book.files:
-            lines = wrong.get(file, {})
-            if lines:
-                step, told = lines[min(lines)]
-                more = f"; {len(lines) - 1} more, up to line {max(lines)}, can't be either" if len(lines) > 1 else ""
-                yield Found("clock", step.at, own.customer, own.seat, step.chip, f"{step.place()} {told}{more}")
+        for later in to_come(own.book.steps, now):
+            wrong[later.step.file].setdefault(later.step.line, later)
+        for lines in filter(None, (wrong.get(file) for file in own.book.files)):
+            first = lines[min(lines)]
+            told = f"{first.step.place()} {first.told()}"
+            if len(lines) > 1:
+                told += f"; {len(lines) - 1} more, up to line {max(lines)}, can't be either"
+            yield Found("clock", first.step.at, own.customer, own.seat, first.step.chip, told)
 
 
 def _contradictions(life: Life) -> Iterator[Found]:

@@ -117,6 +117,16 @@ def _longest_run(times: Sequence[str]) -> bytearray:
     return run
 
 
-def to_come(steps: Iterable[Step], now: str) -> Iterator[Step]:
+class ToCome(NamedTuple):
+    """A line of a time to come, by the auditor's clock."""
+
+    step: Step
+    now: str
+
+    def told(self) -> str:
+        return f"has {self.step.at}, and this machine's clock has {self.now}: that is a time to come"
+
+
+def to_come(steps: Iterable[Step], now: str) -> Iterator[ToCome]:
     """The lines of a time to come, as no honest line has it."""
-    return (step for step in steps if step.at > now and seconds_between(now, step.at) > AHEAD)
+    return (ToCome(it, now) for it in steps if it.at > now and seconds_between(now, it.at) > AHEAD)
