@@ -68,10 +68,10 @@ def changed(reply, place, value):
     return reply
 
 
-def is_taken(path, reply):
+def is_taken(path, reply, status=200):
     data = reply if isinstance(reply, bytes) else json.dumps(reply).encode()
     try:
-        body_of(200, JSON, data, path, ASKED)
+        body_of(status, JSON, data, path, ASKED)
         return True
     except NotTheServer:
         return False
@@ -113,6 +113,12 @@ class Forms(unittest.TestCase):
                 text = json.dumps(REPLIES[path]).encode()
                 self.assertIn(old, text)
                 self.assertFalse(is_taken(path, text.replace(old, old[:-1] + digits * b"9")), (path, digits))
+
+    def test_refusals(self):
+        """A seat goes on with the number that is expected: it is one that JSON has."""
+        for expected, taken in ((1, True), (2**53 - 1, True), (2**53, False), (-1, False), ("2", False), (1e9, False)):
+            data = json.dumps({"error": "wrong_number", "expected": expected, "no": 11}).encode()
+            self.assertEqual(is_taken("/v1/ship", data, 409), taken, expected)
 
     def test_of_another_chip(self):
         for kind, name in (("identity", "chip"), ("device", "chip"), ("ship", "chip"), ("order", "name")):
@@ -181,6 +187,14 @@ class AtBench(BenchCase):
         self.assertEqual((self.folder / "hooked").read_text("ascii").splitlines(), [line])
         self.assertEqual(steps(self.ledger()), LIFE)
         self.assertEqual([it.name for it in (self.folder / "spool").iterdir()], ["A001.csr"])
+
+    def test_addresses_beyond_the_last(self):
+        """A first address of six octets, with others behind it that have seven."""
+        bench, _, _ = self.put_in((rb'"mac":"[^"]*"(,"not_after")', rb'"mac":"ffffffffffff"\1'))
+        word, reason, sentence = bench.ended("left")
+        self.assertEqual((word, reason), ("FAIL", "no_label"))
+        self.assertIn("the addresses of A001 aren't those of its order", sentence)
+        self.assertFalse((self.folder / "hooked").exists())
 
     def test_a_plan(self):
         """Nothing is burnt by a plan of another form, nor by one that has more than is wished for."""

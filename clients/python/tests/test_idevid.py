@@ -196,6 +196,19 @@ class Idevid(unittest.TestCase):
                     faults = self.faults(changes)
                 self.assertTrue([it for it in faults if re.match(told, it)], faults)
 
+    def test_exponents(self):
+        """Exponents of RSA with which openssl makes no key stand in the certificate all the same."""
+        self.made("device", "root", {"key": RSA}, OWN)
+        need(self.folder, "openssl x509 -in device.pem -outform DER -out device.der")
+        der, usual = (self.folder / "device.der").read_bytes(), bytes.fromhex("0203010001")
+        self.assertEqual(der.count(usual), 1)
+        for exponent in ("010000", "000001", "00ffff"):
+            one = certificates_of(der.replace(usual, bytes.fromhex("0203" + exponent)), Path("device"))[0]
+            record = {"serial": SERIAL, "key_sha256": "", "not_before": BEGINNING, "not_after": END}
+            faults = list(faults_of(one, record))
+            told = [it for it in faults if re.match("its key (can't be read|is RSA with the exponent)", it)]
+            self.assertEqual(len(told), 1, faults)
+
     def test_each_authority(self):
         """What the CA has to be, of which a device's certificate is honest."""
         for changes, told in AUTHORITIES:

@@ -58,11 +58,11 @@ def keys_of_fields(it: Any) -> bool:
 
 def wrong_in(reply: Mapping[str, Any], forms: Mapping[str, Form]) -> list[str]:
     """The members that a reply lacks, or has in another form. Others, as of a later server, are passed over."""
-    there = {name: form for name, form in forms.items() if name in reply or name not in LATER}
-    return [name for name, form in there.items() if name not in reply or not form(reply[name])]
+    return [name for name, form in forms.items() if not (form(reply[name]) if name in reply else name in LATER)]
 
 
-WORDS = each(members({"block": number(), "word": number(), "mask": text(MASK)}))
+COUNT = number()
+WORDS = each(members({"block": COUNT, "word": COUNT, "mask": text(MASK)}))
 BURNT = {"bits": WORDS, "keys": keys_of_fields}
 BATCHES = {"batch1": members(BURNT), "batch2": members(BURNT)}
 LISTED = {
@@ -77,7 +77,7 @@ ORDER = {
     "issuer": text(NAME),
     "prefix": text(PREFIX),
     "width": number(1, 9),
-    "first": number(),
+    "first": COUNT,
     "quantity": number(1),
     "macs": number(0, 4),
     "mac": or_null(text(CHIP)),
@@ -105,7 +105,7 @@ REPLIES: Mapping[str, Mapping[str, Form]] = {
     "/v1/identity": IDENTITY,
     "/v1/ship": {"chip": text(CHIP), "state": word("shipped")},
     "/v1/scrap": {"chip": text(CHIP), "state": word("scrapped")},
-    "/v1/import": {"added": number(), "present": number()},
+    "/v1/import": {"added": COUNT, "present": COUNT},
     "/v1/ledger": {"chip": text(CHIP), "entries": each(members(ENTRY))},
     "/v1/devices": {"devices": each(members(LISTED)), "next": or_null(text(CHIP))},
 }

@@ -12,7 +12,7 @@ from typing import Any, Callable, Mapping, Optional, Protocol, Sequence, TypeVar
 
 from wanekupo.chips import shows
 from wanekupo.endings import REFUSALS, Ended, ended_by
-from wanekupo.errors import NotTheServer, Refused, StationError
+from wanekupo.errors import Refused, StationError
 from wanekupo.espefuse import KeyFile, wishes_of
 from wanekupo.families import Blocks, Told, family_of
 from wanekupo.hooks import Done, run_hook
@@ -318,7 +318,7 @@ class Life:
             return {"SERIAL": "", "MAC": "", "MACS": "", "KEY_SHA256": ""}
         macs = addresses_of(record.mac, self.line.order().macs if record.mac else 0)
         if macs is None:
-            raise NotTheServer(f"the addresses of {record.serial} aren't those of its order", "Ask again.")
+            raise Ended("refused", detail=f"the addresses of {record.serial} aren't those of its order")
         told = {"SERIAL": record.serial, "KEY_SHA256": record.key_sha256}
         return {**told, "MAC": record.mac or "", "MACS": " ".join(macs)}
 

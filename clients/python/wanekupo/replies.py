@@ -8,7 +8,7 @@ from dataclasses import dataclass, fields
 from typing import Any, Callable, Mapping, Optional, TypeVar
 
 from wanekupo.errors import NotTheServer, Refused
-from wanekupo.forms import REPLIES, wrong_in
+from wanekupo.forms import COUNT, REPLIES, wrong_in
 
 # Members of a reply that are those of its request.
 ECHOED = ("chip", "name")
@@ -208,7 +208,7 @@ def _is_refusal(body: Any) -> bool:
     """Whether what came at another status is a refusal, whose numbers are numbers."""
     if not isinstance(body, dict) or not isinstance(body.get("error"), str):
         return False
-    return type(body.get("no")) is int and type(body.get("expected", 0)) is int
+    return COUNT(body.get("no")) and COUNT(body.get("expected", 0))
 
 
 def body_of(status: int, kind: str, data: bytes, path: str, members: Mapping[str, Any]) -> Any:
