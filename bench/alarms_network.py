@@ -1,11 +1,11 @@
 """What another machine reaches of the deployed form with all that watches it, for `alarms`: nginx's port alone. And
 what the requests of a stranger take of the server's connections: none.
 
-This file run as a program has a network and mounts of its own. The server, nginx and Debian's four services run there,
-the services by the line `ExecStart=` of Debian's units or of the package's drop-ins, with Debian's ARGS. Another
-network, which a pair of interfaces joins to that one, connects to each of the 65,535 ports. First with Debian's own
-lines and without rules, which it has to find open; then with each of the two things alone that close them,
-deploy/station.nft and the drop-ins.
+This file is run as a program in a network of its own. The server, nginx and Debian's four services run there, the
+services by the line `ExecStart=` of Debian's units or of the package's drop-ins, with Debian's ARGS. Another network,
+which a pair of interfaces joins to that one, connects to each of the 65,535 ports. First with Debian's own lines and
+without rules, which it has to find open; then with each of the two things alone that close them, deploy/station.nft and
+the drop-ins.
 """
 
 import re
@@ -184,8 +184,10 @@ def tried(network):
 
 
 def try_network(program):
-    """What another machine reaches, in a network and mounts of its own."""
-    done = ran(["unshare", "-n", "-m", sys.executable, "-B", __file__, program])
+    """What another machine reaches, in a network, mounts and processes of its own, all of which end with it."""
+    own = ["unshare", "-n", "-m", "-p", "--fork", "--kill-child", "--mount-proc"]
+    words = [*own, sys.executable, "-B", __file__, program]
+    done = subprocess.run(words, capture_output=True, text=True, timeout=300)
     print(done.stdout, end="", flush=True)
     if done.returncode:
         raise Failed(f"another network: {done.stderr}")

@@ -447,7 +447,7 @@ def reloads(place, tried):
     with ThreadPoolExecutor(2) as pool:
         held = pool.submit(place.ask, by(place.outer["work"]), "/v1/order?name=hold")
         until(lambda: any(b"hold" in head for head in place.recorder.heads))
-        client = pool.submit(client_of, place, ASKING, 15)
+        client = pool.submit(client_of, place, ASKING, 10)
         place.made("more", "add", "b1")
         place.recorder.gate.set()  # within the five seconds that nginx gives a worker of before
         tried.same("under way", told(held.result()), NO_ORDER)
