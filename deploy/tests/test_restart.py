@@ -1,6 +1,7 @@
 """What asks for a restart, by metrics that the store's user may have written."""
 
 import importlib.util
+import sys
 from argparse import Namespace
 from importlib.machinery import SourceFileLoader
 from pathlib import Path
@@ -11,8 +12,6 @@ loader = SourceFileLoader("restart", str(Path(__file__).resolve().parent.parent 
 spec = importlib.util.spec_from_loader("restart", loader)
 assert spec
 restart = importlib.util.module_from_spec(spec)
-import sys  # noqa: E402
-
 sys.modules["restart"] = restart
 loader.exec_module(restart)
 
