@@ -81,6 +81,6 @@ def test(half: Half, there: set[str] | None, is_known: bool) -> None:
     why = f"{other} didn't let in so" if there is not None else f"{other} may have ended, as the volume has no list"
     raise Refused(
         f"This machine has tokens that {why}: {names_of(more)}. Copy the files of {other} as step 8 of the page "
-        "`standby` does, or end here what was ended there (`station-token revoke NAME`), and type the same again. Where nobody "
-        "knows, and they may ask, add --ended-tokens-may-ask."
+        "`standby` does, or end here what was ended there (`station-token revoke NAME`), and type the same again. "
+        "Where nobody knows, and they may ask, add --ended-tokens-may-ask."
     )
