@@ -85,6 +85,7 @@ def sample():
         outer(4, "b1", text="", ended="2026-11-02T00:00"),
         outer(5, "b1", text="", subject="CN=pc7,O=Our plant"),
         outer(6, "b1", text="", subject="CN=pc8", looks=True),
+        outer(8, "a1", text="", subject="CN=a.b"),
         outer(10, "b1", looks=True, until=END),
     ]
     return tokens
@@ -125,6 +126,8 @@ ASKED = [
     (dict(authorization=CERTIFICATE, subject="CN=x,CN=pc7,O=Our plant"), 401),
     (dict(authorization=CERTIFICATE, subject="CN=PC7,O=Our plant"), 401),
     (dict(authorization=CERTIFICATE, subject="CN=pc8"), "inner-of-b1"),
+    (dict(authorization=CERTIFICATE, subject="CN=a.b"), "inner-of-a1"),
+    (dict(authorization=CERTIFICATE, subject="CN=axb"), 401),
     (dict(method="POST", authorization=CERTIFICATE, subject="CN=pc8"), 403),
     (dict(authorization=f"Bearer {text(1)}", subject="CN=pc8"), "inner-of-a1"),
 ]
@@ -168,10 +171,10 @@ def test_which_tokens_live(monkeypatch):
     marks = {it.number: it.mark for it in sample().outers}
     assert living(sample()) == sorted([
         f"a1:1 {marks[1]} all -", f"a1:2 {marks[2]} look -", f"b1:3 {marks[3]} all {END}", f"b1:5 {marks[5]} all -",
-        f"b1:6 {marks[6]} look -", f"b1:10 {marks[10]} look {END}",
+        f"b1:6 {marks[6]} look -", f"a1:8 {marks[8]} all -", f"b1:10 {marks[10]} look {END}",
     ])  # fmt: skip
     monkeypatch.setattr("token_file.now", lambda: "2026-12-25T00:00")
-    assert [it.split()[0] for it in living(sample())] == ["a1:1", "a1:2", "b1:5", "b1:6"]
+    assert [it.split()[0] for it in living(sample())] == ["a1:1", "a1:2", "a1:8", "b1:5", "b1:6"]
     assert [is_past(it) for it in ("", END, "2026-12-25T00:00")] == [False, True, False]
     assert not any(PREFIX in it or "inner" in it for it in living(sample()))
 
