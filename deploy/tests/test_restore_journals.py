@@ -111,6 +111,7 @@ def test_what_a_person_says(tmp_path):
     """A journal that was written by hand needs neither seat nor digest; one of another customer's is refused."""
     path = put(tmp_path / "more.journal", asked(1, None, digest=None))
     assert taken([f"acme={path}"]) == {("acme", ""): [1]}
+    assert taken([f"bolt={path}"]) == {("bolt", ""): [1]}  # also where a customer has one seat
     path = put(tmp_path / "a2.journal", asked(3, None))
     assert taken([f"acme={path}"]) == {("acme", "a2"): [3]}
     path = put(tmp_path / "b1.journal", asked(3, "b1"))
@@ -162,6 +163,7 @@ def test_a_folder_is_bounded(tmp_path, monkeypatch):
     monkeypatch.setattr(restore_journals, "MOST_LINES", 2)
     with pytest.raises(RestoreError, match="pc7 has more than"):
         taken([tmp_path])
+    monkeypatch.setattr(restore_journals, "MOST_LINES", 3)
     monkeypatch.setattr(restore_journals, "MOST", path.stat().st_size - 1)
     with pytest.raises(RestoreError, match="pc7 has more than"):
         taken([tmp_path])

@@ -82,7 +82,7 @@ class Shipping(unittest.TestCase):
     def test_through_ssh(self):
         """To a user's account that may do nothing but write there, by rsync's own rrsync; a script stands for ssh."""
         ssh = self.folder / "ssh"
-        told = f'SSH_ORIGINAL_COMMAND="$*" SSH_CONNECTION=x exec rrsync -wo "{self.to}"'
+        told = f'SSH_ORIGINAL_COMMAND="$*" SSH_CONNECTION=x exec rrsync -wo -no-del -munge "{self.to}"'
         ssh.write_text(f'#!/bin/sh\nwhile [ "$1" != rsync ]; do shift; done\n{told}\n', encoding="ascii")
         ssh.chmod(0o700)
         status, _, err = self.ship(self.own, "journals@store.example:", RSYNC_RSH=str(ssh))
