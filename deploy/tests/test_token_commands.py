@@ -81,7 +81,9 @@ def test_forms(form, text, is_one):
 # ---- nginx
 
 
-@pytest.mark.parametrize("command, is_fine, told", [("true", True, ""), ("false", False, "why"), ("gone", False, "gone")])
+@pytest.mark.parametrize("command, is_fine, told", [
+    ("true", True, ""), ("false", False, "why"), ("gone", False, "gone"),
+])  # fmt: skip
 def test_ran(monkeypatch, command, is_fine, told):
     calls = []
 
