@@ -5,6 +5,7 @@ import re
 import stat
 import subprocess
 import sys
+import tomllib
 
 import pytest
 import token_file
@@ -243,6 +244,14 @@ def test_a_seat_into_a_site_file(file, tmp_path):
     text = "# mine\n[[customer]]\nname = 'acme'\nissuer = []\n"
     seat = f'[[customer.seat]]\nname = "a2"\ntoken = "{digest}"\n'
     assert (tmp_path / "new.toml").read_text() == text + seat
+
+
+def test_no_line_stands_in_a_string():
+    """What looks like the customer's section in a text of several lines is none."""
+    text = "note = '''\n[[customer]]\nname = \"acme\"\n[x]\n'''\n[[customer]]\nname = \"acme\"\nissuer = []\n"
+    found = tomllib.loads(token.grown(text, Seat("a1", "acme", "abc"), "t"))
+    assert found["customer"] == [{"name": "acme", "issuer": [], "seat": [{"name": "a1", "token": ABC}]}]
+    assert found["note"] == tomllib.loads(text)["note"]
 
 
 @pytest.mark.parametrize("mode, is_fit", [(0o700, True), (0o755, True), (0o711, True), (0o775, False), (0o757, False)])
