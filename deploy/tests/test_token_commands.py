@@ -3,8 +3,8 @@
 import os
 import re
 import stat
-import subprocess
 import sys
+import tomllib
 
 import pytest
 import token_file
@@ -79,72 +79,6 @@ def test_forms(form, text, is_one):
 
 
 # ---- nginx
-
-
-RUNS = [("true", True, ""), ("false", False, "why"), ("gone", False, "gone")]
-
-
-@pytest.mark.parametrize("command, is_fine, told", RUNS)
-def test_ran(monkeypatch, command, is_fine, told):
-    calls = []
-
-    def run(words, **more):
-        calls.append((words, more["stdin"]))
-        if words[0] == "gone":
-            raise FileNotFoundError(2, "No such file", "gone")
-        return subprocess.CompletedProcess(words, int(not is_fine), "", f"{told}\n")
-
-    monkeypatch.setattr(token.subprocess, "run", run)
-    found, said = token.ran(f"{command} -a 'b c'")
-    assert (found, told in said) == (is_fine, True) and calls == [([command, "-a", "b c"], subprocess.DEVNULL)]
-
-
-def process(folder, number, title, parent):
-    (folder / str(number)).mkdir(parents=True)
-    (folder / str(number) / "cmdline").write_bytes(title)
-    (folder / str(number) / "status").write_text(f"Name:\tnginx\nPid:\t{number}\nPPid:\t{parent}\nTracerPid:\t7\n")
-
-
-def test_workers(tmp_path, monkeypatch):
-    """Those of this nginx, that take connections: none that is shutting down, and none of another nginx."""
-    proc = tmp_path / "proc"
-    process(proc, 10, b"nginx: worker process\0", 7)
-    process(proc, 11, b"nginx: worker process\0\0\0 ", 7)
-    process(proc, 12, b"nginx: worker process is shutting down\0", 7)
-    process(proc, 13, b"nginx: worker process\0", 77)
-    process(proc, 14, b"nginx: cache manager process\0", 7)
-    process(proc, 15, b"sh\0-c\0nginx: worker process\0", 7)
-    (proc / "16").mkdir()
-    (tmp_path / "pid").write_text("7\n")
-    real = token.Path
-    monkeypatch.setattr(token, "Path",
-        lambda name: real(str(name).replace("/proc", str(proc))) if name == "/proc" else real(name))
-    assert token.workers(str(tmp_path / "pid")) == {"10", "11"}
-    assert token.workers(str(tmp_path / "none")) == set()
-
-
-def told(monkeypatch, seen, answer=(True, "")):
-    """What is told where the workers are those of `seen`, one after the other; what was run."""
-    calls, left, moments = [], iter(seen), iter(range(0, 10000, 4))
-    monkeypatch.setattr(token, "workers", lambda pid: calls.append(pid) or next(left, seen[-1]))
-    monkeypatch.setattr(token, "ran", lambda command: calls.append(command) or answer)
-    monkeypatch.setattr(token.time, "monotonic", lambda: next(moments))
-    monkeypatch.setattr(token.time, "sleep", lambda _: None)
-    return token.told("RELOAD", "PID"), calls
-
-
-def test_nginx_has_read_it_where_a_new_worker_is_there(monkeypatch):
-    said, calls = told(monkeypatch, [{"1", "2"}, {"1", "2"}, {"2", "3"}])
-    assert said == "" and calls[:2] == ["PID", "RELOAD"], "the workers of before are counted before"
-
-
-def test_nginx_that_starts_no_worker_has_not(monkeypatch):
-    for seen in ([{"1"}], [{"1", "2"}, {"1"}], [set()]):
-        said, calls = told(monkeypatch, seen)
-        assert "started no worker in 30 seconds" in said and 5 < len(calls) < 15
-    said, calls = told(monkeypatch, [{"1"}, {"2"}], (False, "no pid"))
-    assert said == "no pid" and len(calls) == 2
-    assert told(monkeypatch, [{"1"}, {"2"}], (False, ""))[0] == "RELOAD", "a failure without words is one"
 
 
 @pytest.mark.parametrize("before", ["old", None])
@@ -244,6 +178,14 @@ def test_a_seat_into_a_site_file(file, tmp_path):
     text = "# mine\n[[customer]]\nname = 'acme'\nissuer = []\n"
     seat = f'[[customer.seat]]\nname = "a2"\ntoken = "{digest}"\n'
     assert (tmp_path / "new.toml").read_text() == text + seat
+
+
+def test_no_line_stands_in_a_string():
+    """What looks like the customer's section in a text of several lines is none."""
+    text = "note = '''\n[[customer]]\nname = \"acme\"\n[x]\n'''\n[[customer]]\nname = \"acme\"\nissuer = []\n"
+    found = tomllib.loads(token.grown(text, Seat("a1", "acme", "abc"), "t"))
+    assert found["customer"] == [{"name": "acme", "issuer": [], "seat": [{"name": "a1", "token": ABC}]}]
+    assert found["note"] == tomllib.loads(text)["note"]
 
 
 @pytest.mark.parametrize("mode, is_fit", [(0o700, True), (0o755, True), (0o711, True), (0o775, False), (0o757, False)])
