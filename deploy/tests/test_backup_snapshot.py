@@ -106,6 +106,9 @@ def test_a_signal_waits_for_a_command(monkeypatch):
     with pytest.raises(ValueError), backup_snapshot.whole():
         raise ValueError
     assert not blocked() & stops, "also behind an error"
+    with backup_snapshot.whole():
+        backup_snapshot.called("x")
+        assert blocked() >= stops, "a step inside another one lets no signal through"
 
 
 def test_mounted_at(machine):
