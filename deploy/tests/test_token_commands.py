@@ -211,6 +211,7 @@ def test_titles():
 @pytest.mark.parametrize("more, changes", [
     ([], {}), (["--look"], {"looks": True}), (["--until", "2026-12-24"], {"until": "2026-12-24T23:59"}),
     (["--holder", "line 5"], {"holder": "line 5"}), (["--certificate", "CN=pc7"], {"subject": "CN=pc7", "text": ""}),
+    (["--look", "--certificate", "CN=pc7"], {"looks": True, "subject": "CN=pc7", "text": ""}),
 ])  # fmt: skip
 def test_add(file, capsys, more, changes):
     put(file, text_of(seats()))
