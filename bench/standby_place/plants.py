@@ -46,7 +46,9 @@ PLANTS = {
     ),
     "tested-state": Plant(((f"{STANDBY}/takeover", "    tested_state(state)\n", ""),), "both", "not refused as"),
     "word": Plant(
-        ((f"{STANDBY}/takeover", "    if is_alone:\n        shut_out(half, named)\n", ""),), "f-one", "not refused as"
+        ((f"{STANDBY}/takeover", "    if is_alone:\n        shut_out(half, args.other_is_off)\n", ""),),
+        "f-one",
+        "not refused as",
     ),
     "always-7": Plant(
         ((f"{STANDBY}/fence-peer", "def answered() -> int:\n", "def answered() -> int:\n    return IS_OFF\n"),),
