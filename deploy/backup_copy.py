@@ -110,7 +110,7 @@ def look_at(store: str) -> Path:
     owner, log = db.stat().st_uid, Path(f"{db}-wal")
     if owner != os.geteuid():
         name = name_of_user(owner)
-        raise BackupError(f"{store} is the store of {name}: run this as that user (runuser -u {name} -- backup ..)")
+        raise BackupError(f"{store} is the store of {name}: run this as that user")
     if not log.is_file() or not log.stat().st_size:
         raise BackupError(f"{store}-wal is missing or empty, and {store} alone may be older than the store was")
     if log.is_symlink() or log.stat().st_dev != db.stat().st_dev:

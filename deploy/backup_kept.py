@@ -25,6 +25,7 @@ from pathlib import Path
 from typing import Any
 
 from backup_copy import BackupError, now, size_of, told_if_full
+from backup_snapshot import KINDS
 from store_user import UserError, read_small
 from whole_file import held, put_whole, sync
 
@@ -151,10 +152,10 @@ def last_of(folder: Path) -> dict[str, Any]:
 
 
 def last_snapshot(folder: Path) -> tuple[str, str]:
-    """The kind and the size of the last snapshot that was noted; only what may be a size is one."""
+    """The kind and the size of the last snapshot that was noted: one of the three words, and what may be a size."""
     last = last_of(folder)
     kind, size = (str(last.get(name, "")) for name in ("snapshot", "snapshot_size"))
-    return kind, size if SIZE.fullmatch(size) else ""
+    return kind if kind in KINDS else "", size if SIZE.fullmatch(size) else ""
 
 
 def note(folder: Path, ok: bool, size: int, said: str, taken: tuple[str, str]) -> None:

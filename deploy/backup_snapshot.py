@@ -17,7 +17,7 @@ from collections.abc import Callable, Iterator
 from pathlib import Path
 
 from backup_copy import BackupError
-from store_user import STOPS
+from store_user import STOPS, opened
 
 NAME = "station_backup"
 MARK = "station:backup"  # a property of a snapshot of ZFS that a backup made
@@ -179,9 +179,23 @@ class Btrfs(Volume):
     def _at_the_top(self, call: Callable[[Path], None]) -> None:
         try:
             ran("mount", "-t", "btrfs", "-o", f"subvolid=5,{SAFE}", self.source, str(self.top))
+            self._look_at_top()
             call(self.top / NAME)
         finally:
             unmounted(self.top)
+
+    def _look_at_top(self) -> None:
+        """Refuses a top in which another user than root may put a link to another volume in the snapshot's place."""
+        handle = opened(self.top)
+        try:
+            found = os.fstat(handle)
+        finally:
+            os.close(handle)
+        if found.st_uid != os.geteuid() or found.st_mode & 0o022:
+            told = "isn't root's alone, so others may put a link in the place of the snapshot"
+            raise BackupError(f"the top of {self.source} {told}: have the store in a subvolume, and its top root's")
+        if (self.top / NAME).is_symlink():
+            raise BackupError(f"{NAME} at the top of {self.source} is a link, and no backup's: look who made it")
 
     def made(self) -> Path:
         def make(at: Path) -> None:

@@ -201,7 +201,8 @@ def check_folders(backup: Path, backups: Path) -> None:
     """Refuses what is no backup's folder, and a folder that takes no backup of the restored store at the end."""
     if backup.name.endswith(".age"):
         told = f"{backup} is encrypted: decrypt it first, where its key is"
-        raise RestoreError(f"{told} (age -d -i KEY FILE | tar -x), and give the folder that comes of it")
+        words = "age -d -i KEY FILE | tar -x --no-same-owner --no-same-permissions"
+        raise RestoreError(f"{told} ({words}), and give the folder that comes of it")
     if backup.is_file():
         raise RestoreError(f"{backup} is no folder: give the folder of a backup")
     if not os.access(backups, os.W_OK | os.X_OK):

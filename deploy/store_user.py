@@ -342,11 +342,11 @@ def _gathered(child: "subprocess.Popen[bytes]", most: int, end: float | None) ->
     return [bytes(found[it]) for it in pipes]
 
 
-def _relayed(reads: list[int]) -> str:
+def _relayed(reads: list[int], end: float | None = None) -> str:
     """Prints what a child prints, made harmless; gives the words of its error."""
     outs, said = {reads[0]: sys.stdout, reads[1]: sys.stderr}, bytearray()
     texts = {it: codecs.getincrementaldecoder("utf-8")("replace") for it in outs}
-    for pipe, data in _parts(reads):
+    for pipe, data in _parts(reads, end):
         if pipe in outs:
             with contextlib.suppress(BrokenPipeError):  # who reads it may have enough, and the work goes on
                 outs[pipe].write(shown(texts[pipe].decode(data)))
@@ -357,7 +357,8 @@ def _relayed(reads: list[int]) -> str:
 
 
 def _waited(child: int, pipes: list[tuple[int, int]], mask: set[signal.Signals]) -> tuple[str, int]:
-    """The words of a child's error, and its status. Where a signal ends this run the child is asked to end, too."""
+    """The words of a child's error, and its status. Where a signal ends this run the child is asked to end, too; one
+    that doesn't, as the user may stop it, is killed with those that it began."""
     for _, write in pipes:
         os.close(write)
     reads = [read for read, _ in pipes]
@@ -367,7 +368,10 @@ def _waited(child: int, pipes: list[tuple[int, int]], mask: set[signal.Signals])
     except BaseException:
         os.kill(child, signal.SIGTERM)
         with contextlib.suppress(BaseException):
-            _relayed(reads)
+            _relayed(reads, time.monotonic() + PATIENCE)
+        for kill in (os.killpg, os.kill):  # it may have no group of its own yet
+            with contextlib.suppress(ProcessLookupError):
+                kill(child, signal.SIGKILL)
         raise
     finally:
         for read in reads:

@@ -16,11 +16,11 @@ from standby_place.scenarios import OLDER
 ROOT = Path(__file__).resolve().parents[2]
 # What a guest hasn't that a restore needs, beside the client's package.
 TOOLS = ("backup", "restore", *(path.name for path in (ROOT / "deploy").glob("*.py")))
-# What the page has the operator type, each command by itself. A guest has no `runuser`, and a smaller `setpriv`.
+# What the page has the operator type, each command by itself.
 TYPED = """
 drbdadm primary --force station
 mount -o nodev,nosuid,noexec /dev/drbd0 /var/lib/station
-cd / && /usr/bin/setpriv --reuid station --regid station --clear-groups /usr/share/wanekupo/backup --program station \
+/usr/share/wanekupo/backup --program station \
   --site /etc/station/site.toml --db /var/lib/station/books.db /var/backups/station/older-half
 /usr/share/wanekupo/restore /var/backups/station/older-half /etc/station/site.toml /run/stick/journals \
   --distrust-lost --tokens /run/stick/tokens --folders /run/stick/journals.toml

@@ -5,6 +5,7 @@ import contextlib
 import json
 import os
 import signal
+import stat
 import sys
 from pathlib import Path
 from types import SimpleNamespace
@@ -353,11 +354,27 @@ def test_clean(tmp_path, monkeypatch, calls):
 
 
 def test_another_users_folder_is_refused(tmp_path, monkeypatch, calls):
-    """Root too: what is there was written by another, and root would follow it."""
+    """Root too, where the store is its own: what is there was written by another, and root would follow it."""
     monkeypatch.setattr(backup.os, "geteuid", lambda: tmp_path.stat().st_uid + 1)
     with pytest.raises(BackupError, match="run this as that user"):
         ran(monkeypatch, calls, args_of(tmp_path))
     assert calls == []
+
+
+@pytest.mark.parametrize("is_into", [True, False])
+def test_root_has_a_stopped_store_backed_up_by_its_user(root, tmp_path, calls, monkeypatch, is_into):
+    """Root itself opens nothing there, and makes neither a lock nor a copy."""
+    owner = SimpleNamespace(st_uid=7, st_mode=stat.S_IFDIR | 0o700)
+    real = Path.stat
+    monkeypatch.setattr(Path, "stat", lambda it, **more: owner if str(it) == "/db" else real(it, **more))
+    more = {} if is_into else {"folder": tmp_path / "x"}
+    expected = [("as", 7), ("opened", "backup.lock"), ("lock", str(tmp_path)), ("as", 7), ("run_into",)]
+    ran(monkeypatch, calls, args_of(tmp_path if is_into else None, **more))
+    assert calls[:2] == [("size",), ("tested", str(tmp_path))]
+    if is_into:
+        assert calls[2:] == expected
+    else:
+        assert heads(calls)[2:] == ["as", "copy"]
 
 
 def test_one_run_has_the_folder(tmp_path, monkeypatch, calls):

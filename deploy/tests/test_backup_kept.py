@@ -65,6 +65,8 @@ NOTED = [
     ('{"snapshot": "lvm", "snapshot_size": ""}', ("lvm", "")),
     ('{"snapshot": "lvm", "snapshot_size": "1G --addtag x"}', ("lvm", "")),
     ('{"snapshot": "lvm", "snapshot_size": "../etc"}', ("lvm", "")),
+    ('{"snapshot": "../top", "snapshot_size": "2G"}', ("", "2G")),
+    ('{"snapshot": ["btrfs"]}', ("", "")),
     ("{}", ("", "")),
     ("[]", ("", "")),
     ('"lvm"', ("", "")),

@@ -242,6 +242,7 @@ def btrfs(machine, monkeypatch):
         st_ino=numbers[str(it)][0], st_dev=numbers[str(it)][1]) if str(it) in numbers else real(it,
         **more))  # fmt: skip
     machine.numbers = numbers
+    (backup_snapshot.PLACE / "top").mkdir(parents=True, mode=0o755)
     return machine
 
 
@@ -278,7 +279,6 @@ def test_another_file_system_is_refused(machine, kind, call):
 @pytest.mark.parametrize("is_there", [True, False])
 def test_btrfs_removed(btrfs, tmp_path, is_there):
     volume = Btrfs(DB, "")
-    volume.top.mkdir(parents=True)
     if is_there:
         (volume.top / "station_backup").mkdir()
     assert volume.removed() == ("the snapshot station_backup on /dev/sdb" if is_there else "")
@@ -286,6 +286,24 @@ def test_btrfs_removed(btrfs, tmp_path, is_there):
     assert btrfs.did("btrfs") == ([delete] if is_there else []) and not btrfs.mounts
     btrfs.mounts.add(str(volume.at))
     assert volume.removed() and not btrfs.mounts, "what is mounted goes first"
+
+
+@pytest.mark.parametrize("what, told", [("station's", "isn't root's alone"), ("shared", "isn't root's alone"),
+                                        ("a link", "is a link"), ("a link to nothing", "is a link")])  # fmt: skip
+@pytest.mark.parametrize("call", [Btrfs.made, Btrfs.removed])
+def test_a_top_that_may_lead_elsewhere_is_refused(btrfs, tmp_path, monkeypatch, what, told, call):
+    """Where a file system is mounted by its top, that may be the store's user's: a link there names any volume."""
+    volume = Btrfs(DB, "")
+    (tmp_path / "precious").mkdir()
+    if "link" in what:
+        (volume.top / "station_backup").symlink_to(tmp_path / ("precious" if what == "a link" else "none"))
+    if what == "shared":
+        volume.top.chmod(0o775)
+    if what == "station's":
+        monkeypatch.setattr(backup_snapshot.os, "geteuid", lambda: volume.top.stat().st_uid + 1)
+    with pytest.raises(BackupError, match=told):
+        call(volume)
+    assert not btrfs.did("btrfs") and not btrfs.mounts
 
 
 def test_the_top_is_unmounted_behind_a_failure(btrfs):

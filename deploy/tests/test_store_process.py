@@ -1,9 +1,12 @@
 """As whom the store's work is done: which folder is one, who is no store's user, and what a process of his gets. What
 needs root is tried by bench/roads."""
 
+import contextlib
 import os
+import signal
 import stat
 import subprocess
+import time
 from types import SimpleNamespace
 
 import pytest
@@ -211,6 +214,37 @@ def test_what_a_child_tells(monkeypatch, said, status, told):
     else:
         assert USER.call(lambda: pytest.fail("as root")) == status >> 8
     store_user.signal.pthread_sigmask(store_user.signal.SIG_UNBLOCK, store_user.STOPS)
+
+
+class Asked(Exception):
+    """A signal that ends this run."""
+
+
+def test_a_process_that_stops_itself_ends_with_root(monkeypatch):
+    """Its user may stop it, so that it is asked in vain. The first signal ends this run, as it would end a run alone."""
+    made, fork = [], os.fork
+
+    def asked(*_):
+        raise Asked
+
+    monkeypatch.setattr(store_user.os, "fork", lambda: made.append(fork()) or made[-1])
+    monkeypatch.setattr(store_user, "PATIENCE", 0.2)
+    monkeypatch.setattr(StoreUser, "is_own", lambda self: False)
+    if os.geteuid():  # else it becomes that user
+        monkeypatch.setattr(StoreUser, "_become", lambda self, parent: None)
+    before, begun = signal.signal(signal.SIGALRM, asked), time.monotonic()
+    signal.setitimer(signal.ITIMER_REAL, 0.5, 2)
+    try:
+        with pytest.raises(Asked):
+            USER.call(lambda: os.kill(os.getpid(), signal.SIGSTOP))
+        assert time.monotonic() - begun < 2, "a second signal was needed"
+        with pytest.raises(ChildProcessError):
+            os.waitpid(made[0], os.WNOHANG)
+    finally:
+        signal.setitimer(signal.ITIMER_REAL, 0)
+        signal.signal(signal.SIGALRM, before)
+        with contextlib.suppress(ProcessLookupError):
+            os.kill(made[0], signal.SIGKILL)
 
 
 def test_where_no_process_can_be_made_signals_come_again(monkeypatch):
