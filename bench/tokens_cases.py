@@ -420,6 +420,8 @@ def refusals(place, tried):
     status, _, said = place.token("revoke", "b1")
     got = status, "started no worker" in said, told(place.ask(by(place.outer["bolt"]), ORDER))
     tried.same("nginx says yes, and doesn't take it", got, (5, True, NO_ORDER))
+    why = "while previously it used" in (place.folder / "log/nginx.conf-error.log").read_text()
+    tried.same("its error log has why", why, True)
 
 
 def late(connection, token):

@@ -3,6 +3,7 @@
 import re
 import shutil
 import socket
+import struct
 import time
 from concurrent.futures import ThreadPoolExecutor
 
@@ -347,6 +348,22 @@ def encryption(place, tried):
         tried.same(f"fields of {target}", {name: reply[1].get(name) for name in wanted}, wanted)
 
 
+# Extensions of a first message, by RFC 8446, that OpenSSL refuses: a name's length, a list of groups that is longer than
+# its bytes, one of versions twice, and no share of a key.
+HANDSHAKES = ["0000000500000261", "000a000400090017", "002b0003020304" * 2, "002b0003020304003300020000"]
+
+
+def handshakes(place, tried):
+    """a stranger's handshakes fill no log"""
+    working(place)
+    for extensions in map(bytes.fromhex, HANDSHAKES):
+        said = b"\3\3" + bytes(32) + b"\0\0\2\x13\1\1\0" + struct.pack(">H", len(extensions)) + extensions
+        with socket.create_connection((HOST, place.port), 10) as connection:
+            connection.sendall(b"\x16\3\1" + struct.pack(">HBBH", len(said) + 4, 1, 0, len(said)) + said)
+            tried.same(f"{extensions.hex()}: an alert", connection.recv(2), b"\x15\3")
+    tried.same("the error log", (place.folder / "log/nginx.conf-error.log").read_text(), "")
+
+
 def silent(place, tried):
     """who says nothing, or stops in the middle, is gone after ten seconds"""
     working(place)
@@ -423,4 +440,4 @@ def port(place, tried):
     tried.same("74 connections of one address, and 10 of another", said[5:], ["127.0.0.1 64", "127.0.0.2 74"])
 
 
-EDGES = [certificates, shares, customers, strangers, rates, odd, health, health_seat, encryption, silent, port]
+EDGES = [certificates, shares, customers, strangers, rates, odd, health, health_seat, encryption, handshakes, silent, port]

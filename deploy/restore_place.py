@@ -32,18 +32,25 @@ HOST = "127.0.0.1"
 FORM = "%Y-%m-%dT%H%M%SZ"
 
 
-def holders_of(db: Path) -> list[int]:
-    """The processes that have the store open, also where its files were removed under them."""
-    found = set()
-    for process in (int(name) for name in os.listdir("/proc") if name.isdigit()):
+def holders_of(db: Path, table: Path = Path("/proc")) -> list[int]:
+    """The processes of root or of the store's user that have the store open, also where its files were removed or
+    another disk was mounted over them. In a name space of his own another user gives a file of his the store's path."""
+    users, found = {0, db.parent.stat().st_uid}, set()
+    for process in (int(name) for name in os.listdir(table) if name.isdigit()):
         with contextlib.suppress(OSError):  # one that ends meanwhile has nothing open
-            links = [f"/proc/{process}/fd/{number}" for number in os.listdir(f"/proc/{process}/fd")]
-            if any(readlink(it) in (str(db), f"{db} (deleted)") for it in links):
+            links = [table / f"{process}/fd" / number for number in os.listdir(table / f"{process}/fd")]
+            has_it = any(readlink(it) in (str(db), f"{db} (deleted)") for it in links)
+            if has_it and user_of(table / str(process)) in users:
                 found.add(process)
     return sorted(found - {os.getpid()})
 
 
-def readlink(path: str) -> str:
+def user_of(process: Path) -> int:
+    """A process's real user: who owns its folder may be root, where it lets nobody look at its memory."""
+    return int((process / "status").read_text(errors="replace").partition("\nUid:")[2].split()[0])
+
+
+def readlink(path: Path) -> str:
     """What a link names, or nothing where it is gone."""
     try:
         return os.readlink(path)

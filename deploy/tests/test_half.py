@@ -1,7 +1,9 @@
 """One of two machines: its settings, what DRBD's table says, what is mounted, and for how long a word counts. The table
 is as the user's guide of DRBD 8.4 has it."""
 
+import contextlib
 import os
+import pty
 import signal
 import subprocess
 from datetime import datetime, timedelta, timezone
@@ -125,6 +127,17 @@ def test_a_command_that_takes_too_long_or_is_missing_failed(monkeypatch, error):
     assert ended.returncode != 0 and ended.stderr and not ended.stdout
     with pytest.raises(Refused, match="`x` ended with status 1"):
         half.done(["x"], 5)
+
+
+def test_a_command_has_no_terminal_of_the_one_who_typed_the_script():
+    """It is tried on a terminal, which a command of the same session opens as /dev/tty."""
+    child, terminal = pty.fork()
+    if not child:
+        ended = half.run(["sh", "-c", "exec 3<>/dev/tty && echo root: >&3"])
+        os._exit(ended.returncode == 0)
+    with os.fdopen(terminal, "rb", buffering=0) as shown, contextlib.suppress(OSError):
+        assert b"root:" not in shown.read(99)
+    assert os.waitpid(child, 0)[1] == 0
 
 
 def test_done(asked):

@@ -58,29 +58,37 @@ def test_no_server_has_the_store(place, monkeypatch):
         place.refuse_server(881)
 
 
-def test_holders_of(tmp_path, monkeypatch):
-    """Also of a file that was removed under its server, and of none whose name is alike."""
-    links = {"1": ["/x", f"{tmp_path}/books.db"], "2": [f"{tmp_path}/books.db-wal"],
-        "3": [f"{tmp_path}/books.db (deleted)"],
-             "4": ["socket:[1]"], str(os.getpid()): [f"{tmp_path}/books.db"],
-             "self": [f"{tmp_path}/books.db"]}  # fmt: skip
+def test_holders_of(tmp_path):
+    """Also of a file that was removed under its server, of none whose name is alike, and of no other user's process:
+    there the path may be that of another file, in a name space of his own."""
+    db, own = tmp_path / "db/books.db", os.getuid()
+    db.parent.mkdir()
+    processes = {
+        "1": (own, ["/x", f"{db}"]), "2": (own, [f"{db}-wal"]), "3": (own, [f"{db} (deleted)"]),
+        "4": (own, ["socket:[1]"]), "5": (own, []), "6": (own + 1, [f"{db}"]), "7": (own + 1, [f"{db} (deleted)"]),
+        "8": (0, [f"{db}"]), str(os.getpid()): (own, [f"{db}"]), "self": (own, [f"{db}"]),
+    }  # fmt: skip
+    for name, (user, links) in processes.items():
+        (tmp_path / "proc" / name / "fd").mkdir(parents=True)
+        said = f"Name:\tx Uid:\nUmask:\t0022\nUid:\t{user}\t{own}\t0\t0\nGid:\t0\n"
+        (tmp_path / "proc" / name / "status").write_text(said)
+        for number, link in enumerate(links):
+            (tmp_path / "proc" / name / "fd" / str(number)).symlink_to(link)
+    (tmp_path / "proc/9").mkdir()
+    assert restore_place.holders_of(db, tmp_path / "proc") == [1, 3, 8]
 
-    def listdir(path):
-        if path == "/proc":
-            return [*links, "5"]
-        if path == "/proc/5/fd":
-            raise FileNotFoundError
-        return [str(it) for it in range(len(links[path.split("/")[2]]))]
 
-    def readlink(path):
-        _, _, process, _, number = path.split("/")
-        return links[process][int(number)]
-
-    fake = SimpleNamespace(**{**vars(os), "listdir": listdir, "readlink": readlink})
-    monkeypatch.setattr(restore_place, "os", fake)
-    assert restore_place.holders_of(tmp_path / "books.db") == [1, 3]
-    fake.readlink = lambda path: (_ for _ in ()).throw(FileNotFoundError)
-    assert restore_place.holders_of(tmp_path / "books.db") == []
+def test_a_process_that_has_the_store_open(tmp_path):
+    """By the kernel's own table, before and behind the end of its file."""
+    db = tmp_path / "books.db"
+    db.write_text("")
+    with open(db, "rb") as file, subprocess.Popen(["sleep", "60"], stdin=file) as server:
+        try:
+            assert restore_place.holders_of(db) == [server.pid]
+            db.unlink()
+            assert restore_place.holders_of(db) == [server.pid]
+        finally:
+            server.kill()
 
 
 @pytest.mark.parametrize("error, is_open", [(None, True), (ConnectionRefusedError(), False), (TimeoutError(), False)])
