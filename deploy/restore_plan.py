@@ -9,7 +9,7 @@ import hashlib
 import heapq
 import os
 import tomllib
-from collections.abc import Iterable, Iterator
+from collections.abc import Collection, Iterable, Iterator
 from dataclasses import dataclass, field
 from pathlib import Path
 from typing import Any
@@ -148,12 +148,20 @@ def tokens_at(path: Path) -> tuple[dict[str, str], list[Outer]]:
         raise RestoreError(str(error)) from None
 
 
+def check_customers(option: str, names: Iterable[str], customers: Collection[str]) -> None:
+    """Refuses a word that is for one customer, and names none."""
+    for name in names:
+        if not name:
+            raise RestoreError(f"{option} goes for one customer: name it, as {option} CUSTOMER, and again for another")
+        if name not in customers:
+            raise RestoreError(f"{option} {name}: the site file has no such customer")
+
+
 def check_left_out(left_out: Iterable[str], customers: dict[str, Customer], outers: Iterable[Outer], at: Path) -> None:
     """Refuses to leave a customer out whose stations could go on: a store that doesn't know what they were given would
     give it once more. They can't without an outer token, which ends by `station-token revoke`."""
+    check_customers("--leave-out", left_out, customers)
     for name in left_out:
-        if name not in customers:
-            raise RestoreError(f"--leave-out {name}: the site file has no such customer")
         if not at.is_file():
             told = f"--leave-out {name} needs the file of station-token, which shows that its stations can't go on"
             raise RestoreError(f"{told}, and {at} is none: --tokens")
