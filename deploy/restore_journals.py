@@ -25,7 +25,7 @@ from wanekupo.errors import StationError
 from wanekupo.files import OTHERS_WRITE, opened_plain
 from wanekupo.journal import OF_A_DAY, SUFFIX, journals_of
 from wanekupo.journal_lines import lines_of
-from wanekupo.texts import shown
+from wanekupo.texts import brief, shown
 
 # The most bytes and lines of a folder's journals, which are in memory all at once; and the most bytes of root's file.
 MOST, MOST_LINES, LONGEST = 1 << 31, 4_000_000, 1 << 20
@@ -161,7 +161,7 @@ def _tested(source: Source, otherwise: str, placed: Placed) -> str:
     file, number, line = placed
     seat, place = line.get("seat") or otherwise, f"line {number} of {shown(file)}"
     if seat not in source.seats and (seat or not source.customer):
-        whose = f"of the seat {shown(seat)}" if seat else "of no seat that it names"
+        whose = f"of the seat {shown(brief(seat))}" if seat else "of no seat that it names"
         owner = f"{source.customer} has" if source.customer else f"the folder {source.path.name} is of"
         raise RestoreError(f"{place} is {whose}, and {owner} {', '.join(sorted(source.seats)) or 'none'}")
     fault = digest_fault(file, number, line) if "asked" in line else None

@@ -13,7 +13,7 @@ from typing import Any
 from backup_copy import FILES, opened_by, safely
 from restore_plan import OWN, Customer, Requests, RestoreError
 from wanekupo.journal import Asked, records_of
-from wanekupo.texts import shown
+from wanekupo.texts import brief, shown
 
 # The tables of a store that are compared: how the row of each is known, and what it says.
 TABLES = {
@@ -92,7 +92,7 @@ def _rows_otherwise(customers: Collection[Customer], lost: Path) -> Iterator[tup
     asked = [(customer.name, it) for customer in customers for it in customer.asked]
     for name, it in asked if orders is not None else []:
         if it.path == "/v1/order" and it.is_done() and (name, it.members["name"]) not in names:
-            yield name, _otherwise(f"the order {it.members['name']} of {name}", it, "hasn't it")
+            yield name, _otherwise(f"the order {brief(it.members['name'])} of {name}", it, "hasn't it")
     records = [(customer.name, it) for customer in customers for it in records_of(customer.asked).values()]
     for name, record in records if given is not None else []:
         if not record.asked.is_done():
@@ -100,7 +100,7 @@ def _rows_otherwise(customers: Collection[Customer], lost: Path) -> Iterator[tup
         key = keys.get((record.issuer, record.serial))
         if key != record.key_sha256.lower():
             told = "has another key with it" if key else "hasn't it"
-            yield name, _otherwise(f"the serial number {record.serial} of {record.issuer}", record.asked, told)
+            yield name, _otherwise(f"the serial number {brief(record.serial)} of {brief(record.issuer)}", record.asked, told)
 
 
 def _otherwise(what: str, it: Asked, told: str) -> str:

@@ -71,6 +71,9 @@ def test_lines_of_two_seats_of_a_folder_in_one_file(tmp_path):
     assert taken([tmp_path]) == {("acme", "a1"): [1, 2], ("acme", "a2"): [9]}
 
 
+AT = "2026-11-29T00:00:00Z"
+REPLY = {"at": AT, "nr": 10**4000, "status": 200, "reply": {}}
+
 # What a file has, its name, which line is named, and why.
 FOREIGN = (
     ("another's line", "a1-2026-11-29.journal", [asked(1), asked(2, "b1")], 2, "is of the seat b1, and the folder pc7"),
@@ -81,6 +84,10 @@ FOREIGN = (
     ("no digest", "a1.journal", [asked(1, digest=None)], 1, "has no digest"),
     ("another chip", "a1.journal", [asked(1, asked={"chip": "24", "nr": 1})], 1, "its digest isn't that"),
     ("no line", "a1.journal", [asked(1), ["x"]], 2, "is no line of a journal"),
+    ("a number that no seat has", "a1.journal", [asked(10**4000)], 1, "is no request of a journal"),
+    ("its reply", "a1.journal", [asked(1), REPLY], 2, "is no reply of a journal"),
+    ("a number to go on with", "a1.journal", [{"at": AT, "resynchronized": -(10**4000)}], 1, "is no line of a journal"),
+    ("a seat of many letters", "a1.journal", [asked(1, "s" * 9000)], 1, f"the seat {'s' * 80}.. (9000 characters)"),
     ("a time that there isn't", "a1.journal", [asked(1, at="2026-13-01T00:00:00Z")], 1, "is no line of a journal"),
 )  # fmt: skip
 
@@ -92,7 +99,7 @@ def test_a_line_that_is_not_the_folders(tmp_path, name, file, lines, line, told)
         taken([tmp_path])
     assert f"acme: line {line} of {path} " in str(found.value) and told in str(found.value)
     assert "Nothing was moved. The others go on by --leave-out acme" in str(found.value)
-    assert str(found.value).isprintable()
+    assert str(found.value).isprintable() and len(str(found.value)) < 600
 
 
 def test_the_others_go_on(tmp_path):

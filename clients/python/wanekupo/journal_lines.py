@@ -20,6 +20,9 @@ Name = Union[str, "os.PathLike[str]"]
 # More than a line has: a body, of which two bytes of a letter are six there, and what stands beside it.
 LONGEST_LINE = 1 << 18
 
+# The greatest number of a request (docs/reference/api.md). A person may have written a line with any up to it.
+MOST_NUMBER = 2**53 - 1
+
 MOMENT = re.compile(r"\d{4}-\d\d-\d\dT\d\d:\d\d:\d\dZ")
 NO_LINE = "is no line of a journal"
 
@@ -79,12 +82,16 @@ def form_fault(line: Any) -> str:
             return "has a member of another form"
     if "asked" in line:
         asked = line["asked"]
-        is_one = isinstance(asked, dict) and type(asked.get("nr")) is int and isinstance(asked.get("chip", ""), str)
+        is_one = isinstance(asked, dict) and _is_number(asked.get("nr")) and isinstance(asked.get("chip", ""), str)
         return "" if is_one and "path" in line else "is no request of a journal"
     if "status" in line:
-        is_one = type(line.get("nr")) is int and type(line["status"]) is int and isinstance(line.get("reply"), dict)
+        is_one = _is_number(line.get("nr")) and _is_number(line["status"]) and isinstance(line.get("reply"), dict)
         return "" if is_one else "is no reply of a journal"
-    return "" if type(line.get("resynchronized")) is int else NO_LINE
+    return "" if _is_number(line.get("resynchronized")) else NO_LINE
+
+
+def _is_number(number: Any) -> bool:
+    return type(number) is int and abs(number) <= MOST_NUMBER
 
 
 def _is_moment(at: Any) -> bool:
