@@ -12,11 +12,12 @@ it does by the lines that were read here: what comes meanwhile changes nothing.
 """
 
 import os
+import sys
 import tomllib
 from collections.abc import Iterable, Iterator
 from dataclasses import dataclass
 from pathlib import Path
-from typing import NoReturn
+from typing import Any, NoReturn
 
 from backup_copy import said_of
 from restore_plan import Customer, Placed, RestoreError, SeatJournal, error_of
@@ -27,8 +28,13 @@ from wanekupo.journal import OF_A_DAY, SUFFIX, journals_of
 from wanekupo.journal_lines import lines_of
 from wanekupo.texts import brief, shown
 
-# The most bytes and lines of a folder's journals, which are in memory all at once; and the most bytes of root's file.
-MOST, MOST_LINES, LONGEST = 1 << 31, 4_000_000, 1 << 20
+# The most bytes and lines of a folder's journals, which are in memory all at once: those of most of a year in which a
+# machine makes 1,000 chips a day, of 8 lines each. And the most bytes of root's file.
+MOST, MOST_LINES, LONGEST = 1 << 29, 2_000_000, 1 << 20
+
+# What is kept of a line, and more members than a request or a reply has.
+KEPT = ("at", "path", "asked", "digest", "nr", "status", "reply", "resynchronized")
+MOST_MEMBERS = 64
 
 Folders = dict[str, frozenset[str]]
 
@@ -133,13 +139,26 @@ def _files_of(source: Source) -> list[Path]:
 
 def _placed(file: Path, size: int) -> Iterator[Placed]:
     """The lines of a file, up to the size that it had before any was read."""
+    name = str(file)
     for line in lines_of(file, follows_links=False):
         if line.end > size:
             return
         if line.fault:
             told = f"line {line.number} of {shown(str(file))} {line.fault}"
             raise RestoreError(f"{told}: look at it in a copy; one that was cut hides the line behind it")
-        yield str(file), line.number, line.members
+        yield name, line.number, line.members
+
+
+def _slim(line: dict[str, Any]) -> dict[str, Any]:
+    """What a restore needs of a line. It asks by members that are texts and numbers: of a list or an object, which may
+    take 25 times its bytes in memory, it needs that one is there."""
+    kept = {name: line[name] for name in KEPT if name in line}
+    for name in kept.keys() & {"asked", "reply"}:
+        pairs = kept[name].items()
+        kept[name] = {sys.intern(key): type(it)() if isinstance(it, (dict, list)) else it for key, it in pairs}
+    if "path" in kept:
+        kept["path"] = sys.intern(kept["path"])
+    return kept
 
 
 def seat_named(file: Path) -> str:
@@ -164,6 +183,8 @@ def _tested(source: Source, otherwise: str, placed: Placed) -> str:
         whose = f"of the seat {shown(brief(seat))}" if seat else "of no seat that it names"
         owner = f"{source.customer} has" if source.customer else f"the folder {source.path.name} is of"
         raise RestoreError(f"{place} is {whose}, and {owner} {', '.join(sorted(source.seats)) or 'none'}")
+    if max(len(line.get("asked", ())), len(line.get("reply", ()))) > MOST_MEMBERS:
+        raise RestoreError(f"{place} isn't as a station writes it: it has more than {MOST_MEMBERS} members")
     fault = digest_fault(file, number, line) if "asked" in line else None
     if fault and ("digest" in line or not source.customer):
         raise RestoreError(f"{place} {fault.told}")
@@ -174,6 +195,12 @@ def _bound(source: Source, is_within: bool) -> None:
     if not is_within:
         told = f"{source.path} has more than {MOST >> 20} MB or {MOST_LINES} lines of journals"
         raise RestoreError(f"{told}: look whether they are its own, and move days from before the backup away")
+
+
+def _too_large(source: Source) -> str:
+    size = sum(os.lstat(it).st_size for it in _files_of(source)) >> 20
+    told = f"no memory is left for the journals in {source.path}, which have {size} MB"
+    return f"{told}: look whether they and the larger ones are their station's, and move old days away"
 
 
 def journals_in(source: Source, wanted: frozenset[str]) -> list[SeatJournal]:
@@ -188,7 +215,7 @@ def journals_in(source: Source, wanted: frozenset[str]) -> list[SeatJournal]:
         _bound(source, count < MOST_LINES)
         seat = _tested(source, _unnamed(source, file), it)
         if seat in wanted or not seat:
-            found.setdefault((number, seat), []).append(it)
+            found.setdefault((number, seat), []).append((*it[:2], _slim(it[2])))
     return [SeatJournal(seat, lines) for (_, seat), lines in found.items()]
 
 
@@ -203,6 +230,8 @@ def take_journals(sources: Iterable[Source], customers: dict[str, Customer], lef
             found = journals_in(source, frozenset(owner))
         except (RestoreError, StationError, OSError) as error:
             raise error_of(sorted(names), f"{shown(said_of(error))}. Nothing was moved") from None
+        except MemoryError:
+            raise error_of(sorted(names), f"{_too_large(source)}. Nothing was moved") from None
         for journal in found:
             customer = owner[journal.seat] if journal.seat else customers[source.customer]
             customer.journals.append(journal)

@@ -36,9 +36,11 @@ def error_of(names: list[str], told: str) -> RestoreError:
 
 @contextlib.contextmanager
 def named(customer: str) -> Iterator[None]:
-    """Says whose the line is that an error of the client's names."""
+    """Says whose the line is that an error of the client's names, and for whose journals no memory is left."""
     try:
         yield
+    except MemoryError:
+        raise error_of([customer], "no memory is left for its journals: move days from before the backup away") from None
     except StationError as error:
         raise error_of([customer], told_of(error)) from error
 

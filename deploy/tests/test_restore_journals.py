@@ -87,6 +87,8 @@ FOREIGN = (
     ("a number that no seat has", "a1.journal", [asked(10**4000)], 1, "is no request of a journal"),
     ("its reply", "a1.journal", [asked(1), REPLY], 2, "is no reply of a journal"),
     ("a number to go on with", "a1.journal", [{"at": AT, "resynchronized": -(10**4000)}], 1, "is no line of a journal"),
+    ("more members than a reply has", "a1.journal", [asked(1), {**REPLY, "nr": 1, "reply": dict.fromkeys(map(str, range(65)))}],
+     2, "has more than 64 members"),
     ("a seat of many letters", "a1.journal", [asked(1, "s" * 9000)], 1, f"the seat {'s' * 80}.. (9000 characters)"),
     ("a time that there isn't", "a1.journal", [asked(1, at="2026-13-01T00:00:00Z")], 1, "is no line of a journal"),
 )  # fmt: skip
@@ -174,6 +176,44 @@ def test_a_folder_is_bounded(tmp_path, monkeypatch):
     monkeypatch.setattr(restore_journals, "MOST", path.stat().st_size - 1)
     with pytest.raises(RestoreError, match="pc7 has more than"):
         taken([tmp_path])
+
+
+def lines_of(folder):
+    """The lines as a restore has them."""
+    found = customers()
+    take_journals(sources_of([str(folder)], found, FOLDERS, "journals.toml"), found, [])
+    return [line for it in found.values() for journal in it.journals for _, _, line in journal.lines]
+
+
+def test_what_is_kept_of_a_line_takes_no_more_memory_than_its_bytes(tmp_path):
+    """60,000 lists in a list are 240 KB in the file, and 4 MB in memory."""
+    many = {"chip": "240ac4000001", "nr": 1, "x": [[]] * 60_000}
+    text = json.dumps(many, sort_keys=True, separators=(",", ":"))
+    digest = hashlib.sha256(f"/v1/ship\n{text}".encode()).hexdigest()
+    reply = {"at": AT, "nr": 1, "status": 200, "reply": {"state": "shipped", "mac": None, "rest": [{}] * 60_000}}
+    long = asked(2, notes=[[]] * 60_000)
+    put(tmp_path / "pc7/a1.journal", asked(1, asked=many, digest=digest), reply, long)
+    assert lines_of(tmp_path) == [
+        {"at": AT, "path": "/v1/ship", "asked": {"chip": "240ac4000001", "nr": 1, "x": []}, "digest": digest},
+        {"at": AT, "nr": 1, "status": 200, "reply": {"state": "shipped", "mac": None, "rest": []}},
+        {name: it for name, it in asked(2).items() if name != "seat"},
+    ]
+
+
+def test_no_memory_is_told_by_the_folder_and_the_others_go_on(tmp_path, monkeypatch):
+    put(tmp_path / "pc7/a1.journal", asked(1))
+    put(tmp_path / "pc9/b1.journal", asked(1, "b1"))
+    real = restore_journals.lines_of
+
+    def full(file, **more):
+        if "pc7" in str(file):
+            raise MemoryError
+        return real(file, **more)
+
+    monkeypatch.setattr(restore_journals, "lines_of", full)
+    with pytest.raises(RestoreError, match="^acme: no memory is left .* in .*/pc7, .* by --leave-out acme$"):
+        taken([tmp_path])
+    assert taken([tmp_path], left_out=["acme"]) == {("bolt", "b1"): [1]}
 
 
 def test_what_comes_while_it_reads_is_left(tmp_path, monkeypatch):

@@ -130,6 +130,11 @@ def test_an_error_of_the_client_has_its_advice_and_the_way_on():
     assert str(found.value) == "bolt: it is so. Do this. The others go on by --leave-out bolt"
 
 
+def test_no_memory_is_told_by_the_customer():
+    with pytest.raises(RestoreError, match="^bolt: no memory is left .* by --leave-out bolt$"), named("bolt"):
+        raise MemoryError
+
+
 def test_customers(tmp_path):
     site = tmp_path / "site.toml"
     site.write_text('[[customer]]\nname = "acme"\nissuer = ["x"]\n[[customer.seat]]\nname = "a1"\ntoken = "AB"\n'
