@@ -13,7 +13,6 @@ it does by the lines that were read here: what comes meanwhile changes nothing.
 
 import os
 import sys
-import tomllib
 from collections.abc import Iterable, Iterator
 from dataclasses import dataclass
 from pathlib import Path
@@ -23,21 +22,17 @@ from backup_copy import said_of
 from restore_plan import Customer, Placed, RestoreError, SeatJournal, error_of
 from wanekupo.books.steps import digest_fault
 from wanekupo.errors import StationError
-from wanekupo.files import OTHERS_WRITE, opened_plain
 from wanekupo.journal import OF_A_DAY, SUFFIX, journals_of
-from wanekupo.journal_lines import lines_of
+from wanekupo.journal_lines import Folders, lines_of
 from wanekupo.texts import brief, shown
 
 # The most bytes and lines of a folder's journals, which are in memory all at once: those of most of a year in which a
-# machine makes 1,000 chips a day, of 8 lines each. And the most bytes of root's file.
-MOST, MOST_LINES, LONGEST = 1 << 29, 2_000_000, 1 << 20
+# machine makes 1,000 chips a day, of 8 lines each.
+MOST, MOST_LINES = 1 << 29, 2_000_000
 
 # What is kept of a line, and more members than a request or a reply has.
 KEPT = ("at", "path", "asked", "digest", "nr", "status", "reply", "resynchronized")
 MOST_MEMBERS = 64
-
-Folders = dict[str, frozenset[str]]
-
 
 @dataclass(frozen=True)
 class Source:
@@ -47,38 +42,6 @@ class Source:
     path: Path
     seats: frozenset[str]
     customer: str = ""
-
-
-# The file that says whose folders are.
-
-
-def folders_at(path: Path) -> Folders:
-    """The seats of each folder by a file that nobody but root or this user may write; none where it isn't there."""
-    try:
-        with open(opened_plain(path, os.O_RDONLY), "rb") as file:
-            found = os.fstat(file.fileno())
-            if found.st_uid not in (0, os.geteuid()) or found.st_mode & OTHERS_WRITE:
-                raise RestoreError(f"{path} is another user's, or others may write it: it says whose journals are")
-            return folders_in(file.read(LONGEST).decode(), path)
-    except FileNotFoundError:
-        return {}
-    except (OSError, ValueError, StationError) as error:
-        raise RestoreError(f"{path} can't be read: {error}") from None
-
-
-def folders_in(text: str, path: Path) -> Folders:
-    """The same of its text. A seat has one folder: what lies in another one isn't its own."""
-    table = tomllib.loads(text).get("folders")
-    if not isinstance(table, dict):
-        raise RestoreError(f"{path} has no table [folders]")
-    owner: dict[str, str] = {}
-    for name, seats in table.items():
-        if not isinstance(seats, list) or not all(isinstance(it, str) and it for it in seats) or "/" in name:
-            raise RestoreError(f'{path}: {name!r} has to be the name of a folder, with seats as ["a1", "a2"]')
-        for seat in seats:
-            if owner.setdefault(seat, name) != name:
-                raise RestoreError(f"{path}: the seat {seat} has two folders, {owner[seat]} and {name}")
-    return {name: frozenset(seats) for name, seats in table.items()}
 
 
 # Where journals are.

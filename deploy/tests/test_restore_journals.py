@@ -6,8 +6,10 @@ import os
 
 import pytest
 import restore_journals
-from restore_journals import folders_at, folders_in, seat_named, sources_of, take_journals
+from restore_journals import seat_named, sources_of, take_journals
 from restore_plan import Customer, RestoreError
+from wanekupo.errors import BadJournal
+from wanekupo.journal_lines import folders_at, folders_in
 
 
 def asked(number, seat="a1", **more):
@@ -257,7 +259,7 @@ def test_a_table_of_folders(text, expected, tmp_path):
 
 @pytest.mark.parametrize("text, told", BAD)
 def test_a_table_that_is_none(text, told, tmp_path):
-    with pytest.raises(RestoreError, match=told):
+    with pytest.raises(BadJournal, match=told):
         folders_in(text, tmp_path)
 
 
@@ -267,14 +269,14 @@ def test_the_file_is_roots_or_this_users(tmp_path):
     path.write_text('[folders]\npc7 = ["a1"]\n')
     assert folders_at(path) == {"pc7": {"a1"}}
     path.chmod(0o664)
-    with pytest.raises(RestoreError, match="or others may write it"):
+    with pytest.raises(BadJournal, match="or others may write it"):
         folders_at(path)
     path.chmod(0o600)
     (tmp_path / "link").symlink_to(path)
-    with pytest.raises(RestoreError, match="is a link, and isn't followed"):
+    with pytest.raises(BadJournal, match="is a link, and isn't followed"):
         folders_at(tmp_path / "link")
     path.write_bytes(b"\xff")
-    with pytest.raises(RestoreError, match="can't be read"):
+    with pytest.raises(BadJournal, match="can't be read"):
         folders_at(path)
 
 
