@@ -182,7 +182,10 @@ def test_lost(bench):
     for name in ("books.db", "books.db-wal"):
         shutil.copy(bench.backup / name, older / name)
     bench.refuses("and the lost store's last is", folder=older)
-    ends = bench.restore(older, "--distrust-lost")
+    told = [bench.refuses(it, "--distrust-lost", "acme", folder=older) for it in ("--distrust-lost bolt", "cord: line")]
+    if "acme: line" in told[0][1].stderr:
+        raise Failed(f"one that is distrusted is told: {told[0]}")
+    ends = bench.restore(older, *(word for name in CUSTOMERS for word in ("--distrust-lost", name)))
     if ends.returncode:
         raise Failed(f"--distrust-lost: {ends}")
     ends = bench.restore(older)

@@ -12,26 +12,27 @@ it does by the lines that were read here: what comes meanwhile changes nothing.
 """
 
 import os
-import tomllib
+import sys
 from collections.abc import Iterable, Iterator
 from dataclasses import dataclass
 from pathlib import Path
-from typing import NoReturn
+from typing import Any, NoReturn
 
 from backup_copy import said_of
 from restore_plan import Customer, Placed, RestoreError, SeatJournal, error_of
 from wanekupo.books.steps import digest_fault
 from wanekupo.errors import StationError
-from wanekupo.files import OTHERS_WRITE, opened_plain
 from wanekupo.journal import OF_A_DAY, SUFFIX, journals_of
-from wanekupo.journal_lines import lines_of
-from wanekupo.texts import shown
+from wanekupo.journal_lines import Folders, lines_of
+from wanekupo.texts import brief, shown
 
-# The most bytes and lines of a folder's journals, which are in memory all at once; and the most bytes of root's file.
-MOST, MOST_LINES, LONGEST = 1 << 31, 4_000_000, 1 << 20
+# The most bytes and lines of a folder's journals, which are in memory all at once: those of most of a year in which a
+# machine makes 1,000 chips a day, of 8 lines each.
+MOST, MOST_LINES = 1 << 29, 2_000_000
 
-Folders = dict[str, frozenset[str]]
-
+# What is kept of a line, and more members than a request or a reply has.
+KEPT = ("at", "path", "asked", "digest", "nr", "status", "reply", "resynchronized")
+MOST_MEMBERS = 64
 
 @dataclass(frozen=True)
 class Source:
@@ -41,38 +42,6 @@ class Source:
     path: Path
     seats: frozenset[str]
     customer: str = ""
-
-
-# The file that says whose folders are.
-
-
-def folders_at(path: Path) -> Folders:
-    """The seats of each folder by a file that nobody but root or this user may write; none where it isn't there."""
-    try:
-        with open(opened_plain(path, os.O_RDONLY), "rb") as file:
-            found = os.fstat(file.fileno())
-            if found.st_uid not in (0, os.geteuid()) or found.st_mode & OTHERS_WRITE:
-                raise RestoreError(f"{path} is another user's, or others may write it: it says whose journals are")
-            return folders_in(file.read(LONGEST).decode(), path)
-    except FileNotFoundError:
-        return {}
-    except (OSError, ValueError, StationError) as error:
-        raise RestoreError(f"{path} can't be read: {error}") from None
-
-
-def folders_in(text: str, path: Path) -> Folders:
-    """The same of its text. A seat has one folder: what lies in another one isn't its own."""
-    table = tomllib.loads(text).get("folders")
-    if not isinstance(table, dict):
-        raise RestoreError(f"{path} has no table [folders]")
-    owner: dict[str, str] = {}
-    for name, seats in table.items():
-        if not isinstance(seats, list) or not all(isinstance(it, str) and it for it in seats) or "/" in name:
-            raise RestoreError(f'{path}: {name!r} has to be the name of a folder, with seats as ["a1", "a2"]')
-        for seat in seats:
-            if owner.setdefault(seat, name) != name:
-                raise RestoreError(f"{path}: the seat {seat} has two folders, {owner[seat]} and {name}")
-    return {name: frozenset(seats) for name, seats in table.items()}
 
 
 # Where journals are.
@@ -133,13 +102,26 @@ def _files_of(source: Source) -> list[Path]:
 
 def _placed(file: Path, size: int) -> Iterator[Placed]:
     """The lines of a file, up to the size that it had before any was read."""
+    name = str(file)
     for line in lines_of(file, follows_links=False):
         if line.end > size:
             return
         if line.fault:
             told = f"line {line.number} of {shown(str(file))} {line.fault}"
             raise RestoreError(f"{told}: look at it in a copy; one that was cut hides the line behind it")
-        yield str(file), line.number, line.members
+        yield name, line.number, line.members
+
+
+def _slim(line: dict[str, Any]) -> dict[str, Any]:
+    """What a restore needs of a line. It asks by members that are texts and numbers: of a list or an object, which may
+    take 25 times its bytes in memory, it needs that one is there."""
+    kept = {name: line[name] for name in KEPT if name in line}
+    for name in kept.keys() & {"asked", "reply"}:
+        pairs = kept[name].items()
+        kept[name] = {sys.intern(key): type(it)() if isinstance(it, (dict, list)) else it for key, it in pairs}
+    if "path" in kept:
+        kept["path"] = sys.intern(kept["path"])
+    return kept
 
 
 def seat_named(file: Path) -> str:
@@ -161,9 +143,11 @@ def _tested(source: Source, otherwise: str, placed: Placed) -> str:
     file, number, line = placed
     seat, place = line.get("seat") or otherwise, f"line {number} of {shown(file)}"
     if seat not in source.seats and (seat or not source.customer):
-        whose = f"of the seat {shown(seat)}" if seat else "of no seat that it names"
+        whose = f"of the seat {shown(brief(seat))}" if seat else "of no seat that it names"
         owner = f"{source.customer} has" if source.customer else f"the folder {source.path.name} is of"
         raise RestoreError(f"{place} is {whose}, and {owner} {', '.join(sorted(source.seats)) or 'none'}")
+    if max(len(line.get("asked", ())), len(line.get("reply", ()))) > MOST_MEMBERS:
+        raise RestoreError(f"{place} isn't as a station writes it: it has more than {MOST_MEMBERS} members")
     fault = digest_fault(file, number, line) if "asked" in line else None
     if fault and ("digest" in line or not source.customer):
         raise RestoreError(f"{place} {fault.told}")
@@ -174,6 +158,12 @@ def _bound(source: Source, is_within: bool) -> None:
     if not is_within:
         told = f"{source.path} has more than {MOST >> 20} MB or {MOST_LINES} lines of journals"
         raise RestoreError(f"{told}: look whether they are its own, and move days from before the backup away")
+
+
+def _too_large(source: Source) -> str:
+    size = sum(os.lstat(it).st_size for it in _files_of(source)) >> 20
+    told = f"no memory is left for the journals in {source.path}, which have {size} MB"
+    return f"{told}: look whether they and the larger ones are their station's, and move old days away"
 
 
 def journals_in(source: Source, wanted: frozenset[str]) -> list[SeatJournal]:
@@ -188,7 +178,7 @@ def journals_in(source: Source, wanted: frozenset[str]) -> list[SeatJournal]:
         _bound(source, count < MOST_LINES)
         seat = _tested(source, _unnamed(source, file), it)
         if seat in wanted or not seat:
-            found.setdefault((number, seat), []).append(it)
+            found.setdefault((number, seat), []).append((*it[:2], _slim(it[2])))
     return [SeatJournal(seat, lines) for (_, seat), lines in found.items()]
 
 
@@ -203,6 +193,8 @@ def take_journals(sources: Iterable[Source], customers: dict[str, Customer], lef
             found = journals_in(source, frozenset(owner))
         except (RestoreError, StationError, OSError) as error:
             raise error_of(sorted(names), f"{shown(said_of(error))}. Nothing was moved") from None
+        except MemoryError:
+            raise error_of(sorted(names), f"{_too_large(source)}. Nothing was moved") from None
         for journal in found:
             customer = owner[journal.seat] if journal.seat else customers[source.customer]
             customer.journals.append(journal)

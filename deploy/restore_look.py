@@ -6,14 +6,14 @@ reads what it can in its safe mode, and the journals aren't held against it.
 
 import json
 import subprocess
-from collections.abc import Collection, Iterator
+from collections.abc import Collection, Iterable, Iterator
 from pathlib import Path
 from typing import Any
 
 from backup_copy import FILES, opened_by, safely
 from restore_plan import OWN, Customer, Requests, RestoreError
 from wanekupo.journal import Asked, records_of
-from wanekupo.texts import shown
+from wanekupo.texts import brief, shown
 
 # The tables of a store that are compared: how the row of each is known, and what it says.
 TABLES = {
@@ -55,15 +55,17 @@ def lost_copy(program: str, site: Path, lost: Path, folder: Path) -> tuple[Path,
 
 def contradictions(
     customers: Collection[Customer], requests: dict[str, Requests], lost: Path, before: dict[str, int]
-) -> Iterator[str]:
-    """What journals have that the lost store hasn't, or has otherwise. `before` are the last numbers of the backup."""
+) -> Iterator[tuple[str, str]]:
+    """What journals have that the lost store hasn't, or has otherwise, each with the customer whose they are. `before`
+    are the last numbers of the backup."""
     seats = rows_of(lost, SEATS)
     rows = {row["name"]: row for row in seats or []}
     for customer in customers if seats is not None else []:
         # A store that was restored since the backup knows what journals have, and not by the numbers of their seats.
         is_restored = any(it.startswith(OWN) and _last(rows, it) > before.get(it, 0) for it in customer.seats)
         for seat in sorted(customer.seats.keys() & requests.keys()):
-            yield from _numbers_otherwise(seat, requests[seat], rows.get(seat), is_restored)
+            for told in _numbers_otherwise(seat, requests[seat], rows.get(seat), is_restored):
+                yield customer.name, told
     yield from _rows_otherwise(customers, lost)
 
 
@@ -82,7 +84,7 @@ def _numbers_otherwise(seat: str, found: Requests, row: dict[str, Any] | None, i
         yield f"{found[ahead[0]][0].place} has number {ahead[0]} of {seat}, and the lost store's last is {last}"
 
 
-def _rows_otherwise(customers: Collection[Customer], lost: Path) -> Iterator[str]:
+def _rows_otherwise(customers: Collection[Customer], lost: Path) -> Iterator[tuple[str, str]]:
     """Orders and serial numbers that had a reply, and aren't in the lost store."""
     orders, given = rows_of(lost, TABLES["orders"]), rows_of(lost, TABLES["serial numbers"])
     names = {(row["customer"], row["name"]) for row in orders or []}
@@ -90,17 +92,27 @@ def _rows_otherwise(customers: Collection[Customer], lost: Path) -> Iterator[str
     asked = [(customer.name, it) for customer in customers for it in customer.asked]
     for name, it in asked if orders is not None else []:
         if it.path == "/v1/order" and it.is_done() and (name, it.members["name"]) not in names:
-            yield _otherwise(f"the order {it.members['name']} of {name}", it, "hasn't it")
-    records = [it for customer in customers for it in records_of(customer.asked).values() if it.asked.is_done()]
-    for record in records if given is not None else []:
+            yield name, _otherwise(f"the order {brief(it.members['name'])} of {name}", it, "hasn't it")
+    records = [(customer.name, it) for customer in customers for it in records_of(customer.asked).values()]
+    for name, record in records if given is not None else []:
+        if not record.asked.is_done():
+            continue
         key = keys.get((record.issuer, record.serial))
         if key != record.key_sha256.lower():
             told = "has another key with it" if key else "hasn't it"
-            yield _otherwise(f"the serial number {record.serial} of {record.issuer}", record.asked, told)
+            yield name, _otherwise(f"the serial number {brief(record.serial)} of {brief(record.issuer)}", record.asked, told)
 
 
 def _otherwise(what: str, it: Asked, told: str) -> str:
     return f"line {it.line} of {shown(it.file)} has {shown(what)}, and the lost store {told}"
+
+
+def by_customer(found: Iterable[tuple[str, str]]) -> dict[str, list[str]]:
+    """Lines by the customer that they are of: what one has hides nothing of another."""
+    lines: dict[str, list[str]] = {}
+    for name, line in found:
+        lines.setdefault(name, []).append(line)
+    return lines
 
 
 # What no journal has.

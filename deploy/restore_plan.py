@@ -9,7 +9,7 @@ import hashlib
 import heapq
 import os
 import tomllib
-from collections.abc import Iterable, Iterator
+from collections.abc import Collection, Iterable, Iterator
 from dataclasses import dataclass, field
 from pathlib import Path
 from typing import Any
@@ -36,9 +36,11 @@ def error_of(names: list[str], told: str) -> RestoreError:
 
 @contextlib.contextmanager
 def named(customer: str) -> Iterator[None]:
-    """Says whose the line is that an error of the client's names."""
+    """Says whose the line is that an error of the client's names, and for whose journals no memory is left."""
     try:
         yield
+    except MemoryError:
+        raise error_of([customer], "no memory is left for its journals: move days from before the backup away") from None
     except StationError as error:
         raise error_of([customer], told_of(error)) from error
 
@@ -148,12 +150,20 @@ def tokens_at(path: Path) -> tuple[dict[str, str], list[Outer]]:
         raise RestoreError(str(error)) from None
 
 
+def check_customers(option: str, names: Iterable[str], customers: Collection[str]) -> None:
+    """Refuses a word that is for one customer, and names none."""
+    for name in names:
+        if not name:
+            raise RestoreError(f"{option} goes for one customer: name it, as {option} CUSTOMER, and again for another")
+        if name not in customers:
+            raise RestoreError(f"{option} {name}: the site file has no such customer")
+
+
 def check_left_out(left_out: Iterable[str], customers: dict[str, Customer], outers: Iterable[Outer], at: Path) -> None:
     """Refuses to leave a customer out whose stations could go on: a store that doesn't know what they were given would
     give it once more. They can't without an outer token, which ends by `station-token revoke`."""
+    check_customers("--leave-out", left_out, customers)
     for name in left_out:
-        if name not in customers:
-            raise RestoreError(f"--leave-out {name}: the site file has no such customer")
         if not at.is_file():
             told = f"--leave-out {name} needs the file of station-token, which shows that its stations can't go on"
             raise RestoreError(f"{told}, and {at} is none: --tokens")

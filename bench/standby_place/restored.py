@@ -8,7 +8,7 @@ from pathlib import Path
 
 from standby_place.books import given_twice
 from standby_place.guests import SilentGuest
-from standby_place.load import WORK, Asking, Line, token_of
+from standby_place.load import CUSTOMERS, WORK, Asking, Line, token_of
 from standby_place.pair import SEEN
 from standby_place.place import ANSWERS, BEHIND, Place, is_alone, new_disk
 from standby_place.scenarios import OLDER
@@ -17,13 +17,14 @@ ROOT = Path(__file__).resolve().parents[2]
 # What a guest hasn't that a restore needs, beside the client's package.
 TOOLS = ("backup", "restore", *(path.name for path in (ROOT / "deploy").glob("*.py")))
 # What the page has the operator type, each command by itself.
-TYPED = """
+DISTRUST = " ".join(f"--distrust-lost c{customer}" for customer in range(CUSTOMERS))
+TYPED = f"""
 drbdadm primary --force station
 mount -o nodev,nosuid,noexec /dev/drbd0 /var/lib/station
 /usr/share/wanekupo/backup --program station \
   --site /etc/station/site.toml --db /var/lib/station/books.db /var/backups/station/older-half
 /usr/share/wanekupo/restore /var/backups/station/older-half /etc/station/site.toml /run/stick/journals \
-  --distrust-lost --tokens /run/stick/tokens --folders /run/stick/journals.toml
+  {DISTRUST} --tokens /run/stick/tokens --folders /run/stick/journals.toml
 """
 
 

@@ -24,7 +24,7 @@ COUNTS = ["orders 2", "devices 3", "records 4", "seat a1 17"]
 def args_of(folder, **more):
     found = {"backup": folder / "backup", "site": folder / "site.toml", "program": "P", "backups": folder,
         "leave_out": [],
-             "accept_missing": False, "distrust_lost": False, "without": "", "stop": "", "port": 880,
+             "accept_missing": [], "distrust_lost": [], "without": "", "stop": "", "port": 880,
              "db": "/db/books.db",
              "tokens": folder / "tokens.conf", "folders": folder / "journals.toml", "journals": [],
              "seat": []}  # fmt: skip
@@ -145,14 +145,18 @@ def looked(monkeypatch, tmp_path, place, rows, **more):
 
 
 ROWS = [{"customer": "acme", "name": "o1"}, {"customer": "bolt", "name": "o2"}]
+MANY = [*(6 * ROWS[:1]), ROWS[1]]  # one customer's rows hide none of another's
+KEPT = "orders of the lost store are in no journal"
 
 
 @pytest.mark.parametrize("rows, more, keeps", [
-    ({"orders": ROWS}, {}, ["2 orders of the lost store are in no journal: acme o1; bolt o2"]),
-    ({"serial numbers": ROWS[:1]}, {}, ["1 serial numbers of the lost store are in no journal: acme o1"]),
-    ({"orders": ROWS}, {"accept_missing": True}, []), ({"orders": []}, {}, []), ({"orders": None}, {}, []),
+    ({"orders": ROWS}, {}, [f"acme: 1 {KEPT}: acme o1", f"bolt: 1 {KEPT}: bolt o2"]),
+    ({"orders": MANY}, {}, [f"acme: 6 {KEPT}: {'; '.join(5 * ['acme o1'])}", f"bolt: 1 {KEPT}: bolt o2"]),
+    ({"orders": MANY}, {"accept_missing": ["acme"]}, [f"bolt: 1 {KEPT}: bolt o2"]),
+    ({"serial numbers": ROWS[:1]}, {}, ["acme: 1 serial numbers of the lost store are in no journal: acme o1"]),
+    ({"orders": ROWS}, {"accept_missing": ["bolt", "acme"]}, []), ({"orders": []}, {}, []), ({"orders": None}, {}, []),
     ({"devices": ROWS, "maps": ROWS}, {}, []),
-    ({"orders": ROWS}, {"leave_out": ["bolt"]}, ["1 orders of the lost store are in no journal: acme o1"]),
+    ({"orders": ROWS}, {"leave_out": ["bolt"]}, [f"acme: 1 {KEPT}: acme o1"]),
     ({"orders": ROWS}, {"leave_out": ["acme", "bolt"]}, []),
 ])  # fmt: skip
 def test_rows_of_the_lost_store_that_no_journal_has(monkeypatch, tmp_path, place, rows, more, keeps):
@@ -165,22 +169,26 @@ def test_nothing_to_compare_with(tmp_path, place, capsys):
 
 def held(monkeypatch, tmp_path, place, found, is_opened=True, **more):
     monkeypatch.setattr(restore, "lost_copy", lambda program, site, lost, folder: (folder / lost.name, is_opened))
-    monkeypatch.setattr(restore, "contradictions", lambda *words: iter(found))
+    monkeypatch.setattr(restore, "contradictions", lambda *words: iter([tuple(it.split(": ")) for it in found]))
     monkeypatch.setattr(restore, "last_numbers", lambda counts: {"a1": 17})
     return restore.hold_against_lost(args_of(tmp_path, **more), place, [], {}, COUNTS)
 
 
 def test_journals_are_held_against_the_lost_store(monkeypatch, tmp_path, place, capsys):
-    assert held(monkeypatch, tmp_path, place, ["x"]) is None, "no store was there"
+    assert held(monkeypatch, tmp_path, place, ["acme: x"]) is None, "no store was there"
     for path in place.own_files():
         path.write_text("")
     copy = place.work / "lost/books.db"
     assert held(monkeypatch, tmp_path, place, []) == copy
-    with pytest.raises(RestoreError, match="one; two; 2 such lines.*--distrust-lost"):
-        held(monkeypatch, tmp_path, place, ["one", "two"])
-    assert held(monkeypatch, tmp_path, place, ["one", "two"], distrust_lost=True) == copy
-    assert "warning: one" in capsys.readouterr().out
-    assert held(monkeypatch, tmp_path, place, ["one"], is_opened=False) == copy
+    both = [*(9 * ["acme: one"]), "acme: two", "bolt: three"]
+    with pytest.raises(RestoreError, match="acme: one; .*10 such lines. bolt: three; 1 such.*--distrust-lost acme"):
+        held(monkeypatch, tmp_path, place, both)
+    with pytest.raises(RestoreError, match="^bolt: three; 1 such lines. .* --distrust-lost bolt"):
+        held(monkeypatch, tmp_path, place, both, distrust_lost=["acme"])
+    assert held(monkeypatch, tmp_path, place, both, distrust_lost=["acme", "bolt"]) == copy
+    told = capsys.readouterr().out
+    assert "warning: acme: one" in told and "warning: bolt: three" in told
+    assert held(monkeypatch, tmp_path, place, ["acme: one"], is_opened=False) == copy
     assert "doesn't open the lost store" in capsys.readouterr().out
 
 
@@ -316,7 +324,7 @@ def test_what_is_needed(monkeypatch, capsys, missing):
 def test_the_defaults(monkeypatch):
     args = restore.words().parse_args(["b", "s"])
     assert (args.db, str(args.tokens), args.port) == ("/var/lib/station/books.db", "/etc/station/tokens.conf", 880)
-    assert not args.accept_missing and args.without == "" and args.stop == "" and args.backups is None
+    assert args.accept_missing == args.distrust_lost == [] and args.without == "" and args.stop == "" and args.backups is None
 
 
 def test_journals_by_whole_paths(monkeypatch, tmp_path):
@@ -347,6 +355,12 @@ def test_root_reads_the_tokens_and_stops_the_server_before_it_becomes_another(mo
     assert calls.index("tokens_at") < calls.index("as the user") and calls[-3:] == ["stop", ("server", 880),
         "as the user"]
     calls.clear()
+    for option in ("--accept-missing", "--distrust-lost"):
+        for more in ([], ["acne"]):
+            words = ["b", "s", option, *more, "--db", "/db/books.db"]
+            with pytest.raises(RestoreError, match=f"{option} (goes for one customer|acne: the site file has no)"):
+                restore.run(restore.words().parse_args(words))
+    assert "stop" not in calls and "as the user" not in calls, "it is refused before anything is done"
     restore.run(args_of(tmp_path))
     assert "stop" not in calls and calls[-2:] == [("server", 880), "as the user"]
 

@@ -6,8 +6,10 @@ import os
 
 import pytest
 import restore_journals
-from restore_journals import folders_at, folders_in, seat_named, sources_of, take_journals
+from restore_journals import seat_named, sources_of, take_journals
 from restore_plan import Customer, RestoreError
+from wanekupo.errors import BadJournal
+from wanekupo.journal_lines import folders_at, folders_in
 
 
 def asked(number, seat="a1", **more):
@@ -71,6 +73,9 @@ def test_lines_of_two_seats_of_a_folder_in_one_file(tmp_path):
     assert taken([tmp_path]) == {("acme", "a1"): [1, 2], ("acme", "a2"): [9]}
 
 
+AT = "2026-11-29T00:00:00Z"
+REPLY = {"at": AT, "nr": 10**4000, "status": 200, "reply": {}}
+
 # What a file has, its name, which line is named, and why.
 FOREIGN = (
     ("another's line", "a1-2026-11-29.journal", [asked(1), asked(2, "b1")], 2, "is of the seat b1, and the folder pc7"),
@@ -81,6 +86,12 @@ FOREIGN = (
     ("no digest", "a1.journal", [asked(1, digest=None)], 1, "has no digest"),
     ("another chip", "a1.journal", [asked(1, asked={"chip": "24", "nr": 1})], 1, "its digest isn't that"),
     ("no line", "a1.journal", [asked(1), ["x"]], 2, "is no line of a journal"),
+    ("a number that no seat has", "a1.journal", [asked(10**4000)], 1, "is no request of a journal"),
+    ("its reply", "a1.journal", [asked(1), REPLY], 2, "is no reply of a journal"),
+    ("a number to go on with", "a1.journal", [{"at": AT, "resynchronized": -(10**4000)}], 1, "is no line of a journal"),
+    ("more members than a reply has", "a1.journal", [asked(1), {**REPLY, "nr": 1, "reply": dict.fromkeys(map(str, range(65)))}],
+     2, "has more than 64 members"),
+    ("a seat of many letters", "a1.journal", [asked(1, "s" * 9000)], 1, f"the seat {'s' * 80}.. (9000 characters)"),
     ("a time that there isn't", "a1.journal", [asked(1, at="2026-13-01T00:00:00Z")], 1, "is no line of a journal"),
 )  # fmt: skip
 
@@ -92,7 +103,7 @@ def test_a_line_that_is_not_the_folders(tmp_path, name, file, lines, line, told)
         taken([tmp_path])
     assert f"acme: line {line} of {path} " in str(found.value) and told in str(found.value)
     assert "Nothing was moved. The others go on by --leave-out acme" in str(found.value)
-    assert str(found.value).isprintable()
+    assert str(found.value).isprintable() and len(str(found.value)) < 600
 
 
 def test_the_others_go_on(tmp_path):
@@ -169,6 +180,44 @@ def test_a_folder_is_bounded(tmp_path, monkeypatch):
         taken([tmp_path])
 
 
+def lines_of(folder):
+    """The lines as a restore has them."""
+    found = customers()
+    take_journals(sources_of([str(folder)], found, FOLDERS, "journals.toml"), found, [])
+    return [line for it in found.values() for journal in it.journals for _, _, line in journal.lines]
+
+
+def test_what_is_kept_of_a_line_takes_no_more_memory_than_its_bytes(tmp_path):
+    """60,000 lists in a list are 240 KB in the file, and 4 MB in memory."""
+    many = {"chip": "240ac4000001", "nr": 1, "x": [[]] * 60_000}
+    text = json.dumps(many, sort_keys=True, separators=(",", ":"))
+    digest = hashlib.sha256(f"/v1/ship\n{text}".encode()).hexdigest()
+    reply = {"at": AT, "nr": 1, "status": 200, "reply": {"state": "shipped", "mac": None, "rest": [{}] * 60_000}}
+    long = asked(2, notes=[[]] * 60_000)
+    put(tmp_path / "pc7/a1.journal", asked(1, asked=many, digest=digest), reply, long)
+    assert lines_of(tmp_path) == [
+        {"at": AT, "path": "/v1/ship", "asked": {"chip": "240ac4000001", "nr": 1, "x": []}, "digest": digest},
+        {"at": AT, "nr": 1, "status": 200, "reply": {"state": "shipped", "mac": None, "rest": []}},
+        {name: it for name, it in asked(2).items() if name != "seat"},
+    ]
+
+
+def test_no_memory_is_told_by_the_folder_and_the_others_go_on(tmp_path, monkeypatch):
+    put(tmp_path / "pc7/a1.journal", asked(1))
+    put(tmp_path / "pc9/b1.journal", asked(1, "b1"))
+    real = restore_journals.lines_of
+
+    def full(file, **more):
+        if "pc7" in str(file):
+            raise MemoryError
+        return real(file, **more)
+
+    monkeypatch.setattr(restore_journals, "lines_of", full)
+    with pytest.raises(RestoreError, match="^acme: no memory is left .* in .*/pc7, .* by --leave-out acme$"):
+        taken([tmp_path])
+    assert taken([tmp_path], left_out=["acme"]) == {("bolt", "b1"): [1]}
+
+
 def test_what_comes_while_it_reads_is_left(tmp_path, monkeypatch):
     """A file that grows behind the look at its size is read up to that size."""
     path = put(tmp_path / "pc7/a1.journal", asked(1))
@@ -210,7 +259,7 @@ def test_a_table_of_folders(text, expected, tmp_path):
 
 @pytest.mark.parametrize("text, told", BAD)
 def test_a_table_that_is_none(text, told, tmp_path):
-    with pytest.raises(RestoreError, match=told):
+    with pytest.raises(BadJournal, match=told):
         folders_in(text, tmp_path)
 
 
@@ -220,14 +269,14 @@ def test_the_file_is_roots_or_this_users(tmp_path):
     path.write_text('[folders]\npc7 = ["a1"]\n')
     assert folders_at(path) == {"pc7": {"a1"}}
     path.chmod(0o664)
-    with pytest.raises(RestoreError, match="or others may write it"):
+    with pytest.raises(BadJournal, match="or others may write it"):
         folders_at(path)
     path.chmod(0o600)
     (tmp_path / "link").symlink_to(path)
-    with pytest.raises(RestoreError, match="is a link, and isn't followed"):
+    with pytest.raises(BadJournal, match="is a link, and isn't followed"):
         folders_at(tmp_path / "link")
     path.write_bytes(b"\xff")
-    with pytest.raises(RestoreError, match="can't be read"):
+    with pytest.raises(BadJournal, match="can't be read"):
         folders_at(path)
 
 

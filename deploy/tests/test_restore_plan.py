@@ -88,6 +88,12 @@ BAD = (
     [asked(1), replied(2)],
     [asked(1, path="/v1/identity", chip="24"), replied(1, **RECORD), asked(2, path="/v1/identity", chip="25"),
      replied(2, **{**RECORD, "chip": "25"})],
+    [asked(1, path="/v1/order", name="n" * 200_000)],
+    [asked(1, path="/v1/map", text="\u00e4" * 33_000)],  # two bytes of a letter
+    [asked(1, path="/v1/import", issuer="acme-ca", csv="x" * 65_536)],
+    [asked(1, path="/v1/map", text="\ud800")],
+    [asked(1, chip="2" * 65_536), replied(1, state="shipped")],
+    [asked(1, path="/v1/identity", chip="24"), replied(1, **{**RECORD, "serial": "A" * 65_000})],
 )  # fmt: skip
 
 
@@ -97,6 +103,17 @@ def test_lines_that_no_station_writes_are_named(lines):
         asked_of(customer(journals=[("a1", placed(*lines, file="all/a1.journal"))]))
     assert str(found.value).startswith("acme: ") and "of all/a1.journal" in str(found.value)
     assert str(found.value).endswith("The others go on by --leave-out acme") and str(found.value).isprintable()
+    assert len(str(found.value)) < 500
+
+
+def test_the_longest_bodies_that_the_server_reads_are_asked_again():
+    head = len('{"nr":1,"text":""}')
+    for text in ("x" * (65_536 - head), "\u00e4" * ((65_536 - head) // 2)):
+        one = customer(journals=[("a1", placed(asked(1, path="/v1/map", text=text)))])
+        assert [it.members["text"] for it in asked_of(one)] == [text]
+        one = customer(journals=[("a1", placed(asked(1, path="/v1/map", text=text + "x")))])
+        with pytest.raises(StationError, match="isn't as a station writes it"):
+            asked_of(one)
 
 
 def test_requests_of_all_journals_by_their_times():
@@ -111,6 +128,11 @@ def test_an_error_of_the_client_has_its_advice_and_the_way_on():
     with pytest.raises(RestoreError) as found, named("bolt"):
         raise StationError("it is so", "Do this.")
     assert str(found.value) == "bolt: it is so. Do this. The others go on by --leave-out bolt"
+
+
+def test_no_memory_is_told_by_the_customer():
+    with pytest.raises(RestoreError, match="^bolt: no memory is left .* by --leave-out bolt$"), named("bolt"):
+        raise MemoryError
 
 
 def test_customers(tmp_path):

@@ -335,6 +335,41 @@ class Journals(StationCase):
         (self.folder / "away").rename(self.file.parent)
         self.assertEqual(self.metrics()[0][0], 1)
 
+    def test_a_folder_has_its_seats(self):
+        """By root's file: what another folder says of a seat counts for nobody, and takes no place of a seat."""
+        folders = self.folder / "journals.toml"
+        folders.write_text('[folders]\nacme = ["a1"]\nbolt = ["b1", "b2"]\n', encoding="ascii")
+        folders.chmod(0o600)
+        other = self.journals / "bolt" / "1" / "b1-2026-11-29.journal"
+        other.parent.mkdir(parents=True)
+        other.write_text("".join(json.dumps({**it, "seat": "b1"}) + "\n" for it in (ASKED, STOPPED)), encoding="ascii")
+        forged = self.file.with_name("zz.journal")
+        made_up = {"journals": {"seats": {"made-up": {"lost": {}, "is_out": True, "asked": None, "at": ""}}}}
+        kept = self.folder / "kept.json"
+        kept.touch(0o600)
+        for seat, at in (("b1", "2026-11-29T23:00:00Z"), ("made-up", ASKED["at"]), ("x" * 9000, ASKED["at"])):
+            lines = [{**ASKED, "seat": seat, "at": at}, {**DONE, "seat": seat, "at": at}]
+            forged.write_text("".join(json.dumps(it) + "\n" for it in lines), encoding="ascii")
+            kept.write_text(json.dumps(made_up), encoding="ascii")
+            for _ in range(2):  # it is told until it is away
+                _, text, told = ran("metrics", "--journals", self.journals, "--kept", kept, "--folders", folders)
+                found = values_of(text)
+                self.assertEqual(found['wanekupo_seat_out_of_step{seat="b1"}'], 1)
+                self.assertEqual(found['wanekupo_metrics_success{part="journals"}'], 0)
+                self.assertNotIn("made-up", text)
+                self.assertIn(f"he line behind byte 0 of {forged} is of the seat {seat[:80]}", told)
+                self.assertLess(len(told), 500)
+        forged.unlink()
+        self.file = self.file.with_name("2026-11-30.journal")  # neither it nor its line names the folder's only seat
+        self.add(STOPPED)
+        for places in ([self.journals], [self.journals / "acme", self.journals / "bolt"]):
+            given = [word for place in places for word in ("--journals", place)]
+            _, text, told = ran("metrics", *given, "--folders", folders)
+            self.assertEqual((values_of(text)['wanekupo_seat_out_of_step{seat="a1"}'], told), (1, ""))
+        folders.chmod(0o666)
+        _, text, told = ran("metrics", "--journals", self.journals, "--folders", folders)
+        self.assertIn("others may write it", told)
+
     def test_a_name_that_is_none(self):
         """A seat's name becomes a label: one that no server gives is that of its file."""
         self.add({**ASKED, "seat": 4000 * "x"}, {**STOPPED, "seat": "a1"})

@@ -15,9 +15,10 @@ from typing import Any, Optional
 from wanekupo.errors import BadJournal, UnsafeFile
 from wanekupo.exposition import Samples
 from wanekupo.journal import OF_A_DAY, SUFFIX
-from wanekupo.journal_lines import lines_of
+from wanekupo.journal_lines import Folders, folders_at, lines_of
 from wanekupo.moments import moment_of, text_of
 from wanekupo.states import LOST
+from wanekupo.texts import brief
 
 # A seat's name, as the server's are: it becomes a label.
 NAME = re.compile(r"[A-Za-z0-9._-]{1,32}")
@@ -70,6 +71,12 @@ class Counts:
             seat["asked"] = None
             seat["is_out"] = isinstance(reply, dict) and reply.get("no") in OUT_OF_STEP
 
+    def keep_only(self, known: Folders) -> None:
+        """Seats that no folder has go: their names were made up, and would take the places of others."""
+        own = {OTHERS, *(seat for seats in known.values() for seat in seats)}
+        for name in self.seats.keys() - own:
+            del self.seats[name]
+
     def forget(self, files: list[Path]) -> None:
         """Files that are gone are forgotten, and what they said isn't. Where all of a folder are gone it may only be
         away for a while, and what came back would count twice: these stay known."""
@@ -78,34 +85,49 @@ class Counts:
             del self.read[file]
 
 
-def read_on(counts: Counts, file: Path) -> Optional[BadJournal]:
+def read_on(counts: Counts, file: Path, seats: Optional[frozenset[str]]) -> Optional[BadJournal]:
     """Reads what is new in a journal, and gives what is wrong with it. No link is followed: others write where journals
-    come to."""
+    come to. Where its folder's seats are known, a line of another one is its writer's word of somebody else."""
     end = counts.read.setdefault(str(file), 0)
+    otherwise = next(iter(seats)) if seats and len(seats) == 1 else seat_named(file)
     try:
         for line in lines_of(file, end, follows_links=False):
             if line.fault:
                 told = f"the line behind byte {end} of {file} is no line of a journal"
                 return BadJournal(told, "Look at it in a copy: the rest of that file isn't counted.")
-            counts.take(line.members, seat_named(file))
+            seat = line.members.get("seat") or otherwise
+            if seats is not None and seat not in seats:
+                told = f"the line behind byte {end} of {file} is of the seat {brief(seat)}, which isn't its folder's"
+                return BadJournal(told, "Look who wrote it: it and the rest of that file aren't counted.")
+            counts.take(line.members, otherwise)
             counts.read[str(file)] = end = line.end
     except (OSError, UnsafeFile) as error:
         return BadJournal(f"{file} can't be read: {error}", "Look whose it is.")
     return None
 
 
-def add_journals(samples: Samples, kept: dict[str, Any], folders: list[Path]) -> None:
-    """The counts of all journals in folders and in the folders in them. Where one can't be read the others count."""
-    counts = Counts(kept)
-    files = [file for folder in folders for file in sorted(folder.rglob(f"*{SUFFIX}"))]
+def add_journals(samples: Samples, kept: dict[str, Any], folders: list[Path], owners: Path) -> None:
+    """The counts of all journals in folders and in the folders in them. Where one can't be read the others count. Where
+    there is a file of whose the folders are, no seat has counts but by its own folder."""
+    counts, known = Counts(kept), folders_at(owners)
+    files = {file: folder for folder in folders for file in sorted(folder.rglob(f"*{SUFFIX}"))}
     if not files:
         raise BadJournal(f"no journal in {', '.join(map(str, folders))}", "Look where the stations' journals come to.")
-    counts.forget(files)
-    faults = [fault for file in files if (fault := read_on(counts, file))]
+    counts.forget(list(files))
+    if known:
+        counts.keep_only(known)
+    faults = [fault for file in files if (fault := read_on(counts, file, _seats_of(file, files[file], known)))]
     for name, seat in counts.seats.items():
         _add_seat(samples, name, seat)
     if faults:
         raise faults[0]
+
+
+def _seats_of(file: Path, folder: Path, known: Folders) -> Optional[frozenset[str]]:
+    """The seats that a file may be of; None where nothing says so. A folder is one in the folder of all, or is given
+    itself."""
+    name = folder.name if folder.name in known else file.relative_to(folder).parts[0]
+    return known.get(name, frozenset()) if known else None
 
 
 def _add_seat(samples: Samples, name: str, seat: dict[str, Any]) -> None:

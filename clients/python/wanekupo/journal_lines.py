@@ -9,16 +9,26 @@ from __future__ import annotations
 import json
 import os
 import re
+import tomllib
 from dataclasses import dataclass, field
 from datetime import datetime
+from pathlib import Path
 from typing import IO, Any, Iterator, Union
 
-from wanekupo.files import opened_plain
+from wanekupo.errors import BadJournal, StationError
+from wanekupo.files import OTHERS_WRITE, opened_plain
 
 Name = Union[str, "os.PathLike[str]"]
 
 # More than a line has: a body, of which two bytes of a letter are six there, and what stands beside it.
 LONGEST_LINE = 1 << 18
+
+# The seats of each folder, by root's file; and the most bytes of that.
+Folders = dict[str, frozenset[str]]
+LONGEST_FILE = 1 << 20
+
+# The greatest number of a request (docs/reference/api.md). A person may have written a line with any up to it.
+MOST_NUMBER = 2**53 - 1
 
 MOMENT = re.compile(r"\d{4}-\d\d-\d\dT\d\d:\d\d:\d\dZ")
 NO_LINE = "is no line of a journal"
@@ -79,12 +89,16 @@ def form_fault(line: Any) -> str:
             return "has a member of another form"
     if "asked" in line:
         asked = line["asked"]
-        is_one = isinstance(asked, dict) and type(asked.get("nr")) is int and isinstance(asked.get("chip", ""), str)
+        is_one = isinstance(asked, dict) and _is_number(asked.get("nr")) and isinstance(asked.get("chip", ""), str)
         return "" if is_one and "path" in line else "is no request of a journal"
     if "status" in line:
-        is_one = type(line.get("nr")) is int and type(line["status"]) is int and isinstance(line.get("reply"), dict)
+        is_one = _is_number(line.get("nr")) and _is_number(line["status"]) and isinstance(line.get("reply"), dict)
         return "" if is_one else "is no reply of a journal"
-    return "" if type(line.get("resynchronized")) is int else NO_LINE
+    return "" if _is_number(line.get("resynchronized")) else NO_LINE
+
+
+def _is_number(number: Any) -> bool:
+    return type(number) is int and abs(number) <= MOST_NUMBER
 
 
 def _is_moment(at: Any) -> bool:
@@ -96,3 +110,35 @@ def _is_moment(at: Any) -> bool:
     except ValueError:
         return False
     return True
+
+
+# The file that says which seats each folder of journals has (docs/reference/files.md, Folders of journals).
+
+
+def folders_at(path: Path) -> Folders:
+    """The seats of each folder by a file that nobody but root or this user may write; none where it isn't there."""
+    try:
+        with open(opened_plain(path, os.O_RDONLY), "rb") as file:
+            found = os.fstat(file.fileno())
+            if found.st_uid not in (0, os.geteuid()) or found.st_mode & OTHERS_WRITE:
+                raise BadJournal(f"{path} is another user's, or others may write it: it says whose journals are")
+            return folders_in(file.read(LONGEST_FILE).decode(), path)
+    except FileNotFoundError:
+        return {}
+    except (OSError, ValueError, StationError) as error:
+        raise BadJournal(f"{path} can't be read: {error}") from None
+
+
+def folders_in(text: str, path: Path) -> Folders:
+    """The same of its text. A seat has one folder: what lies in another one isn't its own."""
+    table = tomllib.loads(text).get("folders")
+    if not isinstance(table, dict):
+        raise BadJournal(f"{path} has no table [folders]")
+    owner: dict[str, str] = {}
+    for name, seats in table.items():
+        if not isinstance(seats, list) or not all(isinstance(it, str) and it for it in seats) or "/" in name:
+            raise BadJournal(f'{path}: {name!r} has to be the name of a folder, with seats as ["a1", "a2"]')
+        for seat in seats:
+            if owner.setdefault(seat, name) != name:
+                raise BadJournal(f"{path}: the seat {seat} has two folders, {owner[seat]} and {name}")
+    return {name: frozenset(seats) for name, seats in table.items()}

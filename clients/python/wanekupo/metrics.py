@@ -106,7 +106,8 @@ class Run:
         if args.backups:
             yield "backup", "", partial(add_backup, folder=args.backups, has_unit=bool(args.unit))
         if args.journals:
-            yield "journals", "", partial(add_journals, kept=self.kept.part("journals"), folders=args.journals)
+            words = {"kept": self.kept.part("journals"), "folders": args.journals, "owners": args.folders}
+            yield "journals", "", partial(add_journals, **words)
         if args.shift:
             yield "shift", "", self._shift
         if args.tokens:
@@ -206,6 +207,8 @@ def _add_metrics(parser: argparse.ArgumentParser) -> None:
     add("--connections", type=int, default=1_000_000, metavar="N", help="the server's own --connections")
     add("--backups", type=Path, metavar="FOLDER", help="the folder of backups")
     add("--journals", type=Path, action="append", metavar="FOLDER", help="a folder of journals; may come again")
+    said = "which seats each folder of journals has"
+    add("--folders", type=Path, default=Path("/etc/station/journals.toml"), metavar="FILE", help=said)
     said = "the plant's hours, as 'Mon-Fri 06:00-14:00'; may come again"
     add("--shift", type=told(shift_of), action="append", metavar="HOURS", help=said)
     add("--orders", type=int, default=100, metavar="N", help="at most so many open orders of each customer")

@@ -5,13 +5,15 @@ from __future__ import annotations
 import contextlib
 import hashlib
 import itertools
+import json
 import os
 from typing import Any, Callable, Iterable, Iterator, Mapping, Sequence
 
 from wanekupo.errors import BadJournal, Differs, OutOfStep, Refused
 from wanekupo.journal import Asked, Record, merged, records_of, states_of
-from wanekupo.rows import Rows, parts_of
+from wanekupo.rows import LONGEST_BODY, Rows, parts_of
 from wanekupo.station import Station
+from wanekupo.texts import brief
 
 # The refusal of an order that is there.
 EXISTS = 16
@@ -23,6 +25,9 @@ GIVEN_UP = ("quarantined", "scrapped")
 TEXTS = {"/v1/order": ("name",), "/v1/map": ("text",)}
 RECORD = ("issuer", "serial", "key_sha256", "chip")
 
+# The requests that are sent once more as they were; and more than a text of a reply has.
+SENT, LONGEST_TEXT = (*TEXTS, "/v1/import"), 1 << 10
+
 # What a person does where a line can't be brought back.
 REFUSED = "That line was changed, or another journal contradicts it: look at both in copies."
 
@@ -30,16 +35,30 @@ Ticked = Callable[..., None]
 
 
 def tested_requests(asked: Iterable[Asked]) -> None:
-    """Whether requests have what they are brought back by. A reply's texts are in visible ASCII: they are printed."""
+    """Whether requests have what they are brought back by, in a body that the server reads. A reply's texts are in
+    visible ASCII: they are printed."""
     for it in asked:
         reply = (it.reply or {}) if it.is_done() else {}
         own = [it.members.get(name) for name in TEXTS.get(it.path, ()) if it.may_be_done()]
         told = [reply.get("state", "")]
         if it.is_done() and it.path == "/v1/identity":
             told += [*(reply.get(name) for name in RECORD), "" if reply.get("mac") is None else reply["mac"]]
-        is_told = all(isinstance(text, str) and text.isascii() and text.isprintable() for text in told)
-        if not is_told or not all(isinstance(text, str) for text in own):
+        is_told = all(isinstance(text, str) and _is_plain(text) for text in told)
+        if not is_told or not all(isinstance(text, str) for text in own) or not _is_sent(it):
             raise BadJournal(f"line {it.line} of {it.file} isn't as a station writes it", REFUSED)
+
+
+def _is_plain(text: str) -> bool:
+    return len(text) <= LONGEST_TEXT and text.isascii() and text.isprintable()
+
+
+def _is_sent(it: Asked) -> bool:
+    """Whether what is asked again of a request is text in UTF-8, and not longer than the server reads."""
+    members = it.members if it.path in SENT else {"chip": it.members.get("chip")}
+    try:
+        return len(json.dumps(members, separators=(",", ":"), ensure_ascii=False).encode()) <= LONGEST_BODY
+    except ValueError:
+        return False
 
 
 def restore(
@@ -87,19 +106,19 @@ def _told(what: str, it: Asked) -> str:
 
 @contextlib.contextmanager
 def _named(what: str, it: Asked) -> Iterator[None]:
-    """Says of a request that is refused which line has it: the server has no word of that."""
+    """Says of a request that is refused, or is none, which line has it: the server has no word of that."""
     try:
         yield
     except OutOfStep:
         raise
-    except Refused as refused:
+    except (Refused, ValueError) as refused:
         raise Differs(_told(f"{what}: refused as {refused}", it), REFUSED) from refused
 
 
 def _order_again(station: Station, it: Asked) -> bool:
     """Makes an order, or looks at the one that is there: it has to be as the lost one."""
     members = {name: value for name, value in it.members.items() if name != "nr"}
-    is_new, what = True, f"order {members['name']}"
+    is_new, what = True, f"order {brief(members['name'])}"
     with _named(what, it):
         try:
             reply = station.post(it.path, members)
@@ -110,7 +129,8 @@ def _order_again(station: Station, it: Asked) -> bool:
     expected = (it.reply if it.is_done() else members) or {}
     for name in sorted(expected):
         if name != "next" and reply.get(name) != expected[name]:
-            raise Differs(_told(f"{what}: {name} is {reply.get(name)}, and was {expected[name]}", it))
+            told = f"{brief(name)} is {brief(reply.get(name))}, and was {brief(expected[name])}"
+            raise Differs(_told(f"{what}: {told}", it))
     return is_new
 
 
@@ -148,10 +168,10 @@ def _part_again(station: Station, own: Mapping[str, Record], part: Rows) -> tupl
         return done.added, done.present
     except OutOfStep:
         raise
-    except Refused:
+    except (Refused, ValueError):
         counts = 0, 0
     for row in part:
-        with _named(f"serial number {row[0]} of {issuer}", own[row[0]].asked):
+        with _named(f"serial number {brief(row[0])} of {brief(issuer)}", own[row[0]].asked):
             done = station.import_serials(issuer, [row])
         counts = counts[0] + done.added, counts[1] + done.present
     return counts
@@ -165,7 +185,7 @@ def _devices_again(
     for chip, state in states.items():
         device = station.find_device(chip)
         now = device.state if device else None
-        with _named(f"chip {chip}, {state} in its journal and {now} in the store", places[chip]):
+        with _named(f"chip {brief(chip)}, {brief(state)} in its journal and {now} in the store", places[chip]):
             if state in GIVEN_UP and now not in (None, *GIVEN_UP):
                 station.scrap(chip)
                 scrapped.append(chip)

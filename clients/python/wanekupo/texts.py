@@ -20,6 +20,9 @@ COUNT = re.compile(
 )
 NUMBER = re.compile(r"[+-]?[0-9]+(?:\.[0-9]+)?")
 
+# The longest text that stands in a sentence as it is: longer than a name or a digest of the server's.
+LONGEST_SHOWN = 80
+
 
 def shown(text: str) -> str:
     r"""A text for a terminal, in one line. What is no visible character and no space stands there as Python writes it:
@@ -27,6 +30,12 @@ def shown(text: str) -> str:
     if text.isprintable():
         return text
     return "".join(it if it.isprintable() else it.encode("unicode_escape").decode("ascii") for it in text)
+
+
+def brief(text: Any) -> str:
+    """A text within a sentence. Of a long one the beginning: whoever wrote it could fill a screen."""
+    text = str(text)
+    return text if len(text) <= LONGEST_SHOWN else f"{text[:LONGEST_SHOWN]}.. ({len(text)} characters)"
 
 
 def shown_lines(text: str) -> str:
