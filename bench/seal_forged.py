@@ -371,6 +371,12 @@ CLOCKS = [
         seal=("The seat a1 of acme: reply_sha256 was ",),
         audit=("numbers", "the reply that the store keeps of number 36 isn't that of line"),
     ),
+    Forged(  # store: the chip is to go on with its locks never burnt
+        "a batch that was never burnt",
+        (f"UPDATE device SET state = 'settled', todo = zeroblob(0) WHERE {OF_WAITING}",),
+        seal=(f"The device {WAITING} of acme: changed without a new entry in its ledger (pending, state)",),
+        audit=("device", WAITING, "is settled, and the last entry of its ledger match, which left it awaiting2"),
+    ),
     Forged(  # journal
         "a cut journal whose last line says it was later",
         journal=_cut_and_late,
