@@ -36,7 +36,7 @@ def _number_faults(numbers: Sequence[int]) -> Iterator[str]:
 def _step_faults(device: Row, entries: Sequence[Row], told: Told) -> Iterator[str]:
     """Whether each step may follow the ones before, and the device is in a state that the last one may leave, or in
     the one of these that a station was told."""
-    states, before, said = frozenset((NONE,)), "", ""
+    states, before, said, left = frozenset((NONE,)), "", "", "missing"
     for it in entries:
         said = it["note"] if it["event"] == "read" else it["event"]
         found = after(states, said)
@@ -44,15 +44,18 @@ def _step_faults(device: Row, entries: Sequence[Row], told: Told) -> Iterator[st
             place = f"behind {before}" if before else "first"
             yield f"its ledger has {it['event']} {place}, at the entry {it['n']}"
         states, before, state = found or left_by(said), it["event"], told.get(it["n"])
+        left = said
         if state in states:
-            states, said = frozenset((state,)), f"{said}, which left it {state} by the journal"
+            states, left = frozenset((state,)), f"{said}, which left it {state} by the journal"
             before = f"{before} that left it {state} by the journal"
         elif state is not None:
             yield f"its state behind the entry {it['n']}, {said}, is {state} in the journal"
     if device["state"] not in states:
-        yield f"its state is {device['state']}, and the last entry of its ledger {said or 'missing'}"
+        yield f"its state is {device['state']}, and the last entry of its ledger {left}"
     if device["state"] == "quarantined" and (device["reason"] not in LOST or device["reason"] != said):
         yield f"its reason is {device['reason']}, and its ledger says {said}"
+    if device["state"] != "quarantined" and device["reason"] is not None:
+        yield f"its reason is {device['reason']}, and its state {device['state']}, which has none"
 
 
 def _burnt_faults(device: Row, entries: Sequence[Row]) -> Iterator[str]:
@@ -61,8 +64,10 @@ def _burnt_faults(device: Row, entries: Sequence[Row]) -> Iterator[str]:
     keys: dict[str, str] = {}
     for entry in entries:
         for word in entry["bits"]:
-            place = word["block"], word["word"]
-            bits[place] = bits.get(place, 0) | int(word["mask"], 16)
+            place, mask = (word["block"], word["word"]), int(word["mask"], 16)
+            if again := mask & bits.get(place, 0):
+                yield f"its entry {entry['n']} adds {again:08x} in word {place[1]} of block {place[0]}, which was burnt"
+            bits[place] = bits.get(place, 0) | mask
         keys.update(entry["keys"])
     known = {(word["block"], word["word"]): int(word["mask"], 16) for word in device["bits"]}
     for block, word in sorted(bits.keys() | known.keys()):
