@@ -288,6 +288,17 @@ def _again(folder: Path) -> None:
     _changed("acme/a1.journal", change, folder)
 
 
+def _fewer_rows(folder: Path) -> None:
+    """Takes a row out of what was imported."""
+
+    def change(lines: list[dict]) -> None:
+        for line in lines:
+            if line.get("path") == "/v1/import":
+                line["asked"]["csv"] = "".join(line["asked"]["csv"].splitlines(True)[:-1])
+
+    _changed("acme/a1.journal", change, folder)
+
+
 def _as_another(folder: Path) -> None:
     """Has a station say that its lines are another seat's, of another customer."""
     _changed("acme/a2.journal", lambda lines: [{**line, "seat": "b1"} for line in lines], folder)
@@ -341,7 +352,7 @@ CLOCKS = [
             "WHERE customer = 'bolt'",
             "INSERT INTO order_start VALUES ('bolt', 'gate-99', NULL)",
         ),
-        audit=("order", "bolt", "no line asked for the order gate-99"),
+        audit=("order", "bolt", "no line asked for the order gate-99 as it is"),
     ),
     Forged(  # store
         "a map added",
@@ -358,7 +369,7 @@ CLOCKS = [
             "WHERE serial = 'OLD-1'",
             "INSERT INTO given_start VALUES ('acme-ca', 'OLD-3', NULL)",
         ),
-        audit=("import", "the store has 3 imported serial numbers, and the lines brought 2"),
+        audit=("import", "no line imported the serial number OLD-3 of acme-ca with its key"),
     ),
     Forged(  # store: three numbers that acme never gets
         "an order that goes on behind free numbers",
@@ -370,6 +381,47 @@ CLOCKS = [
         ("UPDATE seat SET reply = replace(reply, 'shipped', 'scrapped') WHERE name = 'a1'",),
         seal=("The seat a1 of acme: reply_sha256 was ",),
         audit=("numbers", "the reply that the store keeps of number 36 isn't that of line"),
+    ),
+    Forged(  # store: the next station whose number has this address gets none
+        "an address of an imported number",
+        ("UPDATE given SET mac = '02000100000a' WHERE serial = 'OLD-1'",),
+        seal=("The record of OLD-1 of acme-ca of acme: has the address 02000100000a, and is of no chip",),
+        audit=("import", "the imported serial number OLD-1 of acme-ca has the mac 02000100000a"),
+    ),
+    Forged(  # store
+        "an end of an imported number",
+        ("UPDATE given SET not_after = '20270101000000Z' WHERE serial = 'OLD-1'",),
+        seal=("The imported serial number OLD-1 of acme-ca of acme: not_after was 99991231235959Z",),
+        audit=("import", "the imported serial number OLD-1 of acme-ca has the not_after 20270101000000Z"),
+    ),
+    Forged(  # journal
+        "an import with fewer rows",
+        journal=_fewer_rows,
+        audit=("import", "no line imported the serial number OLD-2", "1 rows were imported for acme-ca, and the reply"),
+    ),
+    Forged(  # store
+        "a reason of a shipped chip",
+        (f"UPDATE device SET reason = 'stray' WHERE {OF_ONE}",),
+        seal=(f"The device {ONE} of acme: ", "its reason is stray, and its state shipped, which has none"),
+        audit=("device", ONE, "its reason is stray, and its state shipped, which has none"),
+    ),
+    Forged(  # store: bits are cleared, an honest read-back shows them, and the chip is given up as a stray one
+        "a bit that comes twice",
+        (f"UPDATE ledger SET bits = (SELECT bits FROM ledger WHERE {OF_TWO} AND n = 1) WHERE {OF_TWO} AND n = 3",),
+        seal=(f"The entry 3 of {TWO} of acme: bits was",),
+        audit=("device", TWO, "its entry 3 adds c4000002 in word 1 of block 0, which was burnt"),
+    ),
+    Forged(  # store: it was raised for some registrations, and put back
+        "more devices than an order may have",
+        (f"UPDATE device SET ord = 'gate-40' WHERE customer = 'acme' AND ord = 'gate-41'",),
+        seal=("order was gate-41, and is gate-40",),
+        audit=("order", "the order gate-40 has 9 devices that weren't given up, and its quantity is 8"),
+    ),
+    Forged(  # store: the chip is to go on with its locks never burnt
+        "a batch that was never burnt",
+        (f"UPDATE device SET state = 'settled', todo = zeroblob(0) WHERE {OF_WAITING}",),
+        seal=(f"The device {WAITING} of acme: changed without a new entry in its ledger (pending, state)",),
+        audit=("device", WAITING, "is settled, and the last entry of its ledger match, which left it awaiting2"),
     ),
     Forged(  # journal
         "a cut journal whose last line says it was later",

@@ -77,6 +77,12 @@ class BooksCase(StationCase):
         self.assertEqual(told, "")
         return status, out
 
+    def edited(self, sql):
+        """The program's own store is changed while it is away."""
+        self.program.kill()
+        self.forge(self.program.db, sql)
+        self.program.start()
+
     def forge(self, store, sql):
         with contextlib.closing(sqlite3.connect(store)) as base:
             self.assertEqual(base.execute(sql).rowcount, 1)

@@ -18,7 +18,7 @@ import unittest
 from pathlib import Path
 from types import SimpleNamespace
 
-from support import DIGEST, MAC, ORDER, ROOT
+from support import DIGEST, MAC, MAP, ORDER, ROOT, WISHES
 from books_case import ALWAYS, DAY, PERIOD, BooksCase, device, lines_of, read, step
 from commanding import ran
 
@@ -59,6 +59,34 @@ class Audits(BooksCase):
                 self.forge(self.folder / name / "books.db", sql)
                 out = self.found(self.folder / name / "books.db", journal)
                 self.assertEqual([it for it in words if it not in out], [], out)
+
+    def test_a_state_between_two_steps(self):
+        """A chip is settled by hand behind its plan, and an honest station goes on with it. A reply that was lost, of
+        a step that comes twice, accuses nobody."""
+        with self.station(journal=self.journal()) as station:
+            station.make_order(**{**ORDER, "quantity": 1})
+            station.import_map(MAP)
+            station.register(MAC, "o1", DIGEST, self.chip().read())
+            station.plan(MAC, WISHES)
+            self.edited("UPDATE device SET state = 'settled', todo = zeroblob(0)")
+            station.identify(MAC, b"key")
+            station.ship(MAC)
+        self.program.copied(self.folder / "copy")
+        out = self.found(self.folder / "copy" / "books.db", self.folder / "a1.journal")
+        self.assertIn("its ledger has identified behind planned that left it awaiting1 by the journal, at the entry 3", out)
+        self.assertIn("1 found.", out)
+
+    def test_lost_replies(self):
+        """A step whose reply was lost is none of its likes that were answered."""
+        store, file = self.lived(), self.folder / "a1.journal"
+        lines = file.read_text(encoding="ascii").splitlines(True)
+        for number in range(1, 9):
+            with self.subTest(number):
+                kept = [line for line in lines if f'"nr":{number},' not in line or '"asked"' in line]
+                kept.insert(-1, json.dumps({"at": json.loads(lines[-2])["at"], "resynchronized": 8}) + "\n")
+                file.write_text("".join(kept), encoding="ascii")
+                self.assertEqual(len(kept), len(lines))
+                self.found(store, file, status=0)
 
     def test_addresses_within_a_long_span(self):
         """Of a number with four addresses each other record that has one of them is found, not the next one alone."""

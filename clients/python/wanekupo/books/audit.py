@@ -68,8 +68,9 @@ def audit_of(store: Books, books: Iterable[Book], period: Period, now: str) -> A
     lost = _without_journal(journals, store)
     steps = steps_by_chip(journals)
     for life in store.lives():
-        laid.take(matched(life.entries, steps.pop((life.customer, life.chip), ())))
-        audit.found += _contradictions(life)
+        made = matched(life.entries, steps.pop((life.customer, life.chip), ()))
+        laid.take(made)
+        audit.found += _contradictions(life, _told_states(made))
         lost.difference_update(entry.row["seat"] for entry in life.entries if entry.row["seat"] in lost)
     for lines in steps.values():
         laid.take(matched((), lines))
@@ -226,10 +227,19 @@ def _clock_faults(journals: Iterable[Seated], pairs: list[Timed], period: Period
             yield Found("clock", first.step.at, own.customer, own.seat, first.step.chip, told)
 
 
-def _contradictions(life: Life) -> Iterator[Found]:
+def _told_states(made: Matched) -> dict[int, str]:
+    """The states that stations were told, each by the number of its entry: of steps whose like none has that has no
+    reply or no entry, as which of these is whose isn't sure."""
+    unsure = {(step.event, step.note) for _, step in made.steps}
+    unsure |= {(it.entry.row["event"], it.entry.row["note"]) for it in made.pairs if not it.step.is_done()}
+    sure = (it for it in made.pairs if not it.kind and (it.entry.row["event"], it.entry.row["note"]) not in unsure)
+    return {it.entry.row["n"]: str(it.step.reply["state"]) for it in sure if "state" in it.step.reply}
+
+
+def _contradictions(life: Life, states: dict[int, str]) -> Iterator[Found]:
     """What of a chip's device, ledger and records says something else. Its entries were committed in their order."""
     for device in life.devices:
-        for told in faults_of(device, [entry.row for entry in life.entries], life.records):
+        for told in faults_of(device, [entry.row for entry in life.entries], life.records, states):
             yield Found("device", "", life.customer, "", life.chip, told)
     for record in () if life.devices else life.records:
         told = f"the record of {record['serial']} is of a chip that has no device"

@@ -2,17 +2,21 @@
 
 from __future__ import annotations
 
-from typing import Any, Iterator, Sequence
+from typing import Any, Iterator, Mapping, Sequence
 
 from wanekupo.states import LOST, NONE, after, left_by
 
 Row = dict[str, Any]
 
-def faults_of(device: Row, ledger: Sequence[Row], records: Sequence[Row]) -> Iterator[str]:
+# The states that stations were told, each by the number of its entry.
+Told = Mapping[int, str]
+
+
+def faults_of(device: Row, ledger: Sequence[Row], records: Sequence[Row], told: Told = {}) -> Iterator[str]:
     """What contradicts what, in words."""
     entries = sorted(ledger, key=lambda it: int(it["n"]))
     yield from _number_faults([it["n"] for it in entries])
-    yield from _step_faults(device, entries)
+    yield from _step_faults(device, entries, told)
     yield from _burnt_faults(device, entries)
     yield from _record_faults(device, entries, records)
 
@@ -29,20 +33,29 @@ def _number_faults(numbers: Sequence[int]) -> Iterator[str]:
         yield f"its ledger lacks the entry {', '.join(gaps)}"
 
 
-def _step_faults(device: Row, entries: Sequence[Row]) -> Iterator[str]:
-    """Whether each step may follow the ones before, and the device is in a state that the last one may leave."""
-    states, before, said = frozenset((NONE,)), "", ""
+def _step_faults(device: Row, entries: Sequence[Row], told: Told) -> Iterator[str]:
+    """Whether each step may follow the ones before, and the device is in a state that the last one may leave, or in
+    the one of these that a station was told."""
+    states, before, said, left = frozenset((NONE,)), "", "", "missing"
     for it in entries:
         said = it["note"] if it["event"] == "read" else it["event"]
         found = after(states, said)
         if not found:
             place = f"behind {before}" if before else "first"
             yield f"its ledger has {it['event']} {place}, at the entry {it['n']}"
-        states, before = found or left_by(said), it["event"]
+        states, before, state = found or left_by(said), it["event"], told.get(it["n"])
+        left = said
+        if state in states:
+            states, left = frozenset((state,)), f"{said}, which left it {state} by the journal"
+            before = f"{before} that left it {state} by the journal"
+        elif state is not None:
+            yield f"its state behind the entry {it['n']}, {said}, is {state} in the journal"
     if device["state"] not in states:
-        yield f"its state is {device['state']}, and the last entry of its ledger {said or 'missing'}"
+        yield f"its state is {device['state']}, and the last entry of its ledger {left}"
     if device["state"] == "quarantined" and (device["reason"] not in LOST or device["reason"] != said):
         yield f"its reason is {device['reason']}, and its ledger says {said}"
+    if device["state"] != "quarantined" and device["reason"] is not None:
+        yield f"its reason is {device['reason']}, and its state {device['state']}, which has none"
 
 
 def _burnt_faults(device: Row, entries: Sequence[Row]) -> Iterator[str]:
@@ -51,8 +64,10 @@ def _burnt_faults(device: Row, entries: Sequence[Row]) -> Iterator[str]:
     keys: dict[str, str] = {}
     for entry in entries:
         for word in entry["bits"]:
-            place = word["block"], word["word"]
-            bits[place] = bits.get(place, 0) | int(word["mask"], 16)
+            place, mask = (word["block"], word["word"]), int(word["mask"], 16)
+            if again := mask & bits.get(place, 0):
+                yield f"its entry {entry['n']} adds {again:08x} in word {place[1]} of block {place[0]}, which was burnt"
+            bits[place] = bits.get(place, 0) | mask
         keys.update(entry["keys"])
     known = {(word["block"], word["word"]): int(word["mask"], 16) for word in device["bits"]}
     for block, word in sorted(bits.keys() | known.keys()):

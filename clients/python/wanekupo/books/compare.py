@@ -177,6 +177,9 @@ def contradictions(text: Text) -> Iterator[Difference]:
             ledgers.setdefault((key[0], key[1]), []).append(text.members((kind, key)))
         elif kind == "record":
             members = text.members((kind, key))
+            if members["chip"] is None:
+                yield Difference(kind, key, f"has the address {members['mac']}, and is of no chip")
+                continue
             records.setdefault((key[0], members["chip"]), []).append(members)
     for kind, key in text.rows:
         if kind == "device":

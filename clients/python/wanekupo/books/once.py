@@ -6,6 +6,9 @@ from typing import Any, Iterator, Optional
 
 from wanekupo.books.stored import Books, serial_of
 
+# The end of a record's validity, which is none (RFC 5280, section 4.1.2.5).
+NO_END = "99991231235959Z"
+
 # The kind, the time, the customer, the chip, and what it is in words.
 Row = tuple[str, str, str, str, str]
 
@@ -16,6 +19,8 @@ def twice(store: Books) -> Iterator[Row]:
     yield from _addresses_twice(store)
     yield from _misplaced(store)
     yield from _passed_over(store)
+    yield from _import_faults(store)
+    yield from _too_many(store)
 
 
 def _numbers_twice(store: Books) -> Iterator[Row]:
@@ -65,6 +70,24 @@ def _passed_over(store: Books) -> Iterator[Row]:
         number = end if free is None else int(free.removeprefix(order["prefix"]))
         if order["cursor"] > number:
             told = f"the order {name} goes on at its number {order['cursor']}, behind {free or 'its end'}"
+            yield "order", "", customer, "", told
+
+
+def _import_faults(store: Books) -> Iterator[Row]:
+    """Imported numbers with what an import never has: an address, a beginning, or an end."""
+    for customer, record in store.records("WHERE g.chip IS NULL"):
+        for name, meant in (("mac", None), ("not_before", None), ("not_after", NO_END)):
+            if record[name] != meant:
+                told = f"the imported serial number {record['serial']} of {record['issuer']} has the {name} {record[name]}"
+                yield "import", "", customer, "", told
+
+
+def _too_many(store: Books) -> Iterator[Row]:
+    """Orders with more devices than they may have: of these none counts that was given up."""
+    for customer, name, count in store.places():
+        order = store.orders.get((customer, name))
+        if order and count > order["quantity"]:
+            told = f"the order {name} has {count} devices that weren't given up, and its quantity is {order['quantity']}"
             yield "order", "", customer, "", told
 
 

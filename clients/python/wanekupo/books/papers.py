@@ -2,9 +2,9 @@
 
 from __future__ import annotations
 
+import contextlib
 import hashlib
-from collections import Counter
-from typing import Callable, Iterable, Iterator
+from typing import Any, Callable, Iterable, Iterator, Mapping
 
 from wanekupo.books.matching import Seated
 from wanekupo.books.numbers import counts
@@ -17,6 +17,7 @@ from wanekupo.rows import rows_of
 Row = tuple[str, str, str, str, str, str]
 Judge = Callable[[Seated, Step, Books], Iterator[tuple[str, str]]]
 
+ORDER = ("name", "issuer", "prefix", "width", "first", "quantity", "macs", "not_before")
 RECORD = ("chip", "issuer", "serial", "key_sha256", "mac", "not_after", "not_before")
 
 
@@ -31,45 +32,40 @@ def papers(journals: Iterable[Seated], store: Books, period: Period) -> Iterator
 
 
 def unasked(journals: Iterable[Seated], store: Books, whole: set[str]) -> Iterator[Row]:
-    """Orders, maps and imported numbers that no line asked for, of customers whose journals are whole: a store has no
-    time of them."""
-    asked: set[tuple[str, str, str]] = set()
-    added: Counter[str] = Counter()
+    """Orders, maps and imported numbers that no line asked for as they are, of customers whose journals are whole: a
+    store has no time of them."""
+    asked: set[tuple[str, ...]] = set()
     for it in journals:
         for step in it.book.steps:
             if step.status in (None, 200):
-                asked.add((it.customer, step.path, _name_of(step)))
-                added[it.customer] += _added_by(step)
+                asked.update((it.customer, step.path, *name) for name in _names_of(step))
     for customer, name in store.orders:
-        if customer in whole and (customer, "/v1/order", name) not in asked:
-            yield "order", "", customer, "", "", f"no line asked for the order {name}"
+        if customer in whole and (customer, "/v1/order", *_order_words(store.orders[customer, name])) not in asked:
+            yield "order", "", customer, "", "", f"no line asked for the order {name} as it is"
     for customer, digest, _ in store.maps:
         if customer in whole and (customer, "/v1/map", digest) not in asked:
             yield "map", "", customer, "", "", f"no line imported the map {digest}"
-    for customer, count in store.imported():
-        if customer in whole and count > added[customer]:
-            told = f"the store has {count} imported serial numbers, and the lines brought {added[customer]}"
+    for customer, row in store.records("WHERE g.chip IS NULL"):
+        words = row["issuer"], row["serial"], row["key_sha256"]
+        if customer in whole and (customer, "/v1/import", *words) not in asked:
+            told = f"no line imported the serial number {row['serial']} of {row['issuer']} with its key"
             yield "import", "", customer, "", "", told
 
 
-def _name_of(step: Step) -> str:
-    """What an order or a map is known by; nothing of another request."""
-    name = {"/v1/order": "name", "/v1/map": "text"}.get(step.path, "")
-    text = str(step.asked.get(name, ""))
-    return hashlib.sha256(text.encode("utf-8", "replace")).hexdigest() if name == "text" else text
+def _names_of(step: Step) -> Iterator[tuple[str, ...]]:
+    """What an order, a map or an import asks to be there; nothing of another request."""
+    if step.path == "/v1/order":
+        yield _order_words(step.asked)
+    elif step.path == "/v1/map":
+        yield (hashlib.sha256(str(step.asked.get("text", "")).encode("utf-8", "replace")).hexdigest(),)
+    elif step.path == "/v1/import":
+        with contextlib.suppress(ValueError):
+            for serial, digest in rows_of(str(step.asked.get("csv", ""))):
+                yield str(step.asked.get("issuer")), serial, digest.lower()
 
 
-def _added_by(step: Step) -> int:
-    """How many numbers an import brought, or may have brought where its reply never came."""
-    if step.path != "/v1/import":
-        return 0
-    if step.is_done():
-        added = step.reply.get("added")
-        return added if type(added) is int and added > 0 else 0
-    try:
-        return len(rows_of(str(step.asked.get("csv", ""))))
-    except ValueError:
-        return 0
+def _order_words(order: Mapping[str, Any]) -> tuple[str, ...]:
+    return tuple(str(order.get(name)) for name in ORDER)
 
 
 def _identity(_: Seated, step: Step, store: Books) -> Iterator[tuple[str, str]]:
@@ -119,13 +115,16 @@ def _map(it: Seated, step: Step, store: Books) -> Iterator[tuple[str, str]]:
         yield "map", f"the map {digest} isn't in the store as it was imported"
 
 
-def _import(_: Seated, step: Step, store: Books) -> Iterator[tuple[str, str]]:
+def _import(it: Seated, step: Step, store: Books) -> Iterator[tuple[str, str]]:
     issuer = str(step.asked.get("issuer"))
     try:
         rows = rows_of(str(step.asked.get("csv", "")))
     except ValueError as error:
         yield "import", f"what was imported for {issuer} can't be read: {error}"
         return
+    counted = step.reply.get("added"), step.reply.get("present")
+    if any(type(count) is not int or count < 0 for count in counted) or sum(counted) != len(rows):
+        yield "import", f"{len(rows)} rows were imported for {issuer}, and the reply has {counted[0]} and {counted[1]}"
     for serial, digest in rows:
         record = store.record(issuer, serial)
         if record is None or record["key_sha256"] != digest.lower():
