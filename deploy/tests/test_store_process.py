@@ -221,7 +221,7 @@ class Asked(Exception):
 
 
 def test_a_process_that_stops_itself_ends_with_root(monkeypatch):
-    """Its user may stop it, so that it is asked in vain. The first signal ends this run, as it would end a run alone."""
+    """Its user may stop it, so that it is asked in vain. The first signal ends this run all the same."""
     made, fork = [], os.fork
 
     def asked(*_):
