@@ -107,8 +107,8 @@ def read_settings(file: Path = SETTINGS) -> Settings:
 
 
 def run(words: list[str], seconds: float = COMMAND_SECONDS, **more: Any) -> subprocess.CompletedProcess[str]:
-    """A command with what it prints. Where it takes too long it is a failure as any other. It has no terminal of root's:
-    what is at the other end of a witness's `ssh` asks nobody for a password."""
+    """A command with what it prints. Where it takes too long it is a failure as any other. It has no terminal of
+    root's: what is at the other end of a witness's `ssh` asks nobody for a password."""
     try:
         form = {"encoding": "utf-8", "errors": "replace", "stdin": subprocess.DEVNULL, "start_new_session": True}
         return subprocess.run(words, capture_output=True, timeout=seconds, **form, **more)

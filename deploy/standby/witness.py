@@ -6,17 +6,23 @@ that was acknowledged, and would be issued once more.
 
 from __future__ import annotations
 
+import os
 import re
 import shlex
 import sys
+import tomllib
 from collections.abc import Iterable
 from dataclasses import dataclass
 from datetime import datetime, timedelta, timezone
 from pathlib import Path
 
-from half import Refused, run
+from half import Refused, run, tell
 from look import SEAT
 
+# Which seats each station's PC has, by root's own file: docs/reference/files.md, Folders of journals.
+TABLE = Path("/etc/station/journals.toml")
+# A part that is a PC's, as `pc7=FILE`, or as `pc7=ssh ..` of standby.toml.
+NAMED = re.compile(r"([^/=\s]+)=(.+)", re.DOTALL)
 MADE = re.compile(r"at (\d{4}-\d\d-\d\dT\d\d:\d\d:\d\dZ)")
 # How far ahead the clock of a station's PC may be.
 AHEAD = timedelta(minutes=1)
@@ -78,21 +84,68 @@ def tested(text: str, name: str, since: datetime | None) -> dict[str, Reply]:
     return found
 
 
-def gathered(files: Iterable[str], commands: Iterable[str], since: datetime | None) -> dict[str, Reply]:
-    """The numbers of all witnesses together, the highest of each seat. One that can't be had is none."""
-    texts = [(name, sys.stdin.read() if name == "-" else read(name)) for name in files]
-    for command in commands:
-        ended = run([*BOUNDED, *shlex.split(command)])
-        if ended.returncode:
-            said = (ended.stderr or ended.stdout).strip()[:400].replace("\n", "; ")
-            raise Refused(f"The witness `{command}` ended with status {ended.returncode}: {said}")
-        texts.append((f"`{command}`", ended.stdout))
-    return highest(pair for name, text in texts for pair in tested(text, name, since).items())
+def owners_in(table: Path) -> dict[str, str]:
+    """The PC of each seat, by a file that nobody but root may write; none where it isn't there."""
+    try:
+        found, folders = os.stat(table), tomllib.loads(table.read_bytes().decode())["folders"]
+        owners = {seat: name for name, seats in folders.items() for seat in seats}
+        if not all(isinstance(it, list) for it in folders.values()):
+            raise TypeError
+    except FileNotFoundError:
+        return {}
+    except (ValueError, KeyError, TypeError, AttributeError):
+        raise Refused(f'{table} has no table [folders] of lines as `pc7 = ["a1", "a2"]`: mend it.') from None
+    if found.st_uid != 0 or found.st_mode & 0o022:
+        raise Refused(f"Others than root can write {table}, which says whose a part may be: chown root, chmod go-w.")
+    return owners
+
+
+def hold(replies: dict[str, Reply], owner: str, owners: dict[str, str], table: Path) -> None:
+    """Refuses a line of a seat that isn't its part's: else a PC vouches for another one, whose part was forgotten."""
+    if owner and owner not in owners.values():
+        raise Refused(f"{table} has no folder {owner} with a seat: name a part by its PC's folder there.")
+    for seat, reply in replies.items():
+        theirs = owners.get(seat, "")
+        if theirs != owner:
+            told = f"{reply.place} is of the seat {seat}, which is {theirs or 'no PC'}'s by {table}"
+            name = f"as {theirs}=FILE" if theirs else "without a name"
+            raise Refused(f"{told}: leave it away where it is foreign, and give that seat's own part {name}.")
+
+
+def gathered(
+    files: Iterable[str], commands: Iterable[str], since: datetime | None, table: Path = TABLE
+) -> dict[str, Reply]:
+    """The numbers of all witnesses together, the highest of each seat. One that can't be had is none, and where root's
+    file says which seats are a PC's each part has these alone."""
+    owners, replies = owners_in(table), list[dict[str, Reply]]()
+    for word, call, form in [*((it, read, "{}") for it in files), *((it, printed, "`{}`") for it in commands)]:
+        owner, name = owned(word)
+        replies.append(tested(call(name), form.format(name), since))
+        if owners:
+            hold(replies[-1], owner, owners, table)
+    if replies and not owners:
+        tell(f"{table} isn't there, or empty: nobody has looked whether each part has its own PC's seats alone.")
+    return highest(pair for it in replies for pair in it.items())
+
+
+def owned(word: str) -> tuple[str, str]:
+    """The PC of a part, which may be none, and its file or command."""
+    found = NAMED.fullmatch(word)
+    return (found[1], found[2]) if found else ("", word)
+
+
+def printed(command: str) -> str:
+    """What a witness's command prints."""
+    ended = run([*BOUNDED, *shlex.split(command)])
+    if ended.returncode:
+        said = (ended.stderr or ended.stdout).strip()[:400].replace("\n", "; ")
+        raise Refused(f"The witness `{command}` ended with status {ended.returncode}: {said}")
+    return ended.stdout
 
 
 def read(name: str) -> str:
     try:
-        return Path(name).read_text(encoding="ascii")
+        return sys.stdin.read() if name == "-" else Path(name).read_text(encoding="ascii")
     except (OSError, UnicodeDecodeError) as error:
         raise Refused(f"The witness {name} can't be read: {error}.") from None
 

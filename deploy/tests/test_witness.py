@@ -4,8 +4,10 @@ import re
 import tomllib
 from datetime import datetime, timedelta, timezone
 from pathlib import Path
+from types import SimpleNamespace
 
 import pytest
+import witness
 from half import Refused
 from look import SEAT, numbers_of
 from needed import secret_faults
@@ -103,6 +105,64 @@ def test_witnesses_of_files_and_commands_are_one(tmp_path):
     two.write_text(at(NOW) + "seat b1 4\nseat a1 3\n")
     found = gathered([str(one)], [f"cat {two}"], None)
     assert found == {"a1": Reply(17, f"{one}, line 2"), "b1": Reply(4, f"`cat {two}`, line 2")}
+
+
+# Root's table, and parts by name: those that pass, and a part of each that is refused with what is said.
+TABLE = '[folders]\npc1 = ["a1", "a2"]\npc2 = ["b1"]\n'
+HELD = [
+    (["pc1=a1 17,a2 3", "pc2=b1 4", "=health 0"], ""),
+    (["pc1=a1 17,b1 4"], "one, line 3 is of the seat b1, which is pc2's by"),
+    (["pc1=a1 17,b1 4", "pc2=b1 4"], "one, line 3 is of the seat b1"),
+    (["=a1 17"], "give that seat's own part as pc1=FILE"),
+    (["pc1=a1 17,health 0"], "line 3 is of the seat health, which is no PC's by"),
+    (["pc9=a1 17"], "has no folder pc9"),
+]
+
+
+@pytest.mark.parametrize("parts, told", HELD)
+@pytest.mark.parametrize("is_command", [False, True])
+def test_a_part_has_its_own_seats_alone(tmp_path, monkeypatch, parts, told, is_command):
+    found = SimpleNamespace(st_uid=0, st_mode=0o100644)
+    monkeypatch.setattr(witness, "os", SimpleNamespace(stat=lambda path: found))
+    table, words = tmp_path / "journals.toml", []
+    table.write_text(TABLE)
+    for part, name in zip(parts, ("one", "two", "three")):
+        owner, _, lines = part.partition("=")
+        file = tmp_path / name
+        file.write_text(at(NOW) + "".join(f"seat {it}\n" for it in lines.split(",")))
+        words.append((f"{owner}=" if owner else "") + (f"cat {file}" if is_command else str(file)))
+    given = ([], words) if is_command else (words, [])
+    if told:
+        with pytest.raises(Refused) as refused:
+            gathered(*given, None, table)
+        assert told in str(refused.value).replace("`", "")
+    else:
+        assert {it: reply.number for it, reply in gathered(*given, None, table).items()} == \
+            {"a1": 17, "a2": 3, "b1": 4, "health": 0}
+
+
+def test_without_a_table_it_says_that_nobody_held_the_parts(tmp_path, capsys):
+    (tmp_path / "one").write_text(at(NOW) + "seat a1 17\nseat b1 4\n")
+    assert set(gathered([f"pc1={tmp_path}/one"], [], None, tmp_path / "none")) == {"a1", "b1"}
+    assert "nobody has looked whether each part has its own PC's seats alone" in capsys.readouterr().out
+
+
+TABLES = [
+    (0, 0o100644, "", "no table"), (0, 0o100644, "folders = 3\n", "no table"), (0, 0o100644, "[folders", "no table"),
+    (0, 0o100644, "[folders]\npc1 = 3\n", "no table"), (0, 0o100644, '[folders]\npc1 = "a1"\n', "no table"),
+    (1000, 0o100644, TABLE, "Others than root can write"),
+    (0, 0o100664, TABLE, "Others than root can write"),
+]  # fmt: skip
+
+
+@pytest.mark.parametrize("user, mode, text, told", TABLES)
+def test_a_table_that_is_none(tmp_path, monkeypatch, user, mode, text, told):
+    table = tmp_path / "journals.toml"
+    table.write_text(text)
+    found = SimpleNamespace(st_uid=user, st_mode=mode)
+    monkeypatch.setattr(witness, "os", SimpleNamespace(stat=lambda path: found))
+    with pytest.raises(Refused, match=told):
+        gathered([], [], None, table)
 
 
 def test_seats_that_only_look_as_the_page_has_them():
