@@ -100,7 +100,8 @@ def _rows_otherwise(customers: Collection[Customer], lost: Path) -> Iterator[tup
         key = keys.get((record.issuer, record.serial))
         if key != record.key_sha256.lower():
             told = "has another key with it" if key else "hasn't it"
-            yield name, _otherwise(f"the serial number {brief(record.serial)} of {brief(record.issuer)}", record.asked, told)
+            what = f"the serial number {brief(record.serial)} of {brief(record.issuer)}"
+            yield name, _otherwise(what, record.asked, told)
 
 
 def _otherwise(what: str, it: Asked, told: str) -> str:

@@ -40,7 +40,7 @@ def named(customer: str) -> Iterator[None]:
     try:
         yield
     except MemoryError:
-        raise error_of([customer], "no memory is left for its journals: move days from before the backup away") from None
+        raise error_of([customer], "no memory is left for its journals: move old days away") from None
     except StationError as error:
         raise error_of([customer], told_of(error)) from error
 

@@ -324,7 +324,8 @@ def test_what_is_needed(monkeypatch, capsys, missing):
 def test_the_defaults(monkeypatch):
     args = restore.words().parse_args(["b", "s"])
     assert (args.db, str(args.tokens), args.port) == ("/var/lib/station/books.db", "/etc/station/tokens.conf", 880)
-    assert args.accept_missing == args.distrust_lost == [] and args.without == "" and args.stop == "" and args.backups is None
+    assert (args.accept_missing, args.distrust_lost, args.backups) == ([], [], None)
+    assert args.without == "" and args.stop == ""
 
 
 def test_journals_by_whole_paths(monkeypatch, tmp_path):

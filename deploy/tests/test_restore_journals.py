@@ -75,6 +75,7 @@ def test_lines_of_two_seats_of_a_folder_in_one_file(tmp_path):
 
 AT = "2026-11-29T00:00:00Z"
 REPLY = {"at": AT, "nr": 10**4000, "status": 200, "reply": {}}
+MANY = {**REPLY, "nr": 1, "reply": dict.fromkeys(map(str, range(65)))}
 
 # What a file has, its name, which line is named, and why.
 FOREIGN = (
@@ -89,8 +90,7 @@ FOREIGN = (
     ("a number that no seat has", "a1.journal", [asked(10**4000)], 1, "is no request of a journal"),
     ("its reply", "a1.journal", [asked(1), REPLY], 2, "is no reply of a journal"),
     ("a number to go on with", "a1.journal", [{"at": AT, "resynchronized": -(10**4000)}], 1, "is no line of a journal"),
-    ("more members than a reply has", "a1.journal", [asked(1), {**REPLY, "nr": 1, "reply": dict.fromkeys(map(str, range(65)))}],
-     2, "has more than 64 members"),
+    ("more members than a reply has", "a1.journal", [asked(1), MANY], 2, "has more than 64 members"),
     ("a seat of many letters", "a1.journal", [asked(1, "s" * 9000)], 1, f"the seat {'s' * 80}.. (9000 characters)"),
     ("a time that there isn't", "a1.journal", [asked(1, at="2026-13-01T00:00:00Z")], 1, "is no line of a journal"),
 )  # fmt: skip
