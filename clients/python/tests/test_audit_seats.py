@@ -211,7 +211,8 @@ class Seals(unittest.TestCase):
         text = 'map acme 1 {"map":"1","text_sha256":"1"}\n'
         last, lines = 64 * "0", []
         for number, day in enumerate((1, 2, 3, 9, 10), 1):
-            it = sealed(last, number, f"2026-01-{day:02}T02:00:00Z", "acme", 1, hashlib.sha256(text.encode()).hexdigest())
+            digest = hashlib.sha256(text.encode()).hexdigest()
+            it = sealed(last, number, f"2026-01-{day:02}T02:00:00Z", "acme", 1, digest)
             (self.folder / f"{number:06}.rows").write_text(text)
             (self.folder / f"{number:06}.seal").write_text(it.line() + "\n")
             last, lines = it.seal, [*lines, it.line() + "\n"]
