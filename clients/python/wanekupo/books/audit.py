@@ -42,6 +42,7 @@ class Held:
     known: str
     lines: int
     matched: int
+    unanswered: int
     numbers: str
     last: int
 
@@ -49,7 +50,7 @@ class Held:
 @dataclass
 class Audit:
     """All of it. `bare` is how many entries outside of the period have no line, `held_lines` how many lines of it there
-    are."""
+    are, `parts` the customers of whose seats the journals lack the first number."""
 
     period: Period
     found: list[Found] = field(default_factory=list)
@@ -58,12 +59,14 @@ class Audit:
     outside: int = 0
     bare: int = 0
     unheld: int = 0
+    parts: list[str] = field(default_factory=list)
     held_lines: int = 0
 
 
 def audit_of(store: Books, books: Iterable[Book], period: Period, now: str) -> Audit:
     """Holds a store to the journals of its seats. `now` is the moment of the audit."""
     journals = [seated(book, store) for book in books]
+    spans = spans_of(journals, store, period)
     audit, laid = Audit(period), Laid(store, period)
     lost = _without_journal(journals, store)
     steps = steps_by_chip(journals)
@@ -75,7 +78,6 @@ def audit_of(store: Books, books: Iterable[Book], period: Period, now: str) -> A
     for lines in steps.values():
         laid.take(matched((), lines))
     laid.pairs.sort(key=lambda it: it[0])
-    spans = spans_of(journals, store, period)
     audit.found += _journal_faults(journals, store)
     audit.found += _clock_faults(journals, laid.pairs, period, now)
     whole, window = whole_customers(spans, store), window_of(laid.pairs, period)
@@ -83,9 +85,11 @@ def audit_of(store: Books, books: Iterable[Book], period: Period, now: str) -> A
     audit.found += _left_faults(audit, laid, window, whole, _without_journal(journals, store))
     audit.found += _idle_faults(lost, store)
     audit.found += [Found("numbers", it.at, it.customer, it.seat, "", told) for it in spans for told in it.faults]
+    audit.found += [Found("journal", at, it.customer, it.seat, "", told) for it in spans for at, told in it.lost]
     audit.found += [Found(kind, at, customer, "", chip, told) for kind, at, customer, chip, told in twice(store)]
     audit.found += [Found(*it) for it in papers(journals, store, period)]
     audit.found += [Found(*it) for it in unasked(journals, store, whole)]
+    audit.parts = sorted({it.customer for it in store.seats.values() if it.last} - whole)
     audit.held = list(_held(journals, laid.lines, spans, store, period))
     audit.held_lines = sum(period.has(step.at) for it in journals for step in it.book.steps)
     audit.found = sorted(dict.fromkeys(audit.found), key=lambda it: (it.at, it.customer, it.chip, it.kind, it.told))
@@ -203,7 +207,7 @@ def _journal_faults(journals: Iterable[Seated], store: Books) -> Iterator[Found]
     for it in journals:
         for fault in it.book.faults:
             yield Found("journal", fault.at, it.customer, it.seat, "", f"{fault.place()} {fault.told}")
-        if it.seat not in store.seats:
+        if it.seat not in store.seats and (it.book.times or it.book.faults):
             told = f"{it.book.files[0]} is of a seat that the store doesn't have"
             if not it.seat:
                 told = f"{it.book.files[0]} is of no seat that could be found: give its lines a name"
@@ -260,7 +264,8 @@ def _held(
         both = sum(lines[file] for file in it.book.files)
         last = store.seats[it.seat].last if it.seat in store.seats else 0
         name = ", ".join(it.book.files)
-        yield Held(it.customer, it.seat, name, it.known, count, both, numbers.get(it.seat, ""), last)
+        bare = sum(step.status is None for step in it.book.steps)
+        yield Held(it.customer, it.seat, name, it.known, count, both, bare, numbers.get(it.seat, ""), last)
     for name in sorted(_without_journal(journals, store)):
         it_seat = store.seats[name]
-        yield Held(it_seat.customer, name, "none", "", 0, 0, "", it_seat.last)
+        yield Held(it_seat.customer, name, "none", "", 0, 0, 0, "", it_seat.last)

@@ -8,9 +8,9 @@ from wanekupo.books.audit import Audit
 from wanekupo.books.printed import Table, heading, page, paragraph
 
 FOUND = ("kind", "time", "customer", "seat", "chip", "what")
-HELD = ("customer", "seat", "journal", "known", "lines", "matched", "numbers", "last")
+HELD = ("customer", "seat", "journal", "known", "lines", "matched", "unanswered", "numbers", "last")
 READ = ("file", "bytes", "sha256")
-NUMBERS = frozenset(("lines", "matched", "last", "bytes"))
+NUMBERS = frozenset(("lines", "matched", "unanswered", "last", "bytes"))
 
 # What each kind means, and what to do.
 KINDS = {
@@ -19,14 +19,16 @@ KINDS = {
     "device": "a device, its ledger and its record contradict each other: somebody wrote to the store by hand",
     "exchanged": "an entry is at another place in its ledger than its line in the journal",
     "import": "an imported serial number isn't in the store as the journal has it",
-    "journal": "a line is none, was changed, answers what isn't asked, or has an earlier time: get the journal anew",
+    "journal": "a line is none, was changed, answers what isn't asked, has no reply, another's number or an earlier "
+    "time: get the journal anew",
     "late_copy": "a request that was refused was accepted later: look at what it did",
     "map": "a fuse map isn't in the store as it was imported",
     "no_entry": "a station's step isn't in the store: the store is an older one, or an entry was taken away",
     "no_journal": "a seat's journal wasn't given: get it, or its entries can't be held to anything",
     "no_line": "an entry has no line: a foreign hand, or a lost journal",
     "no_seat": "a journal is of a seat that the store doesn't have",
-    "numbers": "numbers of a seat have no line, or the store has another last one: a lost journal, or an older store",
+    "numbers": "numbers of a seat have no line or were given again, or the store has another last one: a lost "
+    "journal, or an older store",
     "order": "an order isn't in the store as it was made",
     "other_note": "an entry says something else than its line",
     "other_seat": "an entry is under another seat than its line",
@@ -59,7 +61,8 @@ def found_table(audit: Audit) -> Table:
 
 def held_table(audit: Audit) -> Table:
     rows = [
-        (it.customer, it.seat, it.journal, it.known, it.lines, it.matched, it.numbers, it.last) for it in audit.held
+        (it.customer, it.seat, it.journal, it.known, it.lines, it.matched, it.unanswered, it.numbers, it.last)
+        for it in audit.held
     ]
     return Table("held", "What was held to what", HELD, rows, NUMBERS)
 
@@ -74,7 +77,10 @@ def counted(audit: Audit) -> str:
     if audit.bare:
         told = f"{told}, {audit.bare} of which have no line"
     if audit.unheld:
-        return f"{told}; {audit.unheld} lie before the first line of these journals, and are held to nothing."
+        told = f"{told}; {audit.unheld} lie before the first line of these journals, and are held to nothing"
+    if audit.parts:
+        whose = ", ".join(audit.parts)
+        told = f"{told}. Orders, maps and imports of {whose} are held to no line, as these journals lack number 1"
     return f"{told}."
 
 

@@ -165,6 +165,10 @@ class Chain:
         if not is_near(seal.at, moment):
             told = f"Look at the clock. {AGAIN}"
             raise BadChain(f"the time stamp is of {moment}, and this machine's clock has {seal.at}", told)
+        earlier = [it for number in range(1, seal.number) if (it := self.stamp_file(number)).exists()]
+        if earlier and moment < (last := moment_in(earlier[-1])):
+            told = f"The service's clock went back: look at it, and wait. {AGAIN}"
+            raise BadChain(f"the time stamp is of {moment}, and the one in front of it of {last}", told)
 
     def _files_of(self, number: int) -> list[Path]:
         return sorted(self.folder.glob(f"{number:06}.*"))

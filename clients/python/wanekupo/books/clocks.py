@@ -70,17 +70,22 @@ class Contradiction(NamedTuple):
 def contradictions(pairs: Sequence[Timed]) -> Iterator[Contradiction]:
     """The lines whose times contradict the longest run of lines whose times don't fall along the ids. Pairs come in the
     order of their ids, and so do these."""
-    run = _longest_run([step.at for _, step in pairs])
+    run = _longest_run([_begin(step) for _, step in pairs])
     answered = _answered_behind(pairs, run)
     latest: int = -1
     for place, (_, step) in enumerate(pairs):
         behind = answered[place]
         if run[place]:
             latest = place
-        elif behind >= 0 and _is_behind(step.at, _end(pairs[behind][1])):
+        elif behind >= 0 and _is_behind(_begin(step), _end(pairs[behind][1])):
             yield Contradiction(step, pairs[behind][1], True)
-        elif latest >= 0 and _is_behind(pairs[latest][1].at, _end(step)):
+        elif latest >= 0 and _is_behind(_begin(pairs[latest][1]), _end(step)):
             yield Contradiction(step, pairs[latest][1], False)
+
+
+def _begin(step: Step) -> str:
+    """When a request was first asked."""
+    return step.since or step.at
 
 
 def _end(step: Step) -> str:

@@ -15,10 +15,14 @@ from typing import Iterator, Optional
 
 from wanekupo.books.chain import ASIDE, PLANT, BadChain, Chain, Seal
 from wanekupo.books.compare import Text, contradictions, differences
+from wanekupo.books.shift import seconds_between
 from wanekupo.books.stamp import Service, is_near, moment_in, verified
 from wanekupo.errors import BadSettings
 from wanekupo.sentences import sentence_of
 from wanekupo.signing import CMS, MINISIG, BadSignature, beside, verify
+
+# By how many seconds daily seals may be apart: a day, and an hour.
+A_DAY = 25 * 3600
 
 GZIP = b"\x1f\x8b"
 COMPRESSED = ".gz"
@@ -31,11 +35,13 @@ SET_ASIDE = re.compile(rf"(\d{{6,}}){ASIDE}\d+")
 
 @dataclass(frozen=True)
 class Trusted:
-    """Whose signatures and time stamps are to be there, where it is said."""
+    """Whose signatures and time stamps are to be there, where it is said. `last` is a line that somebody kept, or the
+    digest at its end."""
 
     minisign: Optional[Path] = None
     cms: Optional[Path] = None
     service: Optional[Service] = None
+    last: str = ""
 
 
 @dataclass
@@ -103,12 +109,24 @@ def tested(chain: Chain, trusted: Trusted) -> Tested:
         raise BadChain(f"{chain.folder} has no chain, so nothing was tested", told)
     made.seals = len(seals)
     made.found += [f"{it}." for it in _lone_faults(chain, seals)]
+    if trusted.last and trusted.last not in {word for it in seals for word in (it.line(), it.seal)}:
+        made.found.append("The seal that --last names isn't in the chain: seals were taken away, or made anew.")
     _test_names(chain, names, made)
     _test_signatures(chain, seals, trusted, made)
     _test_stamps(chain, seals, trusted.service, made)
     _test_rows(chain, seals, made)
     _tell_unshown(made)
+    made.notes += _gaps(seals)
     return made
+
+
+def _gaps(seals: list[Seal]) -> Iterator[str]:
+    """The longest time between two seals, and that in front of the last one, where seals may have been taken away."""
+    pairs = [(seconds_between(before.at, seal.at), before, seal) for before, seal in zip(seals, seals[1:])]
+    if pairs and (longest := max(pairs, key=lambda it: it[0]))[0] > A_DAY:
+        for said, (seconds, before, seal) in (("The longest time", longest), ("The last time", pairs[-1])):
+            told = f"from {before.number:06} of {before.at} to {seal.number:06} of {seal.at}"
+            yield f"{said} without a seal: {seconds / 3600:.0f} hours, {told}."
 
 
 def _tell_unshown(made: Tested) -> None:

@@ -40,9 +40,10 @@ def seated(book: Book, store: Books) -> Seated:
         owner = store.seats.get(book.seat)
         return Seated(book, book.seat, owner.customer if owner else "", NAMED)
     digests = {step.digest for step in book.steps if step.status in (None, 200) and step.digest}
-    for it in store.seats.values():
-        if it.digest in digests:
-            return Seated(book, it.name, it.customer, BY_DIGEST)
+    lasts = [it for it in store.seats.values() if it.digest in digests]
+    if lasts:
+        it = max(lasts, key=lambda it: it.last)
+        return Seated(book, it.name, it.customer, BY_DIGEST)
     steps = {(step.chip, step.event, step.note) for step in book.steps if step.is_done() and step.event}
     for name, _ in store.votes(steps).most_common(1):
         if name in store.seats:
@@ -70,12 +71,14 @@ class Matched:
 
 
 def steps_by_chip(journals: Iterable[Seated]) -> dict[Chip, list[Told]]:
-    """The lines of steps by the chips that they are of."""
+    """The lines of steps by the chips that they are of, those of a seat in the order of its numbers."""
     found: dict[Chip, list[Told]] = defaultdict(list)
     for it in journals:
         for step in it.book.steps:
             if step.event:
                 found[it.customer, step.chip].append((it, step))
+    for lines in found.values():
+        lines.sort(key=lambda told: (told[1].turn, told[1].number))
     return found
 
 

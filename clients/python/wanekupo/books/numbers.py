@@ -1,10 +1,14 @@
-"""The numbers of a seat's requests: each that the server accepted has its line, and the store has the last one."""
+"""The numbers of a seat's requests: each that the server accepted has its line, and the store has the last one.
+
+The lines of a seat are put in the order of these numbers, over all its journals. Where a journal goes on with a number
+that it had, the store was replaced by an older one, and a turn of the seat begins.
+"""
 
 from __future__ import annotations
 
 import json
 from dataclasses import dataclass, field
-from typing import Any, Iterable, Iterator, Optional
+from typing import Any, Iterable, Iterator, NamedTuple, Optional, Sequence
 
 from wanekupo.books.matching import Seated
 from wanekupo.books.shift import Period
@@ -14,7 +18,8 @@ from wanekupo.books.stored import Books, Seat
 
 @dataclass
 class Span:
-    """The numbers that a seat's journals have, from the first to the last, and what is missing between."""
+    """The numbers that a seat's journals have, from the first to the last, and what is missing between. `lost` are
+    lines that can't be, each with its time."""
 
     seat: str
     customer: str
@@ -22,15 +27,43 @@ class Span:
     first: int = 0
     known: int = 0
     faults: list[str] = field(default_factory=list)
+    lost: list[tuple[str, str]] = field(default_factory=list)
+
+
+class Turn(NamedTuple):
+    """Where a seat's lines may go on with a number that they had: a person said so, or a journal begins. `digest` is
+    that of the journal's first request."""
+
+    at: str
+    book: int
+    place: int
+    number: int
+    told: str
+    digest: str
+
+    def is_before(self, book: int, place: int, step: Step) -> bool:
+        return place >= self.place if book == self.book else step.at > self.at
+
+    def is_of_older(self, step: Step) -> bool:
+        """Whether an accepted line in front shows that the store is an older one here."""
+        if self.digest:
+            return step.number == self.number and step.digest != self.digest
+        return step.number >= self.number
 
 
 def counts(it: Seated, step: Step, store: Books, period: Period) -> bool:
     """Whether a line is of a period: by its time; as the first of its journal, in front of which nothing contradicts
-    its time, with the one behind it; and behind the period as long as the store has its number."""
+    its time, with the one behind it; and behind the period as long as the store has its number. Not one that an older
+    copy of the store can't have."""
+    last = store.seats[it.seat].last if it.seat in store.seats else 0
+    if step.turn > 0 or step.answered >= period.end and step.number > last:
+        return False
     if step.at >= period.end:
-        return it.seat in store.seats and step.number <= store.seats[it.seat].last
+        return step.turn == 0 and step.number <= last
     first = it.book.steps[:2]
-    return step.at >= period.start or step is first[0] and first[-1].at >= period.start
+    return step.at >= period.start or (
+        step is first[0] and first[-1].at >= period.start and first[-1].turn == step.turn
+    )
 
 
 def whole_customers(spans: Iterable[Span], store: Books) -> set[str]:
@@ -41,7 +74,8 @@ def whole_customers(spans: Iterable[Span], store: Books) -> set[str]:
 
 
 def spans_of(journals: Iterable[Seated], store: Books, period: Period) -> list[Span]:
-    """The numbers of each seat that has a journal."""
+    """The numbers of each seat that has a journal. Each line gets its turn, and what is there twice or wasn't done is
+    taken out of the journals."""
     books: dict[str, list[Book]] = {}
     for it in journals:
         if it.seat in store.seats:
@@ -49,64 +83,163 @@ def spans_of(journals: Iterable[Seated], store: Books, period: Period) -> list[S
     return [_span_of(store.seats[name], own, period) for name, own in sorted(books.items())]
 
 
-def _sequence(books: list[Book]) -> list[Step]:
-    """The requests of a seat that the server accepted or may have accepted, since its last restore: where a person had
-    the seat go on with a number that it had already, the store was an older one."""
-    found: list[Step] = []
-    for book in sorted(books, key=lambda it: it.times[:1]):
-        behind = {it.behind: it.number for it in book.resynchronized}
-        for place, step in enumerate(book.steps):
-            number = behind.get(place)
-            if number is not None and any(it.number >= number and it.is_done() for it in found):
-                found = []
-            if step.status in (None, 200):
-                found.append(step)
+# Turns.
+
+
+def _turns(books: Sequence[Book]) -> list[Turn]:
+    """Where the store became an older one, by all journals of a seat."""
+    marks = []
+    for number, book in enumerate(books):
+        for it in book.resynchronized:
+            marks.append(Turn(it.at, number, it.behind, it.number, f"line {it.line} of {it.file}", ""))
+        for step in book.steps[:1]:
+            if step.is_done():
+                marks.append(Turn(step.at, number, 0, step.number, step.place(), step.digest))
+    found: list[Turn] = []
+    for mark in sorted(marks):
+        if any(mark.is_of_older(it) for it in _accepted_between(books, found[-1:], mark)):
+            found.append(mark)
     return found
 
 
+def _accepted_between(books: Sequence[Book], last: Sequence[Turn], mark: Turn) -> Iterator[Step]:
+    for number, book in enumerate(books):
+        for place, step in enumerate(book.steps):
+            is_behind = all(it.is_before(number, place, step) for it in last)
+            if step.is_done() and is_behind and not mark.is_before(number, place, step):
+                yield step
+
+
+def _own_turn(seat: Seat, steps: Sequence[Step], turns: Sequence[Turn], period: Period) -> int:
+    """Which turn the store is of: the last one. Of those that begin behind the period it may be too early."""
+    own = len(turns)
+    while own and turns[own - 1].at >= period.end:
+        if any((it.turn, it.number, it.digest) == (own, seat.last, seat.digest) for it in steps):
+            break
+        own -= 1
+    return own
+
+
+def _in_order(seat: Seat, books: Sequence[Book], turns: Sequence[Turn], period: Period) -> tuple[list[Step], int]:
+    """A seat's lines by their turns and numbers, and which turn the store is of: that is 0 in the lines."""
+    steps = []
+    for number, book in enumerate(books):
+        for place, step in enumerate(book.steps):
+            step.turn = sum(it.is_before(number, place, step) for it in turns)
+            steps.append(step)
+    own = _own_turn(seat, steps, turns, period)
+    for step in steps:
+        step.turn -= own
+    return sorted(steps, key=lambda it: (it.turn, it.number)), own
+
+
+def _settle(steps: Sequence[Step], turns: Sequence[Turn], span: Span) -> set[int]:
+    """Lays lines with the same number together, and gives those that go: a request that stands there again, and one
+    without a reply whose number was taken by another, which so was not done."""
+    accepted: dict[tuple[int, int], Step] = {}
+    gone: set[int] = set()
+    for it in filter(Step.is_done, steps):
+        first = accepted.setdefault((it.turn, it.number), it)
+        if first.digest != it.digest:
+            told = f"{it.place()} and {first.place()} have the number {it.number}, and both were accepted"
+            span.lost.append((it.at, told))
+        elif first is not it:
+            gone.add(id(it))
+    for it in steps:
+        done = accepted.get((it.turn, it.number))
+        if done and done.digest == it.digest:
+            done.since = min(done.since or done.at, it.at)
+        later = turns[len(turns) + it.turn :] if it.turn < 0 else ()
+        if it.status is None and (done or any(turn.number <= it.number for turn in later)):
+            gone.add(id(it))
+    return gone
+
+
 def _span_of(seat: Seat, books: list[Book], period: Period) -> Span:
-    steps = _sequence(books)
-    done = [it for it in steps if it.is_done()]
     span = Span(seat.name, seat.customer, "")
+    books = sorted(books, key=lambda it: it.times[:1])
+    turns = _turns(books)
+    steps, own = _in_order(seat, books, turns, period)
+    turns = turns[:own]
+    gone = _settle(steps, turns, span)
+    begun = {id(book.steps[0]) for book in books if book.steps}
+    for book in books:
+        book.steps = [it for it in book.steps if id(it) not in gone]
+    steps = [it for it in steps if id(it) not in gone and it.turn <= 0 and it.status in (None, 200)]
+    span.lost += _unanswered_faults(steps, books, begun, period)
+    _count(span, seat, steps, turns, period)
+    return span
+
+
+def _unanswered_faults(
+    steps: Sequence[Step], books: Sequence[Book], begun: set[int], period: Period
+) -> Iterator[tuple[str, str]]:
+    """Lines without a reply behind which the station went on: it has one request under way, until a person has it go on
+    or a journal is begun."""
+    told_on = {it.number for book in books for it in book.resynchronized}
+    for it, behind in zip(steps, steps[1:]):
+        goes_on = it.status is None and it.turn == behind.turn and behind.at >= period.start and it.at < period.end
+        if goes_on and id(behind) not in begun and not told_on & {it.number, it.number + 1}:
+            told = f"{it.place()} was never answered, and {behind.place()} was asked behind it: a reply is missing"
+            yield it.at, f"{told}, or the station's state file was lost"
+
+
+# Numbers.
+
+
+def _count(span: Span, seat: Seat, steps: list[Step], turns: Sequence[Turn], period: Period) -> None:
+    """What of a seat's numbers is there, and what is wrong with them."""
+    done = [it for it in steps if it.is_done()]
     if not done:
         if seat.last:
             span.faults.append(f"the store has the number {seat.last}, and no journal has a request that was accepted")
-        return span
-    numbers = sorted({it.number for it in steps})
-    times = {it.number: it.at for it in steps}
-    span.first, span.known, span.at = numbers[0], max(it.number for it in done), done[-1].at
+        return
+    own = [it for it in steps if it.turn == 0]
+    times = {it.number: it.at for it in own}
+    if turns:
+        times.setdefault(turns[-1].number - 1, turns[-1].at)
+    numbers = sorted(times)
+    span.first, span.at = min(it.number for it in steps), done[-1].at
+    span.known = max((it.number for it in own if it.is_done()), default=numbers[-1])
     for before, after in zip(numbers, numbers[1:]):
         if after > before + 1 and times[after] >= period.start and times[before] < period.end:
             where = f"between {times[before]} and {times[after]}"
             span.faults.append(f"{_named(before + 1, after - 1)} no line, {where}")
-    span.faults += filter(None, [_end_fault(seat, span, steps, period), _last_fault(seat, steps)])
-    return span
+    span.faults += _older_faults(done, turns, period)
+    end = _end_fault(seat, span, own, numbers[-1], period)
+    span.faults += filter(None, [end, _last_fault(seat, steps)])
+
+
+def _older_faults(done: Sequence[Step], turns: Sequence[Turn], period: Period) -> Iterator[str]:
+    """Accepted lines of the period whose numbers were given again: the store became an older one within it."""
+    for place, turn in enumerate(turns, -len(turns)):
+        gone = next((it for it in done if it.turn <= place and it.number >= turn.number and period.has(it.at)), None)
+        if gone:
+            told = f"{turn.told} goes on with the number {turn.number}, and {gone.place()}, number {gone.number}"
+            yield f"{told}, was accepted at {gone.at}: the store became an older one within the period"
 
 
 def _named(first: int, last: int) -> str:
     return f"the number {first} has" if first == last else f"the numbers {first} to {last} have"
 
 
-def _end_fault(seat: Seat, span: Span, steps: list[Step], period: Period) -> Optional[str]:
+def _end_fault(seat: Seat, span: Span, own: list[Step], asked: int, period: Period) -> Optional[str]:
     """Whether the store and the journals end with the same number: journals reach as far as the store does. A line of
-    before the period's end that the store doesn't know shows an older store."""
-    asked = max(it.number for it in steps)
-    if seat.last > max(asked, span.known):
+    the period that the store doesn't know shows an older store, but for one that was answered behind it."""
+    if seat.last > asked:
         return f"{_named(asked + 1, seat.last)} no line, behind {span.at}: the journal lacks its end, or a foreign hand"
-    unknown = [it for it in _done_behind(steps, seat.last) if it.at < period.end]
+    done = (it for it in own if it.is_done() and it.number > seat.last)
+    unknown = next((it for it in done if period.has(it.at) and it.answered < period.end), None)
     if unknown:
-        told = f"the store's number is {seat.last}, and {unknown[0].place()}, number {unknown[0].number}, was accepted"
-        return f"{told} at {unknown[0].at}: this is an older store"
+        told = f"the store's number is {seat.last}, and {unknown.place()}, number {unknown.number}, was accepted"
+        return f"{told} at {unknown.at}: this is an older store"
     return None
-
-
-def _done_behind(steps: list[Step], last: int) -> Iterator[Step]:
-    return (it for it in steps if it.is_done() and it.number > last)
 
 
 def _last_fault(seat: Seat, steps: list[Step]) -> Optional[str]:
     """Whether the last request that the store has is the one of the journal's line with its number."""
     lines = [it for it in steps if it.number == seat.last]
+    lines = [it for it in lines if it.turn == lines[-1].turn]
     if lines and all(it.digest != seat.digest for it in lines):
         return f"the store's last request, number {seat.last}, isn't that of {lines[-1].place()}"
     done = [it for it in lines if it.is_done()]

@@ -13,6 +13,7 @@ from typing import Optional
 
 from wanekupo.books.shift import seconds_between
 from wanekupo.errors import BadSettings, NoReply, NotTheServer
+from wanekupo.moments import moment_of
 
 # A stamp is had within an hour behind its seal; the service's clock may be a minute behind the one of the seal.
 LATEST, EARLIEST = 3600, -60
@@ -72,8 +73,12 @@ class Service:
 
 
 def verified(reply: Path, digest: str, service: Service) -> bool:
-    """Whether a kept reply is a time stamp of a digest by the service."""
-    return reply.exists() and service.is_verified(reply, "-digest", digest)
+    """Whether a kept reply is a time stamp of a digest by the service, whose certificate held at the stamp's moment."""
+    try:
+        moment = moment_of(moment_in(reply)) if reply.exists() else None
+    except (NotTheServer, ValueError):
+        return False
+    return bool(moment) and service.is_verified(reply, "-digest", digest, "-attime", f"{moment.timestamp():.0f}")
 
 
 def moment_in(reply: Path) -> str:

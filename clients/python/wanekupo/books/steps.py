@@ -31,6 +31,9 @@ EVENTS = {
     "/v1/scrap": "scrapped",
 }
 
+# The paths of all requests that change something.
+PATHS = frozenset((*EVENTS, "/v1/order", "/v1/map", "/v1/import"))
+
 # Of what such a step asks, and of its reply, what is looked at.
 ASKED = frozenset(("nr", "chip", "order", "map"))
 REPLIED = frozenset(("state", "outcome", "serial", "no", "error", "expected"))
@@ -39,7 +42,8 @@ REPLIED = frozenset(("state", "outcome", "serial", "no", "error", "expected"))
 @dataclass(slots=True)
 class Step:
     """A request of a journal with the place of its line, when it was asked and answered, and what the reply was.
-    Without a status its reply never came. `reason` is why a chip was scrapped, where the station knew it."""
+    Without a status its reply never came. `reason` is why a chip was scrapped, where the station knew it. `turn` and
+    `since` are an audit's: a turn of its seat, and when it was first asked where it stands there more than once."""
 
     file: str
     line: int
@@ -53,6 +57,8 @@ class Step:
     status: Optional[int] = None
     reply: dict[str, Any] = field(default_factory=dict)
     reason: str = ""
+    turn: int = 0
+    since: str = ""
 
     @property
     def number(self) -> int:
@@ -125,6 +131,7 @@ class Book:
     faults: list[Fault] = field(default_factory=list)
     times: list[str] = field(default_factory=list)
     seat: str = ""
+    is_asked: bool = False
 
     def name(self) -> str:
         """The seat's name, or where no line has one that of the file."""
@@ -155,6 +162,18 @@ def _tested_clock(book: Book, file: str, number: int, at: str) -> None:
             book.faults.append(Fault(file, number, at, told))
 
 
+def _answered(last: Optional[Step], line: Members) -> str:
+    """Adds a reply to its request; what is wrong with it. A request that was answered is sent again where its station
+    stopped before it knew so, and gets the reply that the server kept; a store that was restored since refuses it."""
+    if last is None or last.number != line["nr"]:
+        return f"answers number {line['nr']}, which isn't asked in front of it: a line is missing"
+    if last.is_done():
+        is_other = line["status"] == 200 and line["reply"] != last.reply
+        return f"answers number {line['nr']} otherwise than before" if is_other else ""
+    last.answered, last.status, last.reply = line["at"], line["status"], line["reply"]
+    return f"accepts {last.path}, which the server doesn't have" if last.is_done() and last.path not in PATHS else ""
+
+
 def _take(book: Book, file: str, number: int, line: Members) -> None:
     """Adds a line to a journal's requests."""
     _tested_clock(book, file, number, line["at"])
@@ -168,7 +187,8 @@ def _take(book: Book, file: str, number: int, line: Members) -> None:
         fault = digest_fault(file, number, line)
         if fault:
             book.faults.append(fault)
-        is_again = last and last.status is None and (last.path, last.asked) == (line["path"], line["asked"])
+        is_again = last and last.status in (None, 200) and (last.path, last.asked) == (line["path"], line["asked"])
+        is_again = is_again and all(it.behind < len(book.steps) for it in book.resynchronized[-1:])
         if not is_again:
             if last:
                 last.slim()
@@ -177,12 +197,12 @@ def _take(book: Book, file: str, number: int, line: Members) -> None:
             step = Step(file, number, line["at"], path, line["asked"], digest, *names)
             step.reason = line.get("reason", "")
             book.steps.append(step)
+        book.is_asked = True
     elif "status" in line:
-        if last is None or last.number != line["nr"] or last.status is not None:
-            told = f"answers number {line['nr']}, which isn't asked in front of it: a line is missing"
+        told = _answered(last if book.is_asked else None, line)
+        if told:
             book.faults.append(Fault(file, number, line["at"], told))
-        else:
-            last.answered, last.status, last.reply = line["at"], line["status"], line["reply"]
+        book.is_asked = False
     else:
         it = Resynchronized(file, number, line["at"], line["resynchronized"], len(book.steps))
         book.resynchronized.append(it)
