@@ -73,7 +73,8 @@ class Audits(BooksCase):
             station.ship(MAC)
         self.program.copied(self.folder / "copy")
         out = self.found(self.folder / "copy" / "books.db", self.folder / "a1.journal")
-        self.assertIn("its ledger has identified behind planned that left it awaiting1 by the journal, at the entry 3", out)
+        told = "its ledger has identified behind planned that left it awaiting1 by the journal, at the entry 3"
+        self.assertIn(told, out)
         self.assertIn("1 found.", out)
 
     def test_lost_replies(self):

@@ -78,8 +78,8 @@ def _import_faults(store: Books) -> Iterator[Row]:
     for customer, record in store.records("WHERE g.chip IS NULL"):
         for name, meant in (("mac", None), ("not_before", None), ("not_after", NO_END)):
             if record[name] != meant:
-                told = f"the imported serial number {record['serial']} of {record['issuer']} has the {name} {record[name]}"
-                yield "import", "", customer, "", told
+                which = f"the imported serial number {record['serial']} of {record['issuer']}"
+                yield "import", "", customer, "", f"{which} has the {name} {record[name]}"
 
 
 def _too_many(store: Books) -> Iterator[Row]:
@@ -87,8 +87,8 @@ def _too_many(store: Books) -> Iterator[Row]:
     for customer, name, count in store.places():
         order = store.orders.get((customer, name))
         if order and count > order["quantity"]:
-            told = f"the order {name} has {count} devices that weren't given up, and its quantity is {order['quantity']}"
-            yield "order", "", customer, "", told
+            told = f"has {count} devices that weren't given up, and its quantity is {order['quantity']}"
+            yield "order", "", customer, "", f"the order {name} {told}"
 
 
 def _place_faults(record: dict[str, Any], order: dict[str, Any]) -> Iterator[str]:
