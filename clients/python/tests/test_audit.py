@@ -78,7 +78,7 @@ class Audits(BooksCase):
         self.assertIn("1 found.", out)
 
     def test_lost_replies(self):
-        """A step whose reply was lost is none of its likes that were answered."""
+        """A step whose reply is gone is none of its likes that were answered: it accuses no device."""
         store, file = self.lived(), self.folder / "a1.journal"
         lines = file.read_text(encoding="ascii").splitlines(True)
         for number in range(1, 9):
@@ -87,7 +87,8 @@ class Audits(BooksCase):
                 kept.insert(-1, json.dumps({"at": json.loads(lines[-2])["at"], "resynchronized": 8}) + "\n")
                 file.write_text("".join(kept), encoding="ascii")
                 self.assertEqual(len(kept), len(lines))
-                self.found(store, file, status=0)
+                out = self.found(store, file, status=0 if number == 8 else 1)
+                self.assertNotRegex(out, r"(?m)^device ")
 
     def test_addresses_within_a_long_span(self):
         """Of a number with four addresses each other record that has one of them is found, not the next one alone."""

@@ -67,7 +67,7 @@ class SeatCase(unittest.TestCase):
 
     def store(self, number=0, chip="", path="/v1/ship"):
         last = Seat("a1", "acme", number, request_digest(path, {"nr": number, "chip": chip}), "{}")
-        return SimpleNamespace(seats={"a1": last})
+        return SimpleNamespace(seats={"a1": last}, records=lambda _: [])
 
     def spans(self, books, store):
         """What is told of a seat, and the journals behind it."""
@@ -139,7 +139,7 @@ class Turns(SeatCase):
         for behind, meant in (([], 0), ([goes_on("07:02:00", 1), *row(1, 1, "08")], 1)):
             store = self.store(1, "c1")
             _, journals = self.spans([[dropped, *behind]], store)
-            store.orders, store.maps, store.imported = {("acme", "o9"): {}}, [], dict
+            store.orders, store.maps = {("acme", "o9"): {"name": "o9"}}, []
             self.assertEqual(len(list(unasked(journals, store, {"acme"}))), meant)
 
     def test_times_of_what_stands_there_twice(self):
