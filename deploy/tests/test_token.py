@@ -1,30 +1,25 @@
 """The commands of station-token: days, spans, what ends and what comes in its place, and the files that it writes."""
 
-import importlib.machinery
-import importlib.util
 import os
 import subprocess
-import sys
 import tomllib
 from pathlib import Path
 
 import pytest
+import token_file
 from half import Settings
+from scripts import script
 from token_file import LAST, Outer, Seat, TokenError, Tokens, mark_of, tokens_of
 
-SCRIPT = Path(__file__).resolve().parents[1] / "token"
-LOADER = importlib.machinery.SourceFileLoader("station_token", str(SCRIPT))
-token = importlib.util.module_from_spec(importlib.util.spec_from_loader("station_token", LOADER))
-sys.modules["station_token"] = token  # dataclasses look there
-LOADER.exec_module(token)
+token = script("token")
 
 DAY = "2026-11-29"
 
 
 @pytest.fixture(autouse=True)
 def clock(monkeypatch):
-    for name in ("token_file.now", "station_token.now"):
-        monkeypatch.setattr(name, lambda: f"{DAY}T10:00")
+    for module in (token_file, token):
+        monkeypatch.setattr(module, "now", lambda: f"{DAY}T10:00")
 
 
 def args_of(*words):
