@@ -18,6 +18,7 @@ from wanekupo.books.papers import papers, unasked
 from wanekupo.books.shift import Period
 from wanekupo.books.steps import Book, Step
 from wanekupo.books.stored import Books, Entry, Life
+from wanekupo.books.verdicts import Chip
 
 
 @dataclass(frozen=True)
@@ -74,6 +75,7 @@ def audit_of(store: Books, books: Iterable[Book], period: Period, now: str) -> A
         made = matched(life.entries, steps.pop((life.customer, life.chip), ()))
         laid.take(made)
         audit.found += _contradictions(life, _told_states(made))
+        audit.found += _asked_faults(life, made, store)
         lost.difference_update(entry.row["seat"] for entry in life.entries if entry.row["seat"] in lost)
     for lines in steps.values():
         laid.take(matched((), lines))
@@ -138,7 +140,8 @@ class Laid:
         for own, step in made.steps:
             if counts(own, step, self.store, self.period):
                 said = f"{step.event} {step.note}".rstrip()
-                told = f"{step.place()}, {said}, was accepted, and no ledger has it"
+                taken = "was accepted" if step.is_done() else f"has a number that was given, {step.number}"
+                told = f"{step.place()}, {said}, {taken}, and no ledger has it"
                 self.faults.append(Found("no_entry", step.at, own.customer, own.seat, step.chip, told))
 
     def faults_in(self, window: Window) -> Iterator[Found]:
@@ -238,6 +241,25 @@ def _told_states(made: Matched) -> dict[int, str]:
     unsure |= {(it.entry.row["event"], it.entry.row["note"]) for it in made.pairs if not it.step.is_done()}
     sure = (it for it in made.pairs if not it.kind and (it.entry.row["event"], it.entry.row["note"]) not in unsure)
     return {it.entry.row["n"]: str(it.step.reply["state"]) for it in sure if "state" in it.step.reply}
+
+
+def _asked_faults(life: Life, made: Matched, store: Books) -> Iterator[Found]:
+    """What of a chip isn't as its lines asked for it. A line counts where it is surely its entry's: where there are as
+    many of both, or no other entry says the same."""
+    said = Counter((it.row["event"], it.row["note"]) for it in life.entries)
+    is_whole = not made.entries and all(step.is_lost for _, step in made.steps)
+    sure = (it for it in made.pairs if not it.kind and (is_whole or said[it.entry.row["event"], it.entry.row["note"]] == 1))
+    lines = {it.entry.row["n"]: it.step for it in sure}
+    for device in life.devices:
+        chip = Chip(store.layouts[life.customer, device["map"]].fields)
+        for entry in life.entries:
+            step = lines.get(entry.row["n"])
+            for told in chip.take(entry.row, step):
+                at, place = (step.at, f" ({step.place()})") if step else ("", "")
+                yield Found("device", at, life.customer, "", life.chip, f"{_told(_left_of(entry), told)}{place}")
+        if not chip.pends(device):
+            told = "what it has still to burn isn't what its lines leave"
+            yield Found("device", "", life.customer, "", life.chip, told)
 
 
 def _contradictions(life: Life, states: dict[int, str]) -> Iterator[Found]:

@@ -8,6 +8,7 @@ import tomllib
 from dataclasses import dataclass
 from typing import Any
 
+from wanekupo import recipe_wishes
 from wanekupo.errors import StationError
 
 # A key in a column: whether it is known, and the SHA-256 of its bytes.
@@ -20,10 +21,11 @@ class BadMap(StationError):
 
 @dataclass(frozen=True)
 class Layout:
-    """The words of a map's blocks, and its key fields in their order, each with its block."""
+    """The words of a map's blocks, its key fields in their order, each with its block, and all of its fields."""
 
     blocks: tuple[int, ...]
     keys: tuple[tuple[str, int], ...]
+    fields: recipe_wishes.Layout
 
     def bits_length(self) -> int:
         return 4 * sum(self.blocks)
@@ -70,7 +72,10 @@ def layout_of(text: str) -> Layout:
         table = tomllib.loads(text)
         blocks = tuple(int(block["words"]) for block in table["block"])
         keys = tuple((str(it["name"]), int(it["block"])) for it in table["field"] if it.get("key"))
-    except (ValueError, KeyError, TypeError, AttributeError) as error:
+        fields = recipe_wishes.Layout(text)
+        if not all(0 <= it.block and 0 < it.count <= 32 * blocks[it.block] - it.bit for it in fields.fields.values()):
+            raise ValueError("a field lies in no block")
+    except (ValueError, LookupError, TypeError, AttributeError) as error:
         told = "Write the map in the words of TOML 1.0 in the next order; for this one compare seals over HTTP."
         raise BadMap(f"a fuse map of the store can't be read here: {error}", told) from error
-    return Layout(blocks, keys)
+    return Layout(blocks, keys, fields)

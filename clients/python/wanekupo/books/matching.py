@@ -9,6 +9,7 @@ from __future__ import annotations
 import difflib
 from collections import defaultdict
 from dataclasses import dataclass, field
+from itertools import takewhile
 from typing import Iterable, Optional
 
 from wanekupo.books.steps import Book, Step
@@ -102,38 +103,51 @@ def _said(entry: Entry) -> tuple[str, str]:
     return entry.row["event"], entry.row["note"]
 
 
+def _fits(entry: Entry, step: Step) -> bool:
+    """Whether an entry can be that of a line; one whose reply was lost has no note."""
+    return entry.row["event"] == step.event and (not step.is_done() or entry.row["note"] == step.note)
+
+
+def _alike(entries: Iterable[Entry], steps: Iterable[Told]) -> int:
+    """How many of both fit, from the first ones on."""
+    return sum(1 for _ in takewhile(lambda it: _fits(it[0], it[1][1]), zip(entries, steps)))
+
+
 def _lay(found: Matched, entries: list[Entry], steps: list[Told]) -> None:
-    """Lays the entries and lines of one chip and seat beside each other: first those that were answered, then those
-    whose reply was lost, then those that were refused."""
-    done = [it for it in steps if it[1].is_done()]
-    said, asked = [_said(it) for it in entries], [(it.event, it.note) for _, it in done]
-    rest, left = entries, done
-    if said == asked:
-        found.pairs += [Pair(entry, step) for entry, (_, step) in zip(entries, done)]
-        rest, left = [], []
-    elif said and asked:
-        blocks = difflib.SequenceMatcher(None, said, asked, autojunk=False).get_matching_blocks()
-        places = {block.a + it: block.b + it for block in blocks for it in range(block.size)}
-        found.pairs += [Pair(entries[one], done[other][1]) for one, other in places.items()]
-        others = set(places.values())
-        rest = [it for place, it in enumerate(entries) if place not in places]
-        left = [it for place, it in enumerate(done) if place not in others]
-    rest = _lay_unanswered(found, rest, [it for _, it in steps if it.status is None], "")
-    refused = [it for _, it in steps if it.status not in (None, 200)]
-    found.entries += _lay_unanswered(found, rest, refused, "late_copy")
-    found.steps += left
+    """Lays the entries and lines of one chip and seat beside each other: from both ends as far as they fit, then those
+    that were answered, those whose reply was lost, and those that were refused."""
+    own = [it for it in steps if it[1].is_stored()]
+    first = _alike(entries, own)
+    last = _alike(reversed(entries[first:]), reversed(own[first:]))
+    ends = [*range(first), *range(-last, 0)]
+    found.pairs += [Pair(entries[place], own[place][1]) for place in ends]
+    rest, own = entries[first : len(entries) - last], own[first : len(own) - last]
+    done = [it for it in own if it[1].is_done()]
+    said, asked = [_said(it) for it in rest], [(it.event, it.note) for _, it in done]
+    blocks = difflib.SequenceMatcher(None, said, asked, autojunk=False).get_matching_blocks()
+    places = {block.a + it: block.b + it for block in blocks for it in range(block.size)}
+    found.pairs += [Pair(rest[one], done[other][1]) for one, other in places.items()]
+    laid = {id(done[place][1]) for place in places.values()}
+    rest = _lay_unanswered(found, [it for place, it in enumerate(rest) if place not in places], own, laid)
+    refused = [it for it in steps if it[1].status not in (None, 200)]
+    found.entries += _lay_unanswered(found, rest, refused, laid, "late_copy")
+    lost = (it for it in steps if it[1].is_done() and it[1].is_lost)
+    found.steps += [*(it for it in own if id(it[1]) not in laid), *lost]
 
 
-def _lay_unanswered(found: Matched, entries: list[Entry], steps: list[Step], kind: str) -> list[Entry]:
+def _lay_unanswered(
+    found: Matched, entries: list[Entry], steps: list[Told], laid: set[int], kind: str = ""
+) -> list[Entry]:
     """Lays entries beside lines of the same event whose reply says nothing, and gives those that are left."""
-    free, rest = list(steps), []
+    free, rest = [it for _, it in steps if not it.is_done()], []
     for entry in entries:
-        place = next((place for place, it in enumerate(free) if it.event == entry.row["event"]), None)
-        if place is None:
+        step = next((it for it in free if it.event == entry.row["event"] and id(it) not in laid), None)
+        if step is None:
             rest.append(entry)
             continue
+        laid.add(id(step))
         told = "a late copy of a request that was refused was accepted" if kind else ""
-        found.pairs.append(Pair(entry, free.pop(place), kind, told))
+        found.pairs.append(Pair(entry, step, kind, told))
     return rest
 
 

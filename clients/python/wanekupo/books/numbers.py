@@ -133,9 +133,10 @@ def _in_order(seat: Seat, books: Sequence[Book], turns: Sequence[Turn], period: 
     return sorted(steps, key=lambda it: (it.turn, it.number)), own
 
 
-def _settle(steps: Sequence[Step], turns: Sequence[Turn], span: Span) -> set[int]:
-    """Lays lines with the same number together, and gives those that go: a request that stands there again, and one
-    without a reply whose number was taken by another, which so was not done."""
+def _settle(seat: Seat, steps: Sequence[Step], turns: Sequence[Turn], span: Span) -> set[int]:
+    """Says which lines the store can't have, lays those with the same number together, and gives those that go: a
+    request that stands there again, and one without a reply whose number was taken by another, which so was not done.
+    """
     accepted: dict[tuple[int, int], Step] = {}
     gone: set[int] = set()
     for it in filter(Step.is_done, steps):
@@ -150,7 +151,8 @@ def _settle(steps: Sequence[Step], turns: Sequence[Turn], span: Span) -> set[int
         if done and done.digest == it.digest:
             done.since = min(done.since or done.at, it.at)
         later = turns[len(turns) + it.turn :] if it.turn < 0 else ()
-        if it.status is None and (done or any(turn.number <= it.number for turn in later)):
+        it.is_lost = it.turn > 0 or it.number >= min((turn.number for turn in later), default=seat.last + 1)
+        if it.status is None and (done or later and it.is_lost):
             gone.add(id(it))
     return gone
 
@@ -161,7 +163,7 @@ def _span_of(seat: Seat, books: list[Book], period: Period) -> Span:
     turns = _turns(books)
     steps, own = _in_order(seat, books, turns, period)
     turns = turns[:own]
-    gone = _settle(steps, turns, span)
+    gone = _settle(seat, steps, turns, span)
     begun = {id(book.steps[0]) for book in books if book.steps}
     for book in books:
         book.steps = [it for it in book.steps if id(it) not in gone]

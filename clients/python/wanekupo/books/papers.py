@@ -22,11 +22,13 @@ RECORD = ("chip", "issuer", "serial", "key_sha256", "mac", "not_after", "not_bef
 
 
 def papers(journals: Iterable[Seated], store: Books, period: Period) -> Iterator[Row]:
-    """Each accepted line of the period whose row of the store isn't there, or says something else."""
+    """Each line of the period that was accepted, or whose number was, and whose row of the store isn't there, or says
+    something else."""
     for it in journals:
         for step in it.book.steps:
             judge = JUDGES.get(step.path)
-            if judge and step.is_done() and it.seat in store.seats and counts(it, step, store, period):
+            is_done = step.is_done() or step.is_stored()
+            if judge and is_done and it.seat in store.seats and counts(it, step, store, period):
                 for kind, told in judge(it, step, store):
                     yield kind, step.at, it.customer, it.seat, step.chip, f"{told} ({step.place()})"
 
@@ -68,8 +70,11 @@ def _order_words(order: Mapping[str, Any]) -> tuple[str, ...]:
     return tuple(str(order.get(name)) for name in ORDER)
 
 
-def _identity(_: Seated, step: Step, store: Books) -> Iterator[tuple[str, str]]:
+def _identity(it: Seated, step: Step, store: Books) -> Iterator[tuple[str, str]]:
     reply = step.reply
+    if not step.is_done():
+        order, device = store.order_of(it.customer, step.chip), store.device(it.customer, step.chip)
+        reply = {"issuer": order and order["issuer"], "serial": device and device["serial"]}
     record = store.record(str(reply.get("issuer")), str(reply.get("serial")))
     named = f"the record of {reply.get('serial')} of {reply.get('issuer')}"
     if record is None:
@@ -99,14 +104,15 @@ def _registration(it: Seated, step: Step, store: Books) -> Iterator[tuple[str, s
 
 
 def _order(it: Seated, step: Step, store: Books) -> Iterator[tuple[str, str]]:
-    name = str(step.reply.get("name"))
+    said = {**step.asked, **step.reply}
+    name = str(said.get("name"))
     order = store.orders.get((it.customer, name))
     if order is None:
         yield "order", f"the order {name} isn't in the store"
         return
-    for member, value in step.reply.items():
-        if member != "next" and member in order and order[member] != value:
-            yield "order", f"the order {name}: {member} is {order[member]} in the store, and {value} in the journal"
+    for member in (*ORDER, "mac"):
+        if member in said and order[member] != said[member]:
+            yield "order", f"the order {name}: {member} is {order[member]} in the store, and {said[member]} in the journal"
 
 
 def _map(it: Seated, step: Step, store: Books) -> Iterator[tuple[str, str]]:
@@ -123,7 +129,8 @@ def _import(it: Seated, step: Step, store: Books) -> Iterator[tuple[str, str]]:
         yield "import", f"what was imported for {issuer} can't be read: {error}"
         return
     counted = step.reply.get("added"), step.reply.get("present")
-    if any(type(count) is not int or count < 0 for count in counted) or sum(counted) != len(rows):
+    is_count = all(type(count) is int and count >= 0 for count in counted)
+    if step.is_done() and not (is_count and sum(counted) == len(rows)):
         yield "import", f"{len(rows)} rows were imported for {issuer}, and the reply has {counted[0]} and {counted[1]}"
     for serial, digest in rows:
         record = store.record(issuer, serial)

@@ -35,15 +35,25 @@ EVENTS = {
 PATHS = frozenset((*EVENTS, "/v1/order", "/v1/map", "/v1/import"))
 
 # Of what such a step asks, and of its reply, what is looked at.
-ASKED = frozenset(("nr", "chip", "order", "map"))
+ASKED = frozenset(("nr", "chip", "order", "map", "wishes", "blocks"))
 REPLIED = frozenset(("state", "outcome", "serial", "no", "error", "expected"))
+
+
+def _once(it: Any) -> Any:
+    """A member whose texts are in memory but once: those of most chips are alike."""
+    if isinstance(it, list):
+        return [_once(part) for part in it]
+    if isinstance(it, dict):
+        return {name: _once(part) for name, part in it.items()}
+    return sys.intern(it) if isinstance(it, str) else it
 
 
 @dataclass(slots=True)
 class Step:
     """A request of a journal with the place of its line, when it was asked and answered, and what the reply was.
-    Without a status its reply never came. `reason` is why a chip was scrapped, where the station knew it. `turn` and
-    `since` are an audit's: a turn of its seat, and when it was first asked where it stands there more than once."""
+    Without a status its reply never came. `reason` is why a chip was scrapped, where the station knew it. The last three
+    are an audit's: a turn of its seat, whether the store is one without it, and when it was first asked where it stands
+    there more than once."""
 
     file: str
     line: int
@@ -58,6 +68,7 @@ class Step:
     reply: dict[str, Any] = field(default_factory=dict)
     reason: str = ""
     turn: int = 0
+    is_lost: bool = False
     since: str = ""
 
     @property
@@ -80,13 +91,17 @@ class Step:
         return str(self.reply.get(member, "")) if member else ""
 
     def slim(self) -> None:
-        """Leaves away what nobody asks for of a step but an identity, as the digests of blocks: journals are long."""
+        """Leaves away what nobody asks for of a step but an identity: journals are long."""
         if self.event not in ("", "identified"):
-            self.asked = {name: it for name, it in self.asked.items() if name in ASKED}
+            self.asked = {name: _once(it) for name, it in self.asked.items() if name in ASKED}
             self.reply = {name: it for name, it in self.reply.items() if name in REPLIED}
 
     def is_done(self) -> bool:
         return self.status == 200
+
+    def is_stored(self) -> bool:
+        """Whether the store has to have it: it was accepted, or its number was given though no reply came."""
+        return self.status in (None, 200) and not self.is_lost
 
     def is_stop(self) -> bool:
         """Whether the server refused it as 11 or 12: the seat was out of step."""
