@@ -5,18 +5,19 @@ from __future__ import annotations
 import argparse
 from datetime import datetime, timezone
 from pathlib import Path
-from typing import Iterable
+from typing import Iterable, Optional
 
 from wanekupo.books.audit import audit_of
 from wanekupo.books.audit_page import as_html, as_text, found_table
 from wanekupo.books.printed import write
 from wanekupo.books.shift import Period, period_of
-from wanekupo.books.steps import Book, books_of
+from wanekupo.books.steps import Book, books_of, shipped_books
 from wanekupo.books.store import Store
 from wanekupo.books.stored import Books
 from wanekupo.command_row import Command
 from wanekupo.config import Settings
-from wanekupo.errors import NoPeriod
+from wanekupo.errors import BadJournal, NoPeriod
+from wanekupo.journal_lines import folders_at
 from wanekupo.moments import tested_period, text_of
 from wanekupo.printing import Formulas, say
 from wanekupo.shift_report import add_period
@@ -33,8 +34,20 @@ def _add_arguments(parser: argparse.ArgumentParser) -> None:
     parser.add_argument("store", metavar="STORE", help="a copy of a stopped store, with its log beside it")
     parser.add_argument("journals", nargs="+", metavar="JOURNAL", help="a journal, or a folder with journals")
     add_period(parser)
+    said = "the journals are folders of all stations' folders, of which this file of root's says whose each one is"
+    parser.add_argument("--folders", type=Path, metavar="FILE", help=said)
     parser.add_argument("--html", metavar="FILE", help="write a page, to be read and printed")
     parser.add_argument("--csv", metavar="FILE", help="write what is found as comma-separated values")
+
+
+def _journals(names: list[str], folders: Optional[Path]) -> list[Book]:
+    """The journals; with a file of folders those of all stations."""
+    if folders is None:
+        return books_of(names)
+    known = folders_at(folders)
+    if not known:
+        raise BadJournal(f"{folders} isn't there, or names no folder", "Name the file that a restore goes by.")
+    return [book for name in names for book in shipped_books(Path(name), known)]
 
 
 def _read(store: Path, books: Iterable[Book]) -> list[tuple[str, int, str]]:
@@ -54,7 +67,7 @@ def _nothing_of(period: Period, journals: Iterable[Book]) -> tuple[str, str]:
 def _audit(_: Settings, args: argparse.Namespace) -> int:
     tested_period(args.from_time, args.to_time)
     path = Path(args.store)
-    journals, period = books_of(args.journals), period_of(args.from_time, args.to_time)
+    journals, period = _journals(args.journals, args.folders), period_of(args.from_time, args.to_time)
     with Store(path) as store:
         audit = audit_of(Books(store), journals, period, text_of(datetime.now(timezone.utc)))
     if args.html:

@@ -14,7 +14,7 @@ from wanekupo.books.coherence import faults_of
 from wanekupo.books.matching import Matched, Seated, matched, seated, steps_by_chip
 from wanekupo.books.numbers import Span, counts, spans_of, whole_customers
 from wanekupo.books.once import twice
-from wanekupo.books.papers import papers, unasked
+from wanekupo.books.papers import papers, repeated, unasked
 from wanekupo.books.shift import Period
 from wanekupo.books.steps import Book, Step
 from wanekupo.books.stored import Books, Entry, Life
@@ -51,7 +51,8 @@ class Held:
 @dataclass
 class Audit:
     """All of it. `bare` is how many entries outside of the period have no line, `held_lines` how many lines of it there
-    are, `parts` the customers of whose seats the journals lack the first number."""
+    are, `parts` the customers of whose seats the journals lack the first number, `repeated` lines that changed nothing.
+    """
 
     period: Period
     found: list[Found] = field(default_factory=list)
@@ -62,6 +63,7 @@ class Audit:
     unheld: int = 0
     parts: list[str] = field(default_factory=list)
     held_lines: int = 0
+    repeated: list[Step] = field(default_factory=list)
 
 
 def audit_of(store: Books, books: Iterable[Book], period: Period, now: str) -> Audit:
@@ -74,8 +76,7 @@ def audit_of(store: Books, books: Iterable[Book], period: Period, now: str) -> A
     for life in store.lives():
         made = matched(life.entries, steps.pop((life.customer, life.chip), ()))
         laid.take(made)
-        audit.found += _contradictions(life, _told_states(made))
-        audit.found += _asked_faults(life, made, store)
+        audit.found += _contradictions(life, _lines_of(life, made), store)
         lost.difference_update(entry.row["seat"] for entry in life.entries if entry.row["seat"] in lost)
     for lines in steps.values():
         laid.take(matched((), lines))
@@ -92,6 +93,7 @@ def audit_of(store: Books, books: Iterable[Book], period: Period, now: str) -> A
     audit.found += [Found(*it) for it in papers(journals, store, period)]
     audit.found += [Found(*it) for it in unasked(journals, store, whole)]
     audit.parts = sorted({it.customer for it in store.seats.values() if it.last} - whole)
+    audit.repeated = repeated(journals)
     audit.held = list(_held(journals, laid.lines, spans, store, period))
     audit.held_lines = sum(period.has(step.at) for it in journals for step in it.book.steps)
     audit.found = sorted(dict.fromkeys(audit.found), key=lambda it: (it.at, it.customer, it.chip, it.kind, it.told))
@@ -234,38 +236,32 @@ def _clock_faults(journals: Iterable[Seated], pairs: list[Timed], period: Period
             yield Found("clock", first.step.at, own.customer, own.seat, first.step.chip, told)
 
 
-def _told_states(made: Matched) -> dict[int, str]:
-    """The states that stations were told, each by the number of its entry: of steps whose like none has that has no
-    reply or no entry, as which of these is whose isn't sure."""
-    unsure = {(step.event, step.note) for _, step in made.steps}
-    unsure |= {(it.entry.row["event"], it.entry.row["note"]) for it in made.pairs if not it.step.is_done()}
-    sure = (it for it in made.pairs if not it.kind and (it.entry.row["event"], it.entry.row["note"]) not in unsure)
-    return {it.entry.row["n"]: str(it.step.reply["state"]) for it in sure if "state" in it.step.reply}
-
-
-def _asked_faults(life: Life, made: Matched, store: Books) -> Iterator[Found]:
-    """What of a chip isn't as its lines asked for it. A line counts where it is surely its entry's: where there are as
-    many of both, or no other entry says the same."""
+def _lines_of(life: Life, made: Matched) -> dict[int, Step]:
+    """The lines of a chip's entries by the numbers of these. A line counts where it is surely its entry's: where there
+    are as many of both, or no other entry says the same."""
     said = Counter((it.row["event"], it.row["note"]) for it in life.entries)
     is_whole = not made.entries and all(step.is_lost for _, step in made.steps)
-    sure = (it for it in made.pairs if not it.kind and (is_whole or said[it.entry.row["event"], it.entry.row["note"]] == 1))
-    lines = {it.entry.row["n"]: it.step for it in sure}
+    pairs = ((it.entry.row, it.step) for it in made.pairs if not it.kind)
+    return {row["n"]: step for row, step in pairs if is_whole or said[row["event"], row["note"]] == 1}
+
+
+def _contradictions(life: Life, lines: dict[int, Step], store: Books) -> Iterator[Found]:
+    """What of a chip's device, ledger, records and lines says something else. Its entries were committed in their
+    order."""
+    states = {number: str(it.reply["state"]) for number, it in lines.items() if it.is_done() and "state" in it.reply}
     for device in life.devices:
         chip = Chip(store.layouts[life.customer, device["map"]].fields)
         for entry in life.entries:
             step = lines.get(entry.row["n"])
             for told in chip.take(entry.row, step):
-                at, place = (step.at, f" ({step.place()})") if step else ("", "")
-                yield Found("device", at, life.customer, "", life.chip, f"{_told(_left_of(entry), told)}{place}")
-        if not chip.pends(device):
-            told = "what it has still to burn isn't what its lines leave"
-            yield Found("device", "", life.customer, "", life.chip, told)
-
-
-def _contradictions(life: Life, states: dict[int, str]) -> Iterator[Found]:
-    """What of a chip's device, ledger and records says something else. Its entries were committed in their order."""
-    for device in life.devices:
-        for told in faults_of(device, [entry.row for entry in life.entries], life.records, states):
+                place = f" ({step.place()})" if step else ""
+                told = f"{_told(_left_of(entry), told)}{place}"
+                yield Found("device", step.at if step else "", life.customer, "", life.chip, told)
+            if chip.state:
+                states.setdefault(entry.row["n"], chip.state)
+        faults = faults_of(device, [entry.row for entry in life.entries], life.records, states)
+        pending = () if chip.pends(device) else ("what it has still to burn isn't what its lines leave",)
+        for told in chain(faults, pending):
             yield Found("device", "", life.customer, "", life.chip, told)
     for record in () if life.devices else life.records:
         told = f"the record of {record['serial']} is of a chip that has no device"

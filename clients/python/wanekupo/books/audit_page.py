@@ -81,6 +81,9 @@ def counted(audit: Audit) -> str:
     if audit.parts:
         whose = ", ".join(audit.parts)
         told = f"{told}. Orders, maps and imports of {whose} are held to no line, as these journals lack number 1"
+    if audit.repeated:
+        said = f"{len(audit.repeated)} lines ask for a map or an import again, the first of them {audit.repeated[0].place()}"
+        told = f"{told}. {said}: they changed nothing, and other lines may have stood there"
     return f"{told}."
 
 

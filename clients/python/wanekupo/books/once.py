@@ -21,6 +21,7 @@ def twice(store: Books) -> Iterator[Row]:
     yield from _passed_over(store)
     yield from _import_faults(store)
     yield from _too_many(store)
+    yield from _foreign(store)
 
 
 def _numbers_twice(store: Books) -> Iterator[Row]:
@@ -89,6 +90,15 @@ def _too_many(store: Books) -> Iterator[Row]:
         if order and count > order["quantity"]:
             told = f"has {count} devices that weren't given up, and its quantity is {order['quantity']}"
             yield "order", "", customer, "", f"the order {name} {told}"
+
+
+def _foreign(store: Books) -> Iterator[Row]:
+    """Records and orders of an issuer that isn't their customer's."""
+    for customer, issuer, count in store.issuers():
+        owner = store.owners.get(issuer, "nobody")
+        if store.owners and owner != customer:
+            told = f"{count} of its records and orders are of the issuer {issuer}, which is {owner}'s by the site"
+            yield "record", "", customer, "", told
 
 
 def _place_faults(record: dict[str, Any], order: dict[str, Any]) -> Iterator[str]:

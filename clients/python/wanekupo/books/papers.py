@@ -54,6 +54,19 @@ def unasked(journals: Iterable[Seated], store: Books, whole: set[str]) -> Iterat
             yield "import", "", customer, "", "", told
 
 
+def repeated(journals: Iterable[Seated]) -> list[Step]:
+    """The lines that ask for a map or an import that their seat had asked for: they changed nothing, and the line of a
+    step may have stood there."""
+    found: list[Step] = []
+    for it in journals:
+        known: set[tuple[str, ...]] = set()
+        for step in it.book.steps:
+            names = {(step.path, *name) for name in _names_of(step) if step.path != "/v1/order" and step.is_stored()}
+            found += [step] if names and names <= known else []
+            known |= names
+    return found
+
+
 def _names_of(step: Step) -> Iterator[tuple[str, ...]]:
     """What an order, a map or an import asks to be there; nothing of another request."""
     if step.path == "/v1/order":

@@ -11,9 +11,12 @@ from dataclasses import dataclass, field
 from pathlib import Path
 from typing import Any, Iterable, Iterator, Optional, Union
 
-from wanekupo.journal import journals_of, request_digest
-from wanekupo.journal_lines import Name, lines_of
+from wanekupo.errors import BadJournal
+from wanekupo.journal import SUFFIX, journals_of, request_digest
+from wanekupo.journal_counts import seat_named
+from wanekupo.journal_lines import Folders, Name, lines_of
 from wanekupo.moments import moment_of
+from wanekupo.texts import brief
 
 # By how many seconds a station's clock may be set back without a word, as a time service does it.
 SET_BACK = 60
@@ -223,15 +226,27 @@ def _take(book: Book, file: str, number: int, line: Members) -> None:
         book.resynchronized.append(it)
 
 
-def book_of(files: Iterable[Path]) -> Book:
-    """A journal of one seat, in the order of its files."""
+def _others(line: Members, file: Path, seats: Optional[frozenset[str]]) -> str:
+    """Says where a line isn't of a seat of its folder; one without a name is of the folder's only one, or of the one
+    that its file names."""
+    if seats is None:
+        return ""
+    line["seat"] = line.get("seat") or (next(iter(seats)) if len(seats) == 1 else seat_named(file))
+    told = f"is of the seat {brief(line['seat'])}, and its folder is of {', '.join(sorted(seats)) or 'none'}"
+    return "" if line["seat"] in seats else told
+
+
+def book_of(files: Iterable[Path], seats: Optional[frozenset[str]] = None) -> Book:
+    """A journal of one seat, in the order of its files. Where it is known which seats it may be of a line of another
+    one doesn't count, and the first one of a file is told."""
     paths = list(files)
     book = Book([str(it) for it in paths])
     for path in paths:
         last = ""
-        for line in lines_of(path):
-            if line.fault:
-                book.faults.append(Fault(str(path), line.number, last, line.fault))
+        for line in lines_of(path, follows_links=seats is None):
+            if fault := line.fault or _others(line.members, path, seats):
+                is_told = not line.fault and any((it.file, it.told) == (str(path), fault) for it in book.faults)
+                book.faults += [] if is_told else [Fault(str(path), line.number, last, fault)]
             else:
                 last = line.members["at"]
                 _take(book, str(path), line.number, line.members)
@@ -241,6 +256,16 @@ def book_of(files: Iterable[Path]) -> Book:
 def books_of(names: Iterable[Name]) -> list[Book]:
     """The journals that files and folders are."""
     return [book_of(files) for files in journals_of(names)]
+
+
+def shipped_books(path: Path, folders: Folders) -> Iterator[Book]:
+    """The journals of a folder of all, in which each station has its own."""
+    for it in sorted(path.iterdir()):
+        if it.is_symlink() or it.name not in folders and (it.is_dir() or it.suffix == SUFFIX):
+            told = "Name a folder that has the stations' folders, and say in that file which seats each one has."
+            raise BadJournal(f"{it} is no folder that the file of folders names", told)
+        files = sorted(it.rglob(f"*{SUFFIX}")) if it.is_dir() else []
+        yield from (book_of(group, folders[it.name]) for group in journals_of(files))
 
 
 @dataclass(frozen=True)

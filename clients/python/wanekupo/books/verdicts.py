@@ -53,13 +53,14 @@ def _blocks_of(step: Optional[Step]) -> Optional[list[str]]:
 
 class Chip:
     """What is known of a chip behind some of its steps: what is burnt by its ledger, and what is to be burnt by its
-    lines, where there are such."""
+    lines, where there are such; and the state that a plan or a read-back left it by these."""
 
     def __init__(self, layout: Layout):
         self._layout = layout
         self._ones: Places = frozenset()
         self._keys: Keys = {}
         self._batches: Optional[Batches] = Batches()
+        self.state = ""
 
     def take(self, row: Row, step: Optional[Step]) -> Iterator[str]:
         """Goes on by an entry, and says in what it isn't as its line has it."""
@@ -68,9 +69,7 @@ class Chip:
         blocks = _blocks_of(step) if row["event"] in ("registered", "read") else None
         if row["event"] == "planned":
             yield from self._planned(step)
-        elif row["event"] == "identified" and self._batches and any(self._batches):
-            yield "was identified with something still to burn, by its lines"
-        elif row["event"] == "scrapped":
+        elif row["event"] in ("identified", "scrapped"):
             self._batches = Batches()
         elif blocks is not None and len(blocks) != len(self._layout.blocks):
             yield "its blocks aren't those of its map"
@@ -84,6 +83,8 @@ class Chip:
             if row["note"] not in possible:
                 yield f"its outcome is {row['note']} in the store, and {' or '.join(sorted(possible))} by its blocks"
             self._batches = self._batches and self._batches.left(row["note"], self._ones, self._keys)
+        is_left = self._batches is not None and (row["event"] == "planned" or row["note"] in ("match", "short"))
+        self.state = self._batches.state() if is_left else ""
 
     def pends(self, device: Row) -> bool:
         """Whether a device has still to burn what its lines leave, where that is known."""
