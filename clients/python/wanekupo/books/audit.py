@@ -18,7 +18,7 @@ from wanekupo.books.papers import papers, repeated, unasked
 from wanekupo.books.shift import Period
 from wanekupo.books.steps import Book, Step
 from wanekupo.books.stored import Books, Entry, Life
-from wanekupo.books.verdicts import Chip
+from wanekupo.books.verdicts import Chip, asked_faults
 
 
 @dataclass(frozen=True)
@@ -142,7 +142,7 @@ class Laid:
         for own, step in made.steps:
             if counts(own, step, self.store, self.period):
                 said = f"{step.event} {step.note}".rstrip()
-                taken = "was accepted" if step.is_done() else f"has a number that was given, {step.number}"
+                taken = "was accepted" if step.is_done() else f"has the number {step.number}, which was given"
                 told = f"{step.place()}, {said}, {taken}, and no ledger has it"
                 self.faults.append(Found("no_entry", step.at, own.customer, own.seat, step.chip, told))
 
@@ -253,7 +253,8 @@ def _contradictions(life: Life, lines: dict[int, Step], store: Books) -> Iterato
         chip = Chip(store.layouts[life.customer, device["map"]].fields)
         for entry in life.entries:
             step = lines.get(entry.row["n"])
-            for told in chip.take(entry.row, step):
+            asked = asked_faults(step, device, life.records) if step else ()
+            for told in chain(chip.take(entry.row, step), asked):
                 place = f" ({step.place()})" if step else ""
                 told = f"{_told(_left_of(entry), told)}{place}"
                 yield Found("device", step.at if step else "", life.customer, "", life.chip, told)

@@ -116,7 +116,7 @@ def _alike(entries: Iterable[Entry], steps: Iterable[Told]) -> int:
 def _lay(found: Matched, entries: list[Entry], steps: list[Told]) -> None:
     """Lays the entries and lines of one chip and seat beside each other: from both ends as far as they fit, then those
     that were answered, those whose reply was lost, and those that were refused."""
-    own = [it for it in steps if it[1].is_stored()]
+    own = [it for it in steps if it[1].is_stored and it[1].status in (None, 200)]
     first = _alike(entries, own)
     last = _alike(reversed(entries[first:]), reversed(own[first:]))
     ends = [*range(first), *range(-last, 0)]
@@ -128,7 +128,8 @@ def _lay(found: Matched, entries: list[Entry], steps: list[Told]) -> None:
     places = {block.a + it: block.b + it for block in blocks for it in range(block.size)}
     found.pairs += [Pair(rest[one], done[other][1]) for one, other in places.items()]
     laid = {id(done[place][1]) for place in places.values()}
-    rest = _lay_unanswered(found, [it for place, it in enumerate(rest) if place not in places], own, laid)
+    maybe = [*own, *(it for it in steps if it[1].status is None and not it[1].is_stored and not it[1].is_lost)]
+    rest = _lay_unanswered(found, [it for place, it in enumerate(rest) if place not in places], maybe, laid)
     refused = [it for it in steps if it[1].status not in (None, 200)]
     found.entries += _lay_unanswered(found, rest, refused, laid, "late_copy")
     lost = (it for it in steps if it[1].is_done() and it[1].is_lost)

@@ -7,6 +7,7 @@ that it had, the store was replaced by an older one, and a turn of the seat begi
 from __future__ import annotations
 
 import json
+from collections import Counter
 from dataclasses import dataclass, field
 from typing import Any, Iterable, Iterator, NamedTuple, Optional, Sequence
 
@@ -146,12 +147,15 @@ def _settle(seat: Seat, steps: Sequence[Step], turns: Sequence[Turn], span: Span
             span.lost.append((it.at, told))
         elif first is not it:
             gone.add(id(it))
+    asked = Counter((it.turn, it.number) for it in steps if not it.is_done())
     for it in steps:
         done = accepted.get((it.turn, it.number))
         if done and done.digest == it.digest:
             done.since = min(done.since or done.at, it.at)
         later = turns[len(turns) + it.turn :] if it.turn < 0 else ()
         it.is_lost = it.turn > 0 or it.number >= min((turn.number for turn in later), default=seat.last + 1)
+        is_sure = it.is_done() or it.status is None and asked[it.turn, it.number] == 1
+        it.is_stored = is_sure and not it.is_lost
         if it.status is None and (done or later and it.is_lost):
             gone.add(id(it))
     return gone

@@ -27,7 +27,7 @@ def papers(journals: Iterable[Seated], store: Books, period: Period) -> Iterator
     for it in journals:
         for step in it.book.steps:
             judge = JUDGES.get(step.path)
-            is_done = step.is_done() or step.is_stored()
+            is_done = step.is_done() or step.is_stored
             if judge and is_done and it.seat in store.seats and counts(it, step, store, period):
                 for kind, told in judge(it, step, store):
                     yield kind, step.at, it.customer, it.seat, step.chip, f"{told} ({step.place()})"
@@ -61,7 +61,7 @@ def repeated(journals: Iterable[Seated]) -> list[Step]:
     for it in journals:
         known: set[tuple[str, ...]] = set()
         for step in it.book.steps:
-            names = {(step.path, *name) for name in _names_of(step) if step.path != "/v1/order" and step.is_stored()}
+            names = {(step.path, *name) for name in _names_of(step) if step.path != "/v1/order" and step.is_stored}
             found += [step] if names and names <= known else []
             known |= names
     return found
@@ -83,37 +83,18 @@ def _order_words(order: Mapping[str, Any]) -> tuple[str, ...]:
     return tuple(str(order.get(name)) for name in ORDER)
 
 
-def _identity(it: Seated, step: Step, store: Books) -> Iterator[tuple[str, str]]:
+def _identity(_: Seated, step: Step, store: Books) -> Iterator[tuple[str, str]]:
     reply = step.reply
-    if not step.is_done():
-        order, device = store.order_of(it.customer, step.chip), store.device(it.customer, step.chip)
-        reply = {"issuer": order and order["issuer"], "serial": device and device["serial"]}
     record = store.record(str(reply.get("issuer")), str(reply.get("serial")))
     named = f"the record of {reply.get('serial')} of {reply.get('issuer')}"
+    if not step.is_done():
+        return  # what it asked for is held to its entry
     if record is None:
         yield "record", f"{named} isn't in the store"
         return
     for name in RECORD:
         if name in reply and reply[name] != record[name]:
             yield "record", f"{named}: {name} is {record[name]} in the store, and {reply[name]} in the journal"
-    key = str(step.asked.get("public_key", ""))
-    try:
-        digest = hashlib.sha256(bytes.fromhex(key)).hexdigest()
-    except ValueError:
-        digest = ""
-    if digest != record["key_sha256"]:
-        yield "record", f"{named}: its key isn't the one that the journal has"
-
-
-def _registration(it: Seated, step: Step, store: Books) -> Iterator[tuple[str, str]]:
-    device = store.device(it.customer, step.chip)
-    if device is None:
-        yield "device", "the device isn't in the store"
-        return
-    for name in ("order", "map"):
-        asked = str(step.asked.get(name, "")).lower() if name == "map" else step.asked.get(name)
-        if device[name] != asked:
-            yield "device", f"{name} is {device[name]} in the store, and {asked} in the journal"
 
 
 def _order(it: Seated, step: Step, store: Books) -> Iterator[tuple[str, str]]:
@@ -153,7 +134,6 @@ def _import(it: Seated, step: Step, store: Books) -> Iterator[tuple[str, str]]:
 
 JUDGES: dict[str, Judge] = {
     "/v1/identity": _identity,
-    "/v1/device": _registration,
     "/v1/order": _order,
     "/v1/map": _map,
     "/v1/import": _import,

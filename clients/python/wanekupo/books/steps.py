@@ -55,8 +55,8 @@ def _once(it: Any) -> Any:
 class Step:
     """A request of a journal with the place of its line, when it was asked and answered, and what the reply was.
     Without a status its reply never came. `reason` is why a chip was scrapped, where the station knew it. The last three
-    are an audit's: a turn of its seat, whether the store is one without it, and when it was first asked where it stands
-    there more than once."""
+    are an audit's: a turn of its seat, whether the store is surely one with it, or without it, and when it was first
+    asked where it stands there more than once."""
 
     file: str
     line: int
@@ -72,6 +72,7 @@ class Step:
     reason: str = ""
     turn: int = 0
     is_lost: bool = False
+    is_stored: bool = True
     since: str = ""
 
     @property
@@ -101,10 +102,6 @@ class Step:
 
     def is_done(self) -> bool:
         return self.status == 200
-
-    def is_stored(self) -> bool:
-        """Whether the store has to have it: it was accepted, or its number was given though no reply came."""
-        return self.status in (None, 200) and not self.is_lost
 
     def is_stop(self) -> bool:
         """Whether the server refused it as 11 or 12: the seat was out of step."""

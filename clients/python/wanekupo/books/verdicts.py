@@ -6,6 +6,7 @@ the chip showed. By both an outcome is judged once more, by the rules of docs/re
 
 from __future__ import annotations
 
+import contextlib
 import hashlib
 from typing import Iterator, Mapping, NamedTuple, Optional, Sequence
 
@@ -43,6 +44,20 @@ class Batches(NamedTuple):
         if outcome in LOST:
             return Batches()
         return Batches(*rest, self.second) if self.state() == "awaiting1" else Batches(second=rest[0])
+
+
+def asked_faults(step: Step, device: Row, records: Sequence[Row]) -> Iterator[str]:
+    """In what a registration or an identity isn't as its line has it, also where its reply was lost."""
+    if step.event == "registered":
+        for name, asked in (("order", step.asked.get("order")), ("map", str(step.asked.get("map")).lower())):
+            if device[name] != asked:
+                yield f"{name} is {device[name]} in the store, and {asked} in the journal"
+    elif step.event == "identified":
+        with contextlib.suppress(ValueError):
+            key = hashlib.sha256(bytes.fromhex(str(step.asked.get("public_key")))).hexdigest()
+            if [key] == [it["key_sha256"] for it in records]:
+                return
+        yield "the key of its record isn't the one that the journal has"
 
 
 def _blocks_of(step: Optional[Step]) -> Optional[list[str]]:
