@@ -16,9 +16,10 @@ from dataclasses import dataclass
 from pathlib import Path
 from typing import Callable
 
-from seal_plant import END, MAP, START, chip_of
+from seal_plant import END, JTAG, MAP, READ_1, START, WRITE_1, chip_of, shown
 
 from wanekupo.journal import request_digest
+from wanekupo.rows import csv_of
 
 ONE, TWO, WAITING = chip_of(1), chip_of(2), chip_of(8)
 OF_ONE = f"customer = 'acme' AND chip = '{ONE}'"
@@ -153,6 +154,7 @@ FORGED = [
             f"UPDATE ledger SET keys = {OTHER_KEY} WHERE {OF_ONE} AND n = 3",
         ),
         seal=(f"The entry 3 of {ONE} of acme: keys was BLOCK1:630dcd29",),
+        audit=("device", ONE, "the entry 3, read match: its blocks show other keys than its ledger has"),
     ),
     Forged(
         "an entry gone",
@@ -304,7 +306,73 @@ def _as_another(folder: Path) -> None:
     _changed("acme/a2.journal", lambda lines: [{**line, "seat": "b1"} for line in lines], folder)
 
 
+def _unanswered(folder: Path) -> None:
+    """Takes the reply of a chip's identity away, as if it had been lost and a person had the seat go on."""
+
+    def change(lines: list[dict]) -> list[dict]:
+        place = next(place for place, it in enumerate(lines) if it.get("asked", {}).get("public_key"))
+        own = {name: lines[place][name] for name in ("at", "seat")}
+        return [*lines[: place + 1], {**own, "resynchronized": lines[place]["asked"]["nr"] + 1}, *lines[place + 2 :]]
+
+    _changed("acme/a1.journal", change, folder)
+
+
+def _import_more(folder: Path) -> None:
+    """Adds the line of an import, behind the last one of the seat."""
+
+    def change(lines: list[dict]) -> None:
+        lines += [{**lines[-2], "path": "/v1/import", "asked": FOREIGN}, {**lines[-1], "nr": 37, "reply": ADDED_ONE}]
+
+    _changed("acme/a1.journal", change, folder)
+
+
+def _wish_nothing(folder: Path) -> None:
+    """Has the first plan of a journal wish for nothing."""
+
+    def change(lines: list[dict]) -> None:
+        next(it for it in lines if it.get("path") == "/v1/plan")["asked"]["wishes"] = []
+
+    _changed("acme/a1.journal", change, folder)
+
+
+FOREIGN = {"csv": csv_of([("B0099", 64 * "0")]), "issuer": "bolt-ca", "nr": 37}
+ADDED_ONE = {"added": 1, "present": 0}
+MORE_BITS = b"".join(int(word, 16).to_bytes(4, "little") for word in shown(ONE, JTAG, 197, WRITE_1, READ_1)[0]).hex()
+
 CLOCKS = [
+    Forged(  # both: nine of bolt's numbers that bolt never gets
+        "a number of another customer's issuer",
+        (
+            "INSERT INTO given SELECT 'bolt-ca', 'B0099', customer, zeroblob(32), NULL, NULL, not_after FROM given "
+            "WHERE serial = 'OLD-1'",
+            "INSERT INTO given_start VALUES ('bolt-ca', 'B0099', NULL)",
+            f"UPDATE seat SET last = 37, digest = X'{request_digest('/v1/import', FOREIGN)}', "
+            f"reply = '{json.dumps(ADDED_ONE)}' WHERE name = 'a1'",
+        ),
+        _import_more,
+        audit=("record", "acme", "1 of its records and orders are of the issuer bolt-ca, which is bolt's by the site"),
+    ),
+    Forged(  # both: who has that key passes as the chip
+        "a record's key whose reply was lost",
+        (f"UPDATE given SET key = zeroblob(32) WHERE chip = '{ONE}' AND customer = 'acme'",),
+        _unanswered,
+        seal=("The record of G00001 of acme-ca of acme: key_sha256 was ",),
+        audit=("device", ONE, "the key of its record isn't the one that the journal has"),
+    ),
+    Forged(  # store: a bit that was never burnt, and so no station would miss
+        "burnt bits, in the ledger too",
+        (
+            f"UPDATE device SET bits = X'{MORE_BITS}' WHERE {OF_ONE}",
+            f"UPDATE ledger SET bits = X'{48 * '0'}60' WHERE {OF_ONE} AND n = 3",
+        ),
+        seal=(f"The entry 3 of {ONE} of acme: bits was 0.6:00000040, and is 0.6:00000060",),
+        audit=("device", ONE, "the entry 3, read match: its outcome is match in the store, and lost by its blocks"),
+    ),
+    Forged(  # journal: what was burnt was nobody's wish
+        "a plan that wished for nothing",
+        journal=_wish_nothing,
+        audit=("device", ONE, "the entry 2, planned: its wishes leave it settled, and its reply says awaiting1"),
+    ),
     Forged(  # store, and another customer's journal
         "an entry added, and an early line of 2098",
         ADDED,
