@@ -8,10 +8,9 @@ from __future__ import annotations
 
 import hashlib
 import unittest
-from pathlib import Path
 from types import SimpleNamespace
 
-from support import DIGEST, MAC, MAP, ROOT
+from support import DIGEST, MAC, MAP
 from test_audit_seats import SeatCase, answered, asked, goes_on, row
 
 from wanekupo.books.audit import _contradictions, _lines_of
@@ -105,12 +104,14 @@ class Verdicts(SeatCase):
             ("honest", life_lines(), LEDGER, {}, ""),
             ("a reply was lost", life_lines(lost=(2,)), LEDGER, {}, ""),
             ("all replies were lost", life_lines(lost=(1, 2, 3, 4, 5)), LEDGER, {}, ""),
-            ("lost, and nothing is", list(life_lines())[:5], lost, {**gone, "reason": "lost"}, "and match by its blocks"),
+            ("lost, and nothing is", list(life_lines())[:5], lost, {**gone, "reason": "lost"},
+             "and match by its blocks"),
             ("stray, and nothing is", list(life_lines())[:7], stray, {**gone, "reason": "stray"},
              "its outcome is stray in the store, and match by its blocks"),
             ("a stray bit under a lost reply", life_lines(third=shown(STRAY), lost=(4,)), hidden, {},
              "its outcome is match in the store, and stray by its blocks"),
-            ("the same without its bit", life_lines(third=shown(STRAY), lost=(4,)), LEDGER, {}, "and lost by its blocks"),
+            ("the same without its bit", life_lines(third=shown(STRAY), lost=(4,)), LEDGER, {},
+             "and lost by its blocks"),
             ("another key, in the ledger too", life_lines(), key, {}, "its blocks show other keys than its ledger has"),
             ("a bit more, in the ledger too", life_lines(), raised, {}, "its blocks show other bits than its ledger"),
             ("wishes of nothing", life_lines(wishes=[]), LEDGER, {}, "its wishes leave it settled, and its reply says"),
@@ -119,19 +120,20 @@ class Verdicts(SeatCase):
              "its wishes aren't of its map"),
             ("another key pair under a lost reply", life_lines(key="6b657a", lost=(5,)), LEDGER, {},
              "the key of its record isn't the one"),
-            ("another order under a lost reply", life_lines(lost=(1,)), LEDGER, {"order": "o2"}, "order is o2 in the store"),
-            ("what is still to burn", list(life_lines())[:6], LEDGER[:3],
-             {"state": "awaiting2", "serial": None, "pending": {"batch1": NOTHING, "batch2": {**NOTHING, "bits": bits(
-                 w0="00000080")}}}, "what it has still to burn isn't what its lines leave"),
+            ("another order under a lost reply", life_lines(lost=(1,)), LEDGER, {"order": "o2"},
+             "order is o2 in the store"),
+            ("what is still to burn", list(life_lines())[:6], LEDGER[:3], {"state": "awaiting2", "serial": None},
+             "what it has still to burn isn't what its lines leave"),
         ):
             with self.subTest(name):
                 found = self.found(told, ledger, **device)
-                self.assertEqual(([it for it in found if words in it] != [], bool(found)), (bool(words), bool(words)), found)
+                self.assertEqual([any(words in it for it in found), bool(found)], 2 * [bool(words)], found)
 
     def test_short_ones_in_turn(self):
         """Two read-backs with one outcome, of which the reply of the first or the second was lost, show other blocks."""
         half = [*LEDGER[:2], entry(3, "read", "short"), entry(4, "read", "short", bits(w6="00000040"))]
-        pending = {"batch1": {"bits": [], "keys": {"BLOCK1": FLASH}}, "batch2": {**NOTHING, "bits": bits(w0="00010080")}}
+        locks = {**NOTHING, "bits": bits(w0="00010080")}
+        pending = {"batch1": {"bits": [], "keys": {"BLOCK1": FLASH}}, "batch2": locks}
         own = list(life_lines())[:4]
         for lost in ((), (3,), (4,), (3, 4)):
             reads = [("/v1/readback", {"blocks": shown(words)}, {"state": "awaiting1", "outcome": "short"})
@@ -147,7 +149,8 @@ class Asked(SeatCase):
         order = {"name": "o9", "issuer": "acme-ca", "prefix": "A", "width": 3, "first": 1, "quantity": 5, "macs": 0}
         there = {**order, "not_before": None, "mac": None}
         for name, orders, meant in (
-            ("as asked", there, []), ("another quantity", {**there, "quantity": 500}, ["quantity is 500 in the store, and 5"]),
+            ("as asked", there, []),
+            ("another quantity", {**there, "quantity": 500}, ["quantity is 500 in the store, and 5"]),
             ("none", None, ["the order o9 isn't in the store"]),
         ):
             with self.subTest(name):
@@ -156,7 +159,8 @@ class Asked(SeatCase):
                 request = asked("07:00:00", 1, "", "/v1/order", **order)
                 _, journals = self.spans([[request, goes_on("07:01:00", 2), *row(2, 2, "07")]], store)
                 told = [it[5] for it in papers(journals, store, ALWAYS)]
-                self.assertEqual((len(told), all(words in it for words, it in zip(meant, told))), (len(meant), True), told)
+                is_said = all(words in it for words, it in zip(meant, told))
+                self.assertEqual((len(told), is_said), (len(meant), True), told)
 
     def test_one_of_two_without_a_reply(self):
         """Of two with a number, of which the replies were lost, one was done: nobody can tell which, and neither is
@@ -175,15 +179,17 @@ class Asked(SeatCase):
         self.assertEqual([it.number for it in repeated(journals)], [3])
 
     def test_an_issuer_of_another(self):
-        """Records and orders of an issuer that the site gives to another customer, or to nobody."""
+        """Records and orders of an issuer that the site gives to another customer, or to nobody; another map's text."""
         store = SimpleNamespace(
-            owners={"acme-ca": "acme", "bolt-ca": "bolt"}, orders={}, places=lambda: (), addressed=lambda: (),
+            owners={"acme-ca": "acme", "bolt-ca": "bolt"}, orders={}, maps=[("acme", "a", "a"), ("bolt", "a", "b")],
+            places=lambda: (), addressed=lambda: (),
             issuers=lambda: [("acme", "acme-ca", 9), ("acme", "bolt-ca", 2), ("bolt", "x", 1)],
             records=lambda _: (), twice=lambda _: (),
         )
         self.assertEqual([(it[2], it[4]) for it in twice(store)], [
             ("acme", "2 of its records and orders are of the issuer bolt-ca, which is bolt's by the site"),
             ("bolt", "1 of its records and orders are of the issuer x, which is nobody's by the site"),
+            ("bolt", "the map a has another text, whose digest is b"),
         ])
 
     def test_folders(self):

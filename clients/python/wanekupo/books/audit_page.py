@@ -82,8 +82,9 @@ def counted(audit: Audit) -> str:
         whose = ", ".join(audit.parts)
         told = f"{told}. Orders, maps and imports of {whose} are held to no line, as these journals lack number 1"
     if audit.repeated:
-        said = f"{len(audit.repeated)} lines ask for a map or an import again, the first of them {audit.repeated[0].place()}"
-        told = f"{told}. {said}: they changed nothing, and other lines may have stood there"
+        first = audit.repeated[0].place()
+        told = f"{told}. {len(audit.repeated)} of their lines ask for a map or an import again, and changed nothing"
+        told = f"{told}: look what was done then (the first is {first})"
     return f"{told}."
 
 

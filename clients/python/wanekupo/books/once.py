@@ -22,6 +22,7 @@ def twice(store: Books) -> Iterator[Row]:
     yield from _import_faults(store)
     yield from _too_many(store)
     yield from _foreign(store)
+    yield from _map_faults(store)
 
 
 def _numbers_twice(store: Books) -> Iterator[Row]:
@@ -101,6 +102,13 @@ def _foreign(store: Books) -> Iterator[Row]:
             yield "record", "", customer, "", told
 
 
+def _map_faults(store: Books) -> Iterator[Row]:
+    """Maps whose text isn't that of their digest."""
+    for customer, digest, text in store.maps:
+        if digest != text:
+            yield "map", "", customer, "", f"the map {digest} has another text, whose digest is {text}"
+
+
 def _place_faults(record: dict[str, Any], order: dict[str, Any]) -> Iterator[str]:
     """What of a record isn't as its order has it."""
     place = _place_of(order, record["serial"])
@@ -110,6 +118,8 @@ def _place_faults(record: dict[str, Any], order: dict[str, Any]) -> Iterator[str
     mac = f"{int(order['mac'], 16) + place * order['macs']:012x}" if order["mac"] else None
     if record["mac"] != mac:
         yield f"the record of {record['serial']} has the address {record['mac']}, and its order {mac}"
+    if record["not_after"] != NO_END:
+        yield f"the record of {record['serial']} ends at {record['not_after']}, and no record has an end"
     if record["not_before"] != order["not_before"]:
         yield f"the record of {record['serial']} begins at {record['not_before']}, its order {order['not_before']}"
 

@@ -106,7 +106,8 @@ def _order(it: Seated, step: Step, store: Books) -> Iterator[tuple[str, str]]:
         return
     for member in (*ORDER, "mac"):
         if member in said and order[member] != said[member]:
-            yield "order", f"the order {name}: {member} is {order[member]} in the store, and {said[member]} in the journal"
+            other = f"{member} is {order[member]} in the store, and {said[member]} in the journal"
+            yield "order", f"the order {name}: {other}"
 
 
 def _map(it: Seated, step: Step, store: Books) -> Iterator[tuple[str, str]]:

@@ -54,8 +54,8 @@ def _once(it: Any) -> Any:
 @dataclass(slots=True)
 class Step:
     """A request of a journal with the place of its line, when it was asked and answered, and what the reply was.
-    Without a status its reply never came. `reason` is why a chip was scrapped, where the station knew it. The last three
-    are an audit's: a turn of its seat, whether the store is surely one with it, or without it, and when it was first
+    Without a status its reply never came. `reason` is why a chip was scrapped, where the station knew it. The last ones
+    are an audit's: a turn of its seat, whether the store is surely one without it, or with it, and when it was first
     asked where it stands there more than once."""
 
     file: str

@@ -123,8 +123,8 @@ class Chip:
             yield f"its wishes leave it {self._batches.state()}, and its reply says {state}"
 
     def _outcomes(self, before: Places, known: Keys, blocks: Sequence[str]) -> set[str]:
-        """The outcomes that a read-back may have. What it showed is certain where each block has all that can be read of
-        what is burnt behind it, and nothing else."""
+        """The outcomes that a read-back may have. What it showed is certain where each block has all that can be read
+        of what is burnt behind it, and nothing else."""
         visible, differing = self._layout.unhidden(self._ones), self._differing(blocks)
         if differing:
             is_stray = {block for block, _ in self._ones - visible}.issuperset(differing)
@@ -135,15 +135,15 @@ class Chip:
         if visible - before - bits:
             return {"stray"}
         shown = self._shown(blocks)
-        if any(self._is_bad(name, known.get(name), asked.get(name), shown.get(name)) for name in self._layout.key_fields()):
+        if any(self._is_bad(name, known, asked, shown) for name in self._layout.key_fields()):
             return {"key"}
         return {"short"} if bits - visible or asked.keys() - {*known, *shown} else {"match"}
 
-    def _is_bad(self, name: str, known: Optional[str], asked: Optional[str], shown: Optional[str]) -> bool:
+    def _is_bad(self, name: str, known: Keys, asked: Keys, shown: Keys) -> bool:
         """Whether a key block shows a key that it shouldn't, or lacks one."""
         if self._layout.read_lock(name) in self._ones:
-            return shown is not None
-        return shown != known if known else shown not in (None, asked)
+            return name in shown
+        return shown.get(name) not in ((known[name],) if name in known else (None, asked.get(name)))
 
     def _shown(self, blocks: Sequence[str]) -> dict[str, str]:
         """The keys that blocks show, by their fields."""
@@ -156,5 +156,6 @@ class Chip:
         for block, bit in self._layout.unhidden(self._ones):
             ones[block] |= 1 << bit
         keys = {self._layout.fields[name].block for name in self._layout.key_fields()}
-        texts = [it.to_bytes(4 * words, "little") for it, words in zip(ones, self._layout.blocks)]
-        return {it for it, text in enumerate(texts) if it not in keys and hashlib.sha256(text).hexdigest() != blocks[it]}
+        texts = (it.to_bytes(4 * words, "little") for it, words in zip(ones, self._layout.blocks))
+        digests = (hashlib.sha256(text).hexdigest() for text in texts)
+        return {it for it, digest in enumerate(digests) if it not in keys and digest != blocks[it]}
