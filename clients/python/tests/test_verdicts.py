@@ -32,6 +32,11 @@ KEY, NONE = bytes(range(32)), bytes(32)
 FLASH = hashlib.sha256(KEY).hexdigest()
 WISHES = [{"kind": "bit", "field": "JTAG_DISABLE", "index": 0}, {"kind": "key", "field": "BLOCK1", "key_sha256": FLASH},
           {"kind": "wlock", "field": "BLOCK1"}, {"kind": "rlock", "field": "BLOCK1"}]
+
+# A field of block 0 with its read lock: FLASH_CRYPT_CONFIG is shown, though bit 3 of RD_DIS is burnt.
+HIDE = [{"kind": "bit", "field": "FLASH_CRYPT_CONFIG", "index": 0}, {"kind": "rlock", "field": "FLASH_CRYPT_CONFIG"}]
+CRYPT = [*FACTORY[:5], "10000000", "00000000"]
+HIDDEN = ["00080000", *CRYPT[1:]]
 NOTHING = {"bits": [], "keys": {}}
 
 
@@ -106,6 +111,10 @@ class Verdicts(SeatCase):
             ("all replies were lost", life_lines(lost=(1, 2, 3, 4, 5)), LEDGER, {}, ""),
             ("lost, and nothing is", list(life_lines())[:5], lost, {**gone, "reason": "lost"},
              "and match by its blocks"),
+            ("a stray bit that a lock hides",
+             list(life_lines(second=shown(CRYPT), third=shown(HIDDEN), wishes=HIDE))[:7],
+             [*LEDGER[:2], entry(3, "read", "match", bits(w5="10000000")),
+              entry(4, "read", "stray", bits(w0="00080000"))], {**gone, "reason": "stray"}, ""),
             ("stray, and nothing is", list(life_lines())[:7], stray, {**gone, "reason": "stray"},
              "its outcome is stray in the store, and match by its blocks"),
             ("a stray bit under a lost reply", life_lines(third=shown(STRAY), lost=(4,)), hidden, {},
@@ -130,7 +139,7 @@ class Verdicts(SeatCase):
                 self.assertEqual([any(words in it for it in found), bool(found)], 2 * [bool(words)], found)
 
     def test_short_ones_in_turn(self):
-        """Two read-backs with one outcome, of which the reply of the first or the second was lost, show other blocks."""
+        """Two read-backs with one outcome, of which the first or the second reply was lost, show other blocks."""
         half = [*LEDGER[:2], entry(3, "read", "short"), entry(4, "read", "short", bits(w6="00000040"))]
         locks = {**NOTHING, "bits": bits(w0="00010080")}
         pending = {"batch1": {"bits": [], "keys": {"BLOCK1": FLASH}}, "batch2": locks}
@@ -168,8 +177,9 @@ class Asked(SeatCase):
         for others, meant in (([], [2]), ([asked("07:02:10", 2, "c9"), goes_on("07:02:20", 2)], [])):
             book = [*row(1, 1, "07"), *others, asked("07:02:30", 2, "c2"), goes_on("07:03:00", 3), *row(3, 3, "07")]
             _, journals = self.spans([book], self.store(3, "c3"))
-            steps = [step for told in steps_by_chip(journals).values() for _, step in matched((), told).steps]
-            self.assertEqual([it.number for it in steps if not it.is_done()], meant)
+            told = steps_by_chip(journals)["acme", "c2"]
+            self.assertEqual([it.number for _, it in matched((), told).steps], meant)
+            self.assertEqual(matched([Entry(1, "acme", "c2", entry(1, "shipped"))], told).entries, [])
 
     def test_what_was_asked_again(self):
         """A map that a seat has imported already: the line is told, as another one may have stood there."""

@@ -103,25 +103,19 @@ def _said(entry: Entry) -> tuple[str, str]:
     return entry.row["event"], entry.row["note"]
 
 
-def _fits(entry: Entry, step: Step) -> bool:
+def _fits(both: tuple[Entry, Told]) -> bool:
     """Whether an entry can be that of a line; one whose reply was lost has no note."""
+    entry, (_, step) = both
     return entry.row["event"] == step.event and (not step.is_done() or entry.row["note"] == step.note)
 
 
-def _alike(entries: Iterable[Entry], steps: Iterable[Told]) -> int:
-    """How many of both fit, from the first ones on."""
-    return sum(1 for _ in takewhile(lambda it: _fits(it[0], it[1][1]), zip(entries, steps)))
-
-
 def _lay(found: Matched, entries: list[Entry], steps: list[Told]) -> None:
-    """Lays the entries and lines of one chip and seat beside each other: from both ends as far as they fit, then those
-    that were answered, those whose reply was lost, and those that were refused."""
+    """Lays the entries and lines of one chip and seat beside each other: from the first ones on as far as they fit,
+    then those that were answered, those whose reply was lost, and those that were refused."""
     own = [it for it in steps if it[1].is_stored and it[1].status in (None, 200)]
-    first = _alike(entries, own)
-    last = _alike(reversed(entries[first:]), reversed(own[first:]))
-    ends = [*range(first), *range(-last, 0)]
-    found.pairs += [Pair(entries[place], own[place][1]) for place in ends]
-    rest, own = entries[first : len(entries) - last], own[first : len(own) - last]
+    first = [Pair(entry, step) for entry, (_, step) in takewhile(_fits, zip(entries, own))]
+    found.pairs += first
+    rest, own = entries[len(first) :], own[len(first) :]
     done = [it for it in own if it[1].is_done()]
     said, asked = [_said(it) for it in rest], [(it.event, it.note) for _, it in done]
     blocks = difflib.SequenceMatcher(None, said, asked, autojunk=False).get_matching_blocks()
