@@ -98,8 +98,8 @@ class Chip:
             if row["note"] not in possible:
                 yield f"its outcome is {row['note']} in the store, and {' or '.join(sorted(possible))} by its blocks"
             self._batches = self._batches and self._batches.left(row["note"], self._ones, self._keys)
-        is_left = self._batches is not None and (row["event"] == "planned" or row["note"] in ("match", "short"))
-        self.state = self._batches.state() if is_left else ""
+        is_left = row["event"] == "planned" or row["note"] in ("match", "short")
+        self.state = self._batches.state() if self._batches and is_left else ""
 
     def pends(self, device: Row) -> bool:
         """Whether a device has still to burn what its lines leave, where that is known."""
