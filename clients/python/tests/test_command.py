@@ -142,7 +142,7 @@ class Words(CommandCase):
         for place, (more, told) in enumerate(
             (
                 ("", "Without --not-before these records have no beginning, for good"),
-                ("--not-before 20990101000000Z", "until then no certificate of theirs is valid"),
+                ("--not-before 20990101000000Z", "no certificate of theirs is valid before"),
                 ("--not-before 20260101000000Z", None),
                 ("--yes", None),
                 ("--not-before 20990101000000Z --yes", None),

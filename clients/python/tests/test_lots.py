@@ -162,7 +162,8 @@ class Manifest(StationCase):
         self.assertTrue(all(line.startswith(it) for line, it in zip(lines, told)), err)
         status, _, err = self.manifest(*names, "--out", file, "--xlsx", sheet)
         if not HAS_SHEETS:
-            self.assertEqual((status, "Install Debian's python3-openpyxl" in err, sheet.exists()), (2, True, False), err)
+            self.assertEqual((status, sheet.exists()), (2, False), err)
+            self.assertIn("Install Debian's python3-openpyxl", err)
             return
         expected = [shown_of(it) for it in self.rows() if it["order"] in names]
         self.assertEqual((status, cells_of(sheet)), (0, ([COLUMNS, *expected], {("inlineStr", "49")})), err)

@@ -76,9 +76,9 @@ def _make_order(settings: Settings, args: argparse.Namespace) -> int:
 def meaning_of(not_before: Optional[str], now: str) -> str:
     """What a beginning means that is to come at this time, or that isn't there; empty where it is another."""
     if not_before is None:
-        return "Without --not-before these records have no beginning, for good: each certificate begins as it is issued."
+        return "Without --not-before these records have no beginning, for good: a certificate begins as it is issued."
     if TIME.fullmatch(not_before) and not_before > now:
-        return f"These records begin at {not_before}, and now it is {now}: until then no certificate of theirs is valid."
+        return f"These records begin at {not_before}, and now it is {now}: no certificate of theirs is valid before."
     return ""
 
 

@@ -130,8 +130,8 @@ def _serials_in(spool: Path) -> Iterator[str]:
             with open(file, "rb") as source:
                 is_secret = SECRET in source.read(1 << 16)
             if is_secret:
-                told = "No key belongs there: look whose it is before anything else. Where it is a device's own, somebody "
-                told += "has seen it: only then scrap that device, and make the spool anew."
+                told = "Look whose it is before anything else: only where it is a device's own, scrap that device. "
+                told += "Then make the spool anew."
                 raise StationError(f"{file} has a private key", told)
         named = REQUEST.fullmatch(file.name)
         if named:

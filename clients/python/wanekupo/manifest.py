@@ -132,9 +132,8 @@ def _warn_of_missing(lot: Lot) -> None:
 def _warn_of_misread(names: Sequence[str], lines: Sequence[Sequence[str]], xlsx: Optional[str]) -> None:
     """Tells of each column in which a spreadsheet may change fields, and once what to do."""
     told = sheets.misread_in(names, lines)
-    warn(*(f"warning: {it}" for it in told))
-    if told:
-        warn(f"Open {xlsx}, or import these columns as text." if xlsx else "Import these columns as text, or give --xlsx.")
+    advice = f"Open {xlsx}, or import these columns as text." if xlsx else "Import these columns as text, or give --xlsx."
+    warn(*(f"warning: {it}" for it in told), *([advice] if told else []))
 
 
 def write_all(files: Mapping[Path, bytes], signer: Optional[Signer]) -> None:

@@ -112,7 +112,7 @@ def signer_of(args: argparse.Namespace) -> Optional[Signer]:
 
 
 def is_public(file: Path) -> bool:
-    """Whether a file has a public key as minisign writes it: 42 bytes that begin with Ed, in base64 in its second line."""
+    """Whether a file has a public key as minisign writes it: in its second line, in base64, 42 bytes from Ed on."""
     with contextlib.suppress(ValueError, IndexError), open(file, "rb") as source:
         key = base64.b64decode(source.read(LONGEST_KEY).splitlines()[1], validate=True)
         return len(key) == PUBLIC_BYTES and key.startswith(b"Ed")
