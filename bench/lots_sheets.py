@@ -15,8 +15,8 @@ import random
 import re
 import subprocess
 import sys
+import warnings
 
-import lives
 from lots_place import life, rows_of, shown
 from registrations import MAP
 from tokens_place import ROOT
@@ -92,9 +92,10 @@ def requests_of(seat, keys, _):
     """The requests of acme's orders; each has as many devices as it has numbers. The other customer asks for nothing."""
     yield [seat.ask("/v1/map", text=MAP)]
     for order, (name, prefix, width, _, _) in enumerate(ORDERS if seat.issuer == "acme-ca" else ()):
-        range_of = {"prefix": prefix, "width": width, "first": int(width > 1), "quantity": EACH if width > 1 else 10}
+        quantity = EACH if width > 1 else 10
+        range_of = {"prefix": prefix, "width": width, "first": int(width > 1), "quantity": quantity}
         yield [seat.ask("/v1/order", name=name, issuer=seat.issuer, **range_of, macs=2, not_before=None)]
-        for place in range(range_of["quantity"]):
+        for place in range(quantity):
             yield list(life(seat, keys, name, order, place))
 
 
@@ -134,6 +135,7 @@ def fields_in(file):
         return list(csv.reader(io.StringIO(file.read_text(encoding="utf-8"))))
     import openpyxl
 
+    warnings.filterwarnings("ignore", "Workbook contains no default style", module="openpyxl")
     rows = openpyxl.load_workbook(file, read_only=True).active.iter_rows(values_only=True)
     return [["" if it is None else it for it in row] for row in rows]
 

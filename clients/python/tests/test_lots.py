@@ -142,7 +142,7 @@ class Manifest(StationCase):
         self.assertEqual((status, list(csv.reader(io.StringIO(out)))), (0, [COLUMNS, *shown]))
         said = "begins as a formula does; so is 1 more of this column"
         lines = [f"warning: serial '-B001' {said}", f"warning: order '-1' {said}"]
-        self.assertEqual(err.splitlines(), [*lines, "Import these columns as text, or give --xlsx."])
+        self.assertEqual(err.splitlines(), [*lines, "Import these columns as text, or give --xlsx FILE."])
         status, out, _ = self.manifest("o2")
         self.assertEqual((status, out), (0, "".join(f"{','.join(it)}\n" for it in [COLUMNS, *shown[2:]])))
 
@@ -167,7 +167,7 @@ class Manifest(StationCase):
             return
         expected = [shown_of(it) for it in self.rows() if it["order"] in names]
         self.assertEqual((status, cells_of(sheet)), (0, ([COLUMNS, *expected], {("inlineStr", "49")})), err)
-        self.assertIn(f"Open {sheet}, or import", err)
+        self.assertIn(f"or open {sheet}.", err)
         digest = hashlib.sha256(sheet.read_bytes()).hexdigest()
         self.assertEqual((self.folder / "lot.xlsx.sha256").read_text(), f"{digest}  lot.xlsx\n")
 

@@ -35,8 +35,8 @@ class Revoked(CertificateCase):
         for serial, files in ((fine, 3), (gone, 0), (early, 0), (late, 3), (scrapped, 1)):
             found = sum(f'"{serial}"' in text or f"\n{serial}," in text for text in names.values())
             self.assertEqual(found, files, (serial, names))
-        for crl, told in ((other / "ca.crl", "unable to get certificate CRL"), (self.ca / "old.crl", "CRL has expired")):
-            status, out, err = self.listed(crl)
+        for crl, told in ((other, "unable to get certificate CRL"), (self.ca, "CRL has expired")):
+            status, out, err = self.listed(crl / ("old.crl" if crl == self.ca else "ca.crl"))
             self.assertEqual((status, out, told in err), (2, "", True), err)
         trusted = ("--trusted", self.ca / "ca.pem", "--crl", self.ca / "ca.crl")
         for serial, told in ((early, "its CA revoked it"), (late, "valid from 20990101000000Z and not before")):

@@ -210,7 +210,7 @@ def chain_fault(
         if REVOKED_NUMBER in dict(listed):
             yield REVOKED
         elif unknown:
-            yield f"{crl} doesn't say whether it was revoked: {unknown[0]}"
+            yield f"{crl} doesn't say it: {unknown[0]}"
 
 
 def _errors_of(certificate: Any, others: Sequence[Any], trusted: Path, *more: str) -> list[tuple[int, str]]:

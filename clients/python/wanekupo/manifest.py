@@ -24,8 +24,8 @@ from wanekupo.idevid import REVOKED, chain_fault
 from wanekupo.lots import COLUMNS, Lot, Row, fields_of, is_row, lot_of, rows_of
 from wanekupo.printing import Progress, say, say_json, table_lines, warn
 from wanekupo.signing import CMS, DIGEST, MINISIG, Signer, add_signer, beside, digest_file, signer_of
-from wanekupo.spools import CERTIFICATE, certificate_in, der_of, key_of_certificate, request_in
-from wanekupo.spools import tested_crl, tested_spool
+from wanekupo.spools import CERTIFICATE, certificate_in, certificates_of, der_of, key_of_certificate
+from wanekupo.spools import read_in, request_in, tested_crl, tested_spool
 from wanekupo.states import IN_USE, WITH_RECORD
 
 SAID = "list a lot: a line for each record of orders, with its digest and its signature beside it"
@@ -82,10 +82,10 @@ def _check_files(files: Sequence[Path], signer: Optional[Signer]) -> None:
         if not file.parent.is_dir():
             raise BadSettings(f"there is no folder {file.parent}", "Make it, or look at its name.")
         for signature in (beside(file, MINISIG), beside(file, CMS)):
-            if signature.exists() and not signer:
+            if os.path.lexists(signature) and not signer:
                 told = "Sign this list too, give it another name, or remove that file."
                 raise BadSettings(f"{signature} is there, and this list has no signature to take its place", told)
-            if signature.exists() and signer and beside(file, signer.ending) != signature:
+            if os.path.lexists(signature) and signer and beside(file, signer.ending) != signature:
                 warn(f"warning: {signature} goes, as {file} gets another kind of signature.")
 
 
@@ -103,7 +103,8 @@ def main(settings: Settings, args: argparse.Namespace) -> int:
     names, of_all = COLUMNS, len(rows)
     if settings.spool is not None:
         spool, names = settings.spool, (*COLUMNS, *SPOOLED)
-        rows = [row | _spooled(spool, row) for row in rows if not (args.crl and _is_revoked(spool, row, args))]
+        rows = [row | _spooled(spool, row) for row in rows]
+        rows = [row for row in rows if not (args.crl and _is_revoked(spool, row, args))]
     lines = [fields_of(row, names) for row in rows]
     text = table_lines(names, ([row[name] for name in names] for row in rows), True) if args.json else ""
     text = text or table_lines(names, [names, *lines], False)
@@ -132,8 +133,10 @@ def _warn_of_missing(lot: Lot) -> None:
 def _warn_of_misread(names: Sequence[str], lines: Sequence[Sequence[str]], xlsx: Optional[str]) -> None:
     """Tells of each column in which a spreadsheet may change fields, and once what to do."""
     told = sheets.misread_in(names, lines)
-    advice = f"Open {xlsx}, or import these columns as text." if xlsx else "Import these columns as text, or give --xlsx."
-    warn(*(f"warning: {it}" for it in told), *([advice] if told else []))
+    warn(*(f"warning: {it}" for it in told))
+    if told:
+        other = f"open {xlsx}" if xlsx else "give --xlsx FILE"
+        warn(f"Import these columns as text, or {other}.")
 
 
 def write_all(files: Mapping[Path, bytes], signer: Optional[Signer]) -> None:
@@ -195,13 +198,15 @@ def _is_revoked(spool: Path, row: Row, args: argparse.Namespace) -> bool:
     of a request alone nobody knows whether its certificate was revoked."""
     if row["state"] not in IN_USE:
         return False
-    certificate = certificate_in(spool, row["serial"])
-    if certificate is None:
+    file = spool / f"{row['serial']}{CERTIFICATE}"
+    data = read_in(file)
+    if data is None:
         raise clouds.lacks(spool, row["serial"], CERTIFICATE)
-    wrong = list(chain_fault(certificate, [], Path(args.trusted), Path(args.crl)))
+    certificate, *others = certificates_of(data, file)
+    wrong = list(chain_fault(certificate, others, Path(args.trusted), Path(args.crl)))
     if wrong and wrong != [REVOKED]:
         told = "Look at the files of --trusted and --crl: both are the CA's of this spool."
-        raise StationError(f"{spool}/{row['serial']}{CERTIFICATE} isn't certain: {'; '.join(wrong)}", told)
+        raise StationError(f"it isn't known whether {file} was revoked: {'; '.join(wrong)}", told)
     if wrong:
         warn(f"warning: {row['serial']}, the chip {row['chip']}, is left out: {REVOKED}.")
     return bool(wrong)
