@@ -84,12 +84,13 @@ ORDERS = [
         ("Jan.2026", "x", "JAN", 4, "x"),
     )
 ]
-OTHERS, WORDS = 6_000, "JAN FEB MAR MAY JUNE SEPT DEC MRZ OKT TRUE FALSE E EE X AM PM NAN INF MON D true e d x".split()
+OTHERS = 6_000
+WORDS = "JAN FEB MAR MAY JUNE SEPT DEC MRZ OKT TRUE FALSE E EE X AM PM NAN INF MON D true e d x".split()
 NAMES = "ABCDEFGHIJKLMNOPQRSTUVWXYZabcdefghijklmnopqrstuvwxyz0123456789._-"
 
 
 def requests_of(seat, keys, _):
-    """The requests of acme's orders; each has as many devices as it has numbers. The other customer asks for nothing."""
+    """The requests of acme's orders, each with as many devices as numbers. The other customer asks for nothing."""
     yield [seat.ask("/v1/map", text=MAP)]
     for order, (name, prefix, width, _, _) in enumerate(ORDERS if seat.issuer == "acme-ca" else ()):
         quantity = EACH if width > 1 else 10
