@@ -200,17 +200,18 @@ def chain_fault(
     with contextlib.suppress(BadKey):
         if certificate in certificates_of(trusted.read_bytes(), trusted):
             yield f"{trusted} has it as one that is trusted, and its CA's is wanted there"
+    listed = _errors_of(certificate, others, trusted, "-crl_check", "-CRLfile", str(crl)) if crl else []
+    if crl and not listed:
+        return
     at = max(now(), validity_of(certificate)[0])
     broken = _errors_of(certificate, others, trusted, "-attime", str(int(at.timestamp())))
+    unknown = [told for number, told in listed if number != EARLY]
     if broken:
         yield f"no chain leads to {trusted}: {broken[0][1]}"
-    elif crl:
-        listed = _errors_of(certificate, others, trusted, "-crl_check", "-CRLfile", str(crl))
-        unknown = [told for number, told in listed if number != EARLY]
-        if REVOKED_NUMBER in dict(listed):
-            yield REVOKED
-        elif unknown:
-            yield f"{crl} doesn't say it: {unknown[0]}"
+    elif REVOKED_NUMBER in dict(listed):
+        yield REVOKED
+    elif unknown:
+        yield f"{crl} doesn't say it: {unknown[0]}"
 
 
 def _errors_of(certificate: Any, others: Sequence[Any], trusted: Path, *more: str) -> list[tuple[int, str]]:

@@ -7,6 +7,7 @@ be a date are converted, and a number of more than 11 digits is shown, and so sa
 
 from __future__ import annotations
 
+import importlib
 import io
 import re
 from collections import defaultdict
@@ -76,11 +77,10 @@ def _more(count: int) -> str:
 def library() -> Any:
     """Debian's python3-openpyxl, which not every customer needs."""
     try:
-        import openpyxl
+        return importlib.import_module("openpyxl")
     except ImportError:
         told = "Install Debian's python3-openpyxl, or leave --xlsx away."
         raise BadSettings("the library is missing that writes .xlsx", told) from None
-    return openpyxl
 
 
 def xlsx_of(names: Sequence[str], lines: Sequence[Sequence[str]]) -> bytes:

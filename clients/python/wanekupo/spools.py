@@ -97,7 +97,8 @@ def request_in(spool: Path, serial: str) -> Optional[Request]:
     if data is None:
         return None
     if SECRET in data:
-        raise BadKey(f"{file} has a private key", "It never leaves the device: scrap this one.")
+        told = "Look whose it is before anything else: only where it is a device's own, scrap that device."
+        raise BadKey(f"{file} has a private key", told)
     try:
         public_key = public_key_of(csr=data)
         x509 = library("x509")
