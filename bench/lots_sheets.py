@@ -27,62 +27,59 @@ from wanekupo.sheets import reading_of  # noqa: E402
 
 EACH = 22
 
-# Orders by their names and what these are read as, and their prefixes, widths and what the serial numbers are read as:
-# nothing, a number to both, or by Excel's rules ("x") a date, a number of many digits or a formula.
+# Orders by their names, what these are read as, their prefixes and widths, and what the serial numbers are read as:
+# nothing, a number or a truth to both ("n"), or by Excel's rules ("x") a date, a number of many digits or a formula.
 ORDERS = [
-    (f"{name} {prefix}".split() + [width, name_is, serial_is])
-    for name, name_is, prefix, width, serial_is in (
-        ("1E5", "n", "1E", 1, "n"),
-        ("1e-5", "n", "12E", 2, "n"),
-        ("007", "n", "00", 3, "n"),
-        ("0", "", "0", 5, "n"),
-        ("-1", "x", "-", 2, "x"),
-        ("-2.5e3", "x", "--", 2, "x"),
-        ("-A", "x", "-1-", 2, "x"),
-        ("MAR1", "x", "MAR", 2, "x"),
-        ("1-MAR", "x", "MAR-", 2, "x"),
-        ("Mar-2026", "x", "MAR-2", 3, "x"),
-        ("2026-01-02", "x", "2026-1-", 2, "x"),
-        ("1-2", "x", "1-", 2, "x"),
-        ("01.02.2026", "x", "1-2-", 2, "x"),
-        ("TRUE", "x", "TRUE", 2, ""),
-        ("true", "n", "T", 2, ""),
-        ("False", "n", "F", 2, ""),
-        ("0x10", "", "0X", 2, ""),
-        ("1.50", "n", "123456789012345", 2, "n"),
-        ("1.5", "x", "1234567890", 2, "x"),
-        ("1.", "n", "12345678901234567890", 2, "n"),
-        (".5", "n", "9999999999999999", 9, "n"),
-        ("12345678901234567890", "n", "1234567", 2, ""),
-        ("1_2", "", "1A", 2, ""),
-        ("10AM", "x", "10AM", 2, ""),
-        ("SEPT", "", "SEPT", 2, "x"),
-        ("DEC_25", "x", "DEC-25-", 4, "x"),
-        ("1.2.3", "x", "26-MAR-", 2, "x"),
-        ("A1", "", "A", 3, ""),
-        ("R1C1", "", "R1C", 1, ""),
-        ("NaN", "", "NAN", 2, ""),
-        ("inf", "", "INF", 2, ""),
-        ("E5", "", "E", 2, ""),
-        ("1E", "", "1EE", 2, ""),
-        ("1E400", "n", "1E40", 1, "n"),
-        ("1-2-3-4", "x", "1-2-3-", 2, "x"),
-        ("OKT-5", "x", "OKT-", 2, "x"),
-        ("12-", "n", "1D", 2, ""),
-        ("a-b", "", "A-B-", 2, ""),
-        ("20260101000000Z", "", "20260101000000Z", 2, ""),
-        ("10.337", "x", "9E-2", 2, "x"),
-        ("_", "", "Q1-", 4, ""),
-        ("..", "", "X-", 9, ""),
-        ("1e5.5", "", "0E", 3, "n"),
-        ("JUNE", "", "JUNE", 4, "x"),
-        ("00-01", "x", "00-0", 1, "x"),
-        ("mon", "", "MON", 1, ""),
-        ("3E-300", "x", "3E-30", 1, "x"),
-        ("1.e5", "n", "MAY5-", 4, "x"),
-        ("5e5", "n", "7E", 5, "n"),
-        ("Jan.2026", "x", "JAN", 4, "x"),
-    )
+    ("1E5", "n", "1E", 1, "n"),
+    ("1e-5", "n", "12E", 2, "n"),
+    ("007", "n", "00", 3, "n"),
+    ("0", "", "0", 5, "n"),
+    ("-1", "x", "-", 2, "x"),
+    ("-2.5e3", "x", "--", 2, "x"),
+    ("-A", "x", "-1-", 2, "x"),
+    ("MAR1", "x", "MAR", 2, "x"),
+    ("1-MAR", "x", "MAR-", 2, "x"),
+    ("Mar-2026", "x", "MAR-2", 3, "x"),
+    ("2026-01-02", "x", "2026-1-", 2, "x"),
+    ("1-2", "x", "1-", 2, "x"),
+    ("01.02.2026", "x", "1-2-", 2, "x"),
+    ("TRUE", "x", "TRUE", 2, ""),
+    ("true", "n", "T", 2, ""),
+    ("False", "n", "F", 2, ""),
+    ("0x10", "", "0X", 2, ""),
+    ("1.50", "n", "123456789012345", 2, "n"),
+    ("1.5", "x", "1234567890", 2, "x"),
+    ("1.", "n", "12345678901234567890", 2, "n"),
+    (".5", "n", "9999999999999999", 9, "n"),
+    ("12345678901234567890", "n", "1234567", 2, ""),
+    ("1_2", "", "1A", 2, ""),
+    ("10AM", "x", "10AM", 2, ""),
+    ("SEPT", "", "SEPT", 2, "x"),
+    ("DEC_25", "x", "DEC-25-", 4, "x"),
+    ("1.2.3", "x", "26-MAR-", 2, "x"),
+    ("A1", "", "A", 3, ""),
+    ("R1C1", "", "R1C", 1, ""),
+    ("NaN", "", "NAN", 2, ""),
+    ("inf", "", "INF", 2, ""),
+    ("E5", "", "E", 2, ""),
+    ("1E", "", "1EE", 2, ""),
+    ("1E400", "n", "1E40", 1, "n"),
+    ("1-2-3-4", "x", "1-2-3-", 2, "x"),
+    ("OKT-5", "x", "OKT-", 2, "x"),
+    ("12-", "n", "1D", 2, ""),
+    ("a-b", "", "A-B-", 2, ""),
+    ("20260101000000Z", "", "20260101000000Z", 2, ""),
+    ("10.337", "x", "9E-2", 2, "x"),
+    ("_", "", "Q1-", 4, ""),
+    ("..", "", "X-", 9, ""),
+    ("1e5.5", "", "0E", 3, "n"),
+    ("JUNE", "", "JUNE", 4, "x"),
+    ("00-01", "x", "00-0", 1, "x"),
+    ("mon", "", "MON", 1, ""),
+    ("3E-300", "x", "3E-30", 1, "x"),
+    ("1.e5", "n", "MAY5-", 4, "x"),
+    ("5e5", "n", "7E", 5, "n"),
+    ("Jan.2026", "x", "JAN", 4, "x"),
 ]
 OTHERS = 6_000
 WORDS = "JAN FEB MAR MAY JUNE SEPT DEC MRZ OKT TRUE FALSE E EE X AM PM NAN INF MON D true e d x".split()
@@ -92,7 +89,7 @@ NAMES = "ABCDEFGHIJKLMNOPQRSTUVWXYZabcdefghijklmnopqrstuvwxyz0123456789._-"
 def requests_of(seat, keys, _):
     """The requests of acme's orders, each with as many devices as numbers. The other customer asks for nothing."""
     yield [seat.ask("/v1/map", text=MAP)]
-    for order, (name, prefix, width, _, _) in enumerate(ORDERS if seat.issuer == "acme-ca" else ()):
+    for order, (name, _, prefix, width, _) in enumerate(ORDERS if seat.issuer == "acme-ca" else ()):
         quantity = EACH if width > 1 else 10
         range_of = {"prefix": prefix, "width": width, "first": int(width > 1), "quantity": quantity}
         yield [seat.ask("/v1/order", name=name, issuer=seat.issuer, **range_of, macs=2, not_before=None)]
@@ -195,7 +192,7 @@ def tried_documents(tried, expected):
     found = {row[-1]: [kinds.get(reading_of(row[-1]), "x"), set()] for row in expected}
     for row in expected:
         found[row[-1]][1].add(kinds.get(reading_of(row[0]), "x"))
-    others = [it for it in ORDERS if found[it[0]] != [it[3], {it[4]}]]
+    others = [it for it in ORDERS if found[it[0]] != [it[1], {it[4]}]]
     tried.same("each order's name and numbers as the documents say", [(it, found[it[0]]) for it in others], [])
 
 

@@ -148,7 +148,7 @@ class Manifest(StationCase):
 
     def test_what_a_spreadsheet_reads(self):
         """Serial numbers that one changes are told, and a list of text cells has each as it is."""
-        forms = ("1E", 3, "is a number to a spreadsheet"), ("MAR-", 1, "is a date or another number"), ("T", 4, "")
+        forms = ("1E", 3, "is a number to a spreadsheet"), ("MAR-", 1, "may be a date, another number"), ("T", 4, "")
         for place, (prefix, width, _) in enumerate(forms):
             order = {"name": f"h{place}", "prefix": prefix, "width": width, "first": 1, "quantity": 2, "macs": 0}
             self.seat.make_order(**FIRST | order)

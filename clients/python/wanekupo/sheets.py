@@ -23,6 +23,7 @@ NUMBER = re.compile(
 KEPT = re.compile(r"-?(?:0|[1-9][0-9]{0,15})(?:\.[0-9]*[1-9])?|-?[1-9](?:\.[0-9]*[1-9])?E-[1-9][0-9]{2}")
 SHORT = re.compile(r"-?[0-9]{1,11}")
 
+# A date in either language, which a tool takes by the day and its settings; with a time of the day.
 MONTH = (
     "(?:JAN(?:UARY?)?|FEB(?:RUARY?)?|MAR(?:CH)?|MRZ|APR(?:IL)?|MA[YI]|JUN[EI]?|JUL[YI]?|AUG(?:UST)?"
     "|SEP(?:T|TEMBER)?|O[CK]T(?:OBER)?|NOV(?:EMBER)?|DE[CZ](?:EMBER)?)"
@@ -33,12 +34,14 @@ DATE = re.compile(
     r"|[0-9]+(?:[-.]+[0-9]*){1,3}|[0-9]+[-.]?[AP]M",
     re.IGNORECASE,
 )
+
+# True and false, in English and in German.
 TRUTHS = ("true", "false", "wahr", "falsch")
 
 # What is said of a field by its reading. The first two are Excel's, or another's by its language and the day.
 READINGS = {
     "formula": "begins as a formula does",
-    "may be": "is a date or another number to Excel, or in another language",
+    "may be": "may be a date, another number or true to Excel or in another language",
     "number": "is a number to a spreadsheet, which writes it in another way",
     "truth": "is true or false to a spreadsheet",
 }
