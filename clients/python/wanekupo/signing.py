@@ -30,6 +30,9 @@ STANDARD_ERROR = 2
 # A public key of minisign, and how much of a key's file is read.
 PUBLIC_BYTES, LONGEST_KEY = 42, 4096
 
+# How a certificate in DER begins.
+DER = b"\x30\x82"
+
 # What sha256sum would write in another way, with a backslash in front of its line.
 ESCAPED = re.compile(r"[\\\n\r]")
 
@@ -124,8 +127,9 @@ def _check_trusted(minisign: Optional[Path], cms: Optional[Path]) -> None:
     if minisign is not None and not is_public(minisign):
         told = "Name the public one, which minisign -G wrote beside the secret one."
         raise BadSettings(f"{minisign} is no public key of minisign", told)
-    if cms is not None and b"-----BEGIN CERTIFICATE-----" not in cms.read_bytes():
-        raise BadSettings(f"{cms} has no certificate as PEM", "Name the signer's certificate, and not its key.")
+    data = cms.read_bytes() if cms is not None else b""
+    if cms is not None and b"-----BEGIN CERTIFICATE-----" not in data and not data.startswith(DER):
+        raise BadSettings(f"{cms} has no certificate", "Name the signer's certificate, and not its key.")
 
 
 def verify(file: Path, minisign: Optional[Path] = None, cms: Optional[Path] = None) -> None:
