@@ -3,6 +3,7 @@
 import contextlib
 import hashlib
 import os
+import re
 import shutil
 import sqlite3
 import subprocess
@@ -86,7 +87,7 @@ def life(seat, keys, name, order, place):
         yield seat.ask("/v1/scrap", chip=chip)
 
 
-def made_store(folder, program, keys, devices):
+def made_store(folder, program, keys, devices, requests=requests_of):
     """A store with both customers' devices, and its site."""
     site, store = folder / "lots.toml", folder / "books.db"
     site.write_text(SITE, encoding="ascii")
@@ -95,7 +96,7 @@ def made_store(folder, program, keys, devices):
         for customer, token in SEATS.values():
             seat = Seat(token)
             seat.issuer = f"{customer}-ca"
-            for part in requests_of(seat, keys, devices):
+            for part in requests(seat, keys, devices):
                 send(running, part)
         running.end()
     tell(f"{4 * devices} devices in {time.monotonic() - begun:.0f} s")
@@ -123,8 +124,14 @@ def rows_of(store, customer):
 def csv_of(rows):
     """The list's bytes. No field has a comma, a quotation mark or a line end."""
     head = "serial,issuer,chip,mac,addresses,key_sha256,not_before,not_after,state,map,order"
-    lines = (",".join(" ".join(it) if isinstance(it, list) else it or "" for it in row) for row in rows)
-    return "".join(f"{line}\n" for line in (head, *lines)).encode()
+    return "".join(f"{','.join(line)}\n" for line in ([head], *map(shown, rows))).encode()
+
+
+def shown(row):
+    """The fields of a row as people read them: a chip and its addresses have colons."""
+    serial, issuer, chip, mac, addresses, *more = row
+    colons = [" ".join(":".join(re.findall("..", it)) for it in its) for its in ([chip], [mac], addresses)]
+    return [serial, issuer, *colons, *(it or "" for it in more)]
 
 
 class LotsPlace(Place):

@@ -195,7 +195,8 @@ class Certificates(CertificateCase):
         files, trusted = [first / f"{it}.pem" for it in (serial, other)], ("--trusted", self.ca / "ca.pem")
         self.assertEqual(self.command("verify", *files, *trusted)[0], 0)
         status, out, err = self.command("verify", *files, *trusted, "--crl", self.ca / "ca.crl")
-        self.assertEqual((status, out.count("as its record"), "certificate revoked" in err), (1, 1, True), err)
+        said = f"certificate of {serial}, the chip 240ac4000001, and its CA revoked it."
+        self.assertEqual((status, out.count("as its record"), said in err), (1, 1, True), err)
         status, out, err = self.command("verify", *files, *trusted, "--crl", self.ca / "ca.pem")
         self.assertEqual((status, out, "has no list of what a CA revoked" in err), (2, "", True), err)
         shutil.rmtree(self.ca / "issued")
@@ -395,7 +396,7 @@ class Certificates(CertificateCase):
                 self.assertIn(f"t isn't the certificate of {serial}, the chip 240ac4", err)
                 self.assertIn(told, err)
         status, out, err = self.command("verify", self.spool / f"{later}.pem", "--trusted", self.ca / "ca.pem")
-        self.assertEqual((status, out, "it isn't valid yet: it begins at 20990101000000Z" in err), (1, "", True), err)
+        self.assertEqual((status, out, "valid from 20990101000000Z and not before" in err), (1, "", True), err)
 
     def test_verify_of_what_is_none(self):
         """What can't be read as a certificate is refused as any other, and the ones behind it are looked at."""

@@ -9,6 +9,7 @@ import contextlib
 import hashlib
 import json
 import os
+import pty
 import re
 import subprocess
 import sys
@@ -117,7 +118,7 @@ class Words(CommandCase):
         tool = f"{sys.executable} {SIMULATED} --path-efuse-file {self.folder / 'chip'}"
         flash_key = self.folder / "flash.key"
         key = f"BLOCK1={flash_key}:flash_encryption"
-        order = "make-order o1 acme-ca A --width 3 --first 998 --quantity 2 --macs 1".split()
+        order = "make-order o1 acme-ca A --width 3 --first 998 --quantity 2 --macs 1 --yes".split()
         self.made_by(order, {"next": "A998", "mac": "020000000010"})
         self.made_by(["map", self.folder / "map"], {"map": DIGEST})
         self.made_by(["register", "o1", DIGEST, self.folder / "dump"], {"state": "registered"})
@@ -134,6 +135,52 @@ class Words(CommandCase):
         status, out, _ = self.ran("issued", self.folder / "a1.journal")
         self.assertEqual((status, out.split(",")[-3:-1]), (0, ["A998", digest_by_openssl(self.folder, "chip")]))
 
+    ORDER_OF_ONE = "make-order {} acme-ca {} --width 3 --first 1 --quantity 1"
+
+    def test_a_beginning(self):
+        """One that is to come, or none, is told, and a script goes on; --yes and a beginning that was say nothing."""
+        for place, (more, told) in enumerate(
+            (
+                ("", "Without --not-before these records have no beginning, for good"),
+                ("--not-before 20990101000000Z", "no certificate of theirs is valid before"),
+                ("--not-before 20260101000000Z", None),
+                ("--yes", None),
+                ("--not-before 20990101000000Z --yes", None),
+            )
+        ):
+            with self.subTest(more):
+                words = self.ORDER_OF_ONE.format(f"o{place}", "ABCDE"[place])
+                status, out, err = self.ran(*words.split(), *more.split())
+                self.assertEqual((status, json.loads(out)["name"], bool(err)), (0, f"o{place}", bool(told)), err)
+                self.assertEqual(told or "", told if told and told in err else "", err)
+        status, _, err = self.ran(*self.ORDER_OF_ONE.format("o9", "F").split(), "--not-before", "2099")
+        self.assertEqual((status, "(refusal 42" in err), (1, True), err)
+
+    def test_a_question(self):
+        """On a terminal a person is asked once, and only by yes an order is made."""
+        words = [sys.executable, "-m", "wanekupo", *self.ORDER_OF_ONE.format("o1", "A").split()]
+        environment = {**os.environ, "HOME": str(self.folder)}
+        for answer, status in (("no", 2), ("", 2), ("yes", 0)):
+            ours, terminal = pty.openpty()
+            process = subprocess.Popen(
+                words, cwd=CLIENT, env=environment, stdin=terminal, stderr=terminal, stdout=subprocess.PIPE, text=True
+            )
+            os.close(terminal)
+            try:
+                shown = b""
+                while b"Type yes: " not in shown:
+                    shown += os.read(ours, 4096)
+                os.write(ours, f"{answer}\n".encode())
+                out = process.communicate(timeout=30)[0]
+                with contextlib.suppress(OSError):
+                    shown += os.read(ours, 4096)
+            finally:
+                os.close(ours)
+                process.kill()
+            self.assertIn("Make o1, 1 serial numbers from A001 on?", shown.decode())
+            self.assertEqual((process.returncode, bool(out)), (status, status == 0), shown)
+        self.assertEqual(self.ran("order", "o1")[0], 0)
+
     @NEEDS_KEYS
     def test_a_chip_of_another_family(self):
         """An ESP32-S3 from its dump to its record; under another family's name it isn't registered. And a part."""
@@ -143,7 +190,7 @@ class Words(CommandCase):
         dump = self.folder / "dump"
         words = [*tool.split(), "--chip", "esp32s3", "dump"]
         dump.write_text(subprocess.run(words, capture_output=True, check=True, text=True).stdout, encoding="ascii")
-        self.made_by("make-order o1 acme-ca A --width 3 --first 998 --quantity 2".split(), {"next": "A998"})
+        self.made_by("make-order o1 acme-ca A --width 3 --first 998 --quantity 2 --yes".split(), {"next": "A998"})
         digests = {}
         for name in ("esp32s3", "none"):
             text = (ROOT / "maps" / f"{name}.toml").read_bytes()

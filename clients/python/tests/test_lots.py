@@ -5,6 +5,7 @@ from __future__ import annotations
 import base64
 import csv
 import hashlib
+import importlib.util
 import io
 import json
 import os
@@ -14,13 +15,18 @@ import shutil
 import subprocess
 import sys
 import unittest
+import zipfile
 from unittest import mock
+from xml.etree import ElementTree
 
 from support import DIGEST, MAP, Proxy, StationCase, exchanged, whole
 from commanding import CLIENT, NEEDS_KEYS, made_key, ran
 
 import wanekupo.lots
+from wanekupo import signing
+from wanekupo.errors import BadSettings
 
+HAS_SHEETS = importlib.util.find_spec("openpyxl")
 COLUMNS = "serial issuer chip mac addresses key_sha256 not_before not_after state map order".split()
 BEGINNING = "20260101000000Z"
 LIST = b"/v1/devices?after="
@@ -56,6 +62,30 @@ class Forging(Proxy):
 def line_of(row):
     """A row as a part has it: behind its SHA-256."""
     return hashlib.sha256(row + b"\n").hexdigest().encode() + b" " + row
+
+
+def colons(address):
+    """An address as a label has it."""
+    return ":".join(re.findall("..", address or ""))
+
+
+def shown_of(row):
+    """A row of replies as a list for people has it."""
+    addresses = {"addresses": " ".join(map(colons, row["addresses"])), "chip": colons(row["chip"])}
+    addresses["mac"] = colons(row["mac"])
+    return [{**row, **addresses}[name] or "" for name in COLUMNS]
+
+
+def cells_of(file):
+    """The texts of a sheet, and the kinds and formats of its cells, by the parts of the file (ECMA-376, part 1, 18.3).
+    A kind of inlineStr is a text, and format 49 is Text."""
+    space = {"": "http://schemas.openxmlformats.org/spreadsheetml/2006/main"}
+    with zipfile.ZipFile(file) as parts:
+        sheet, styles = (ElementTree.fromstring(parts.read(f"xl/{it}.xml")) for it in ("worksheets/sheet1", "styles"))
+    formats = [it.get("numFmtId") for it in styles.findall("cellXfs/xf", space)]
+    rows = [row.findall("c", space) for row in sheet.findall("sheetData/row", space)]
+    kinds = {(it.get("t"), formats[int(it.get("s"))]) for row in rows for it in row}
+    return [["".join(it.itertext()) for it in row] for row in rows], kinds
 
 
 class Manifest(StationCase):
@@ -108,13 +138,43 @@ class Manifest(StationCase):
         status, out, err = self.manifest("--all", "--json")
         self.assertEqual((status, [json.loads(it) for it in out.splitlines()], err), (0, expected, ""))
         status, out, err = self.manifest("--all")
-        shown = [[" ".join(it[name]) if name == "addresses" else it[name] or "" for name in COLUMNS] for it in expected]
+        shown = [shown_of(it) for it in expected]
         self.assertEqual((status, list(csv.reader(io.StringIO(out)))), (0, [COLUMNS, *shown]))
-        lines = [it for it in err.splitlines() if it.startswith("warning: ")]
-        self.assertEqual([it.partition("'")[0] for it in lines], ["warning: serial ", "warning: order "], err)
-        self.assertIn("so do 1 more of this column", lines[0])
+        said = "begins as a formula does; so is 1 more of this column"
+        lines = [f"warning: serial '-B001' {said}", f"warning: order '-1' {said}"]
+        self.assertEqual(err.splitlines(), [*lines, "Import these columns as text, or give --xlsx FILE."])
         status, out, _ = self.manifest("o2")
         self.assertEqual((status, out), (0, "".join(f"{','.join(it)}\n" for it in [COLUMNS, *shown[2:]])))
+
+    def test_what_a_spreadsheet_reads(self):
+        """Serial numbers that one changes are told, and a list of text cells has each as it is."""
+        forms = ("1E", 3, "is a number to a spreadsheet"), ("MAR-", 1, "may be a date, another number"), ("T", 4, "")
+        for place, (prefix, width, _) in enumerate(forms):
+            order = {"name": f"h{place}", "prefix": prefix, "width": width, "first": 1, "quantity": 2, "macs": 0}
+            self.seat.make_order(**FIRST | order)
+            self.device(32 + place, order["name"], "identified")
+        file, sheet = self.folder / "lot.csv", self.folder / "lot.xlsx"
+        names = [f"h{place}" for place in range(len(forms))]
+        status, _, err = self.manifest(*names, "--out", file)
+        told = [f"warning: serial '{prefix}{1:0{width}}' {it}" for prefix, width, it in forms if it]
+        lines = err.splitlines()
+        self.assertEqual((status, len(lines)), (0, len(told) + 1), err)
+        self.assertTrue(all(line.startswith(it) for line, it in zip(lines, told)), err)
+        status, _, err = self.manifest(*names, "--out", file, "--xlsx", sheet)
+        if not HAS_SHEETS:
+            self.assertEqual((status, sheet.exists()), (2, False), err)
+            self.assertIn("Install Debian's python3-openpyxl", err)
+            return
+        expected = [shown_of(it) for it in self.rows() if it["order"] in names]
+        self.assertEqual((status, cells_of(sheet)), (0, ([COLUMNS, *expected], {("inlineStr", "49")})), err)
+        self.assertIn(f"or open {sheet}.", err)
+        digest = hashlib.sha256(sheet.read_bytes()).hexdigest()
+        self.assertEqual((self.folder / "lot.xlsx.sha256").read_text(), f"{digest}  lot.xlsx\n")
+
+    def test_a_chip_as_a_list_has_it(self):
+        for words in (["device", "24:0A:c4:00:00:01"], ["identity", "24:0a:c4:00:00:01"]):
+            status, out, err = ran("--url", self.program.url, "--token", self.folder / "look", *words)
+            self.assertEqual((status, out and json.loads(out)["chip"]), (0, "240ac4000001"), err)
 
     def test_given_elsewhere(self):
         """Serial numbers that an import gave are no device's here, as behind a restore: the list says how many."""
@@ -138,6 +198,11 @@ class Manifest(StationCase):
             (["o2", "--cms", "y"], [], "isn't said who signs"),
             (["o2", "--aws", "x"], [], "nly a file is signed"),
             (["o2", "--out", "x", "--aws", "./x"], [], "ne file is named twice"),
+            (["o2", "--xlsx", "x"], [], "nly a file is signed"),
+            (["o2", "--out", "none/x"], [], "here is no folder none. Make it"),
+            (["o2", "--crl", "x"], [], "none is named. Give --spool"),
+            (["o2", "--crl", "x", "--spool", self.folder], [], "Give --crl and --trusted."),
+            (["o2", "--spool", self.folder / "none"], [], "here is no spool folder"),
             (["--all"], [(rb"o2,2,0,0,0,1,1,", rb"o2,2,0,0,0,2,1,")], "list has 1 devices of o2 that are identified"),
             (["--all"], [(rb'"serial":"A999"', b'"serial":null')], "is identified, and its serial number is"),
             (["--all"], [(rb'("o2","reason":null,"serial":)"A998"', rb'\1"A997"')], "isn't that of the list"),
@@ -264,7 +329,12 @@ class Manifest(StationCase):
         (self.folder / "lot.csv.new").mkdir()
         (self.folder / "lot.csv.new" / "lot.csv.p7s.new").write_bytes(b"of a kill")
         (self.folder / "lot.csv.minisig").write_bytes(b"of another list")
+        before = {it: it.read_bytes() for it in self.folder.glob("lot.csv*") if it.is_file()}
+        status, _, err = self.manifest("--all", "--out", self.folder / "lot.csv")
+        self.assertEqual((status, "this list has no signature to take its place" in err), (2, True), err)
+        self.assertEqual({it: it.read_bytes() for it in before}, before, "a signature isn't taken away")
         status, there, err = self.signed("one", "--all")
+        self.assertIn("lot.csv.minisig goes, as ", err)
         self.assertEqual((status, there), (0, dict.fromkeys(whole, 0o600)), err)
         words = "openssl cms -verify -binary -inform DER -in lot.csv.p7s -content lot.csv -certfile lots.pem -nointern"
         words = [*words.split(), *"-noverify -out /dev/null".split()]
@@ -276,6 +346,24 @@ class Manifest(StationCase):
         status, _, err = self.manifest(order, "--out", self.folder / "lot.csv", *more)
         files = sorted(self.folder.glob("lot.csv*"))
         return status, {it.name[len("lot.csv") :]: it.stat().st_mode & 0o777 for it in files}, err
+
+    def test_the_other_key(self):
+        """A secret key in a public one's place, and the other way round, is no changed file: by minisign's own keys."""
+        if not shutil.which("minisign"):
+            self.skipTest("there is no minisign")
+        words = "minisign -G -W -f -p lots.pub -s lots.key"
+        subprocess.run(words.split(), cwd=self.folder, check=True, stdout=subprocess.DEVNULL)
+        file, public, secret = (self.folder / it for it in ("lot.csv", "lots.pub", "lots.key"))
+        status, _, err = self.manifest("o2", "--out", file, "--minisign", public)
+        self.assertEqual((status, "is a public key, which signs nothing" in err), (2, True), err)
+        status, _, err = self.manifest("o2", "--out", file, "--minisign", secret)
+        self.assertEqual(status, 0, err)
+        signing.verify(file, public)
+        self.assertRaisesRegex(BadSettings, "lots.key is no public key", signing.verify, file, secret)
+        (self.folder / "lot.csv.p7s").touch()
+        self.assertRaisesRegex(BadSettings, "lots.key has no certificate", signing.verify, file, None, secret)
+        file.write_bytes(file.read_bytes() + b"x")
+        self.assertRaises(signing.BadSignature, signing.verify, file, public)
 
     @NEEDS_KEYS
     def test_a_spool(self):

@@ -4,8 +4,10 @@ from __future__ import annotations
 
 import argparse
 import shlex
+import sys
+import time
 from pathlib import Path
-from typing import Any, Callable
+from typing import Any, Callable, Optional
 
 from wanekupo.chips import bit, chip_of, rlock, value, wlock
 from wanekupo.command_row import Command, text_of, words
@@ -13,12 +15,14 @@ from wanekupo.config import Settings, looking_station_of, station_of
 from wanekupo.errors import BadKey, BadSettings, Refused, StationError
 from wanekupo.espefuse import TOOLS, Espefuse, KeyFile, NoEspefuse, NoFuses, find_tool, typed_lines, wishes_of
 from wanekupo.families import Blocks, dump_of, family_of, names
+from wanekupo.forms import TIME
 from wanekupo.keys import digest_of, keep_csr, public_key_of
 from wanekupo.printing import Progress, say, say_json, warn
 from wanekupo.recipe import MAPS
 from wanekupo.replies import identity_of
 from wanekupo.rows import rows_of
 from wanekupo.station import WRONG_STATE, Station
+from wanekupo.texts import shown
 
 DONE, QUARANTINED = 0, 4
 
@@ -55,6 +59,34 @@ def _add_order(parser: argparse.ArgumentParser) -> None:
         parser.add_argument(f"--{name}", type=int, required=True, metavar="N")
     parser.add_argument("--macs", type=int, default=0, metavar="N", help="addresses for each serial number")
     parser.add_argument("--not-before", metavar="T", help="the beginning of validity, as 20260101000000Z")
+    said = "say nothing of a beginning that is to come or isn't there, and ask nothing"
+    parser.add_argument("--yes", action="store_true", help=said)
+
+
+def _make_order(settings: Settings, args: argparse.Namespace) -> int:
+    """Makes an order, for good. Where its beginning isn't an everyday one a person is asked once, on a terminal."""
+    meant = meaning_of(args.not_before, time.strftime("%Y%m%d%H%M%SZ", time.gmtime()))
+    if meant and not args.yes:
+        warn(f"{meant} Nobody can cancel an order, or change it.")
+        if sys.stdin.isatty() and sys.stderr.isatty() and not _agreed(args):
+            raise StationError("no order was made", "Give the command again with --not-before T, or with --yes.")
+    return asks(make_order)(settings, args)
+
+
+def meaning_of(not_before: Optional[str], now: str) -> str:
+    """What a beginning means that is to come at this time, or that isn't there; empty where it is another."""
+    if not_before is None:
+        return "Without --not-before these records have no beginning, for good: a certificate begins as it is issued."
+    if TIME.fullmatch(not_before) and not_before > now:
+        return f"These records begin at {not_before}, and now it is {now}: no certificate of theirs is valid before."
+    return ""
+
+
+def _agreed(args: argparse.Namespace) -> bool:
+    first = f"{args.prefix}{args.first:0{args.width}}"
+    asked = shown(f"Make {args.name}, {args.quantity} serial numbers from {first} on? Type yes: ")
+    print(asked, end="", file=sys.stderr, flush=True)
+    return sys.stdin.readline().strip().lower() == "yes"
 
 
 def make_order(station: Station, args: argparse.Namespace) -> None:
@@ -256,7 +288,7 @@ def number(station: Station, args: argparse.Namespace) -> Any:
 
 
 COMMANDS = [
-    Command("make-order", "make an order", _add_order, asks(make_order)),
+    Command("make-order", "make an order", _add_order, _make_order),
     Command(
         "map",
         "import a fuse map, a file or by its name one that comes with the program, and show its digest",

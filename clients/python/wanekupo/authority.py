@@ -19,13 +19,15 @@ import tempfile
 from datetime import datetime
 from pathlib import Path
 from typing import Any, Iterator, Mapping, Optional, Sequence
+from urllib.parse import unquote
 
 from wanekupo.errors import BadKey, BadSettings, StationError
-from wanekupo.files import locked, opened_lock, replace_bytes, synced_folder, tested_folder
+from wanekupo.files import IS_POSIX, locked, opened_lock, replace_bytes, synced_folder, tested_folder
 from wanekupo.idevid import TIME, chain_fault, faults_of, late_fault, now
 from wanekupo.spools import Request, certificates_of, der_of, pem_of
 
 READABLE = 0o644
+OTHERS_READ = 0o044
 
 # How many seconds a signature may take, and how many bytes have to be free: `openssl ca` tells of no full disk.
 LONGEST, ROOM = 120, 1 << 20
@@ -34,8 +36,9 @@ LONGEST, ROOM = 120, 1 << 20
 STATE, NUMBER, SUBJECT = 0, 3, 5
 OF_DEVICE = re.compile(r"/serialNumber=([A-Z0-9-]{1,64})")
 
-# A key that stays in a token, as a configuration names it.
-TOKEN = re.compile(r"""^\s*private_key\s*=\s*["']?pkcs11:""", re.MULTILINE)
+# A key that stays in a token, as a configuration names it, and where that one's PIN is.
+TOKEN = re.compile(r"""^\s*private_key\s*=\s*["']?pkcs11:([^"'\n]*)""", re.MULTILINE)
+PIN_FILE, PIN = re.compile(r"[?;&]pin-source=(?:file:)?([^;&\s]+)"), "pin-value="
 
 # A line of openssl's errors: thread, "error", number, library, function and reason, with colons between.
 ERROR, REASON = 1, 5
@@ -64,6 +67,8 @@ class Authority:
         self.issued.mkdir(mode=0o755, exist_ok=True)
         for its in (folder, self.issued):
             tested_folder(its)
+        for secret in self._secrets():
+            _tested_secret(secret)
         self._lock = opened_lock(folder / "certify.lock")
         try:
             locked(self._lock)
@@ -86,6 +91,15 @@ class Authority:
 
     def close(self) -> None:
         os.close(self._lock)
+
+    def _secrets(self) -> Iterator[Path]:
+        """The files that this user alone is to read: the CA's key, and where that is in a token its PIN's."""
+        yield self.folder / "ca.key"
+        token = None if self.command else TOKEN.search(self._config.read_text(encoding="utf-8"))
+        if token:
+            file = PIN_FILE.search(token[1])
+            yield from [self.folder / unquote(file[1])] if file else []
+            yield from [self._config] if PIN in token[1] else []
 
     # The issuer.
 
@@ -275,6 +289,13 @@ class Authority:
             told = f"Put it back from a backup. Only if nobody ever got that one {_taken_away(number)}."
             raise NotCertified(f"index.txt has a certificate of {serial}, and there is no {file}", told)
         return certificates_of(file.read_bytes(), file)[0]
+
+
+def _tested_secret(file: Path) -> None:
+    """Whether nobody else can read a file, if it is there."""
+    if IS_POSIX and file.exists() and file.stat().st_mode & OTHERS_READ:
+        told = f"chmod go-rwx {file}, and change what is in it where others are on this machine."
+        raise BadSettings(f"others can read {file}, which has a secret of the CA", told)
 
 
 def number_of(certificate: Any) -> str:

@@ -21,13 +21,13 @@ from wanekupo.config import Settings, looking_station_of
 from wanekupo.errors import BadKey, BadSettings, NotTheServer, StationError, UnsafeFile
 from wanekupo.files import replace_bytes, tested_folder
 from wanekupo.forms import CHIP, SERIAL
-from wanekupo.idevid import chain_fault, early_fault, faults_of, weakness_of
+from wanekupo.idevid import REVOKED, TIME, chain_fault, faults_of, is_early, now, weakness_of
 from wanekupo.keys import library
 from wanekupo.printing import Progress, say, say_json, warn
 from wanekupo.replies import Listed
 from wanekupo.sentences import sentence_of
 from wanekupo.spools import CERTIFICATE, REQUEST, SECRET, Request, certificates_of
-from wanekupo.spools import key_of_certificate, read_in, request_in
+from wanekupo.spools import key_of_certificate, read_in, request_in, tested_crl, tested_spool
 from wanekupo.states import IN_USE
 from wanekupo.station import Station
 
@@ -123,15 +123,15 @@ def _outcome(spool: Path, serial: str, authority: Authority, books: Books) -> st
 
 def _serials_in(spool: Path) -> Iterator[str]:
     """The serial numbers of a spool's requests. It is this user's alone, and has no secret key."""
-    if not spool.is_dir():
-        raise BadSettings(f"there is no spool folder {spool}", "Look at its name.")
+    tested_spool(spool)
     tested_folder(spool)
     for file in sorted(spool.iterdir()):
         if not file.is_symlink() and file.is_file():
             with open(file, "rb") as source:
                 is_secret = SECRET in source.read(1 << 16)
             if is_secret:
-                told = "It has no place on the CA's side: scrap its device, and make the spool anew."
+                told = "Look whose it is before anything else: only where it is a device's own, scrap that device. "
+                told += "Then make the spool anew."
                 raise StationError(f"{file} has a private key", told)
         named = REQUEST.fullmatch(file.name)
         if named:
@@ -195,11 +195,7 @@ def _check(request: Request, record: Mapping[str, Any], file: Path) -> None:
 
 
 def verify(settings: Settings, args: argparse.Namespace) -> int:
-    trusted, crl = Path(args.trusted), args.crl and Path(args.crl)
-    if not trusted.is_file():
-        raise BadSettings(f"there is no file {trusted}", "It has the certificates that a chain may end at, as PEM.")
-    if crl and not (crl.is_file() and b"-----BEGIN X509 CRL-----" in crl.read_bytes()):
-        raise BadSettings(f"{crl} has no list of what a CA revoked, as PEM", "openssl ca -gencrl makes it.")
+    trusted, crl = tested_crl(args.trusted, args.crl)
     library("x509")
     chains = {name: _chain_of(name) for name in dict.fromkeys(args.certificates)}
     serials = {name: _serial_of(chain[0]) for name, chain in chains.items() if chain}
@@ -226,9 +222,11 @@ def _chain_of(name: str) -> Optional[list[Any]]:
 
 
 def _read(file: Path) -> bytes:
+    if file.is_dir():
+        raise BadSettings(f"{file} is a folder, and no certificate", f"Name its certificates: {file}/*.pem.")
     data = read_in(file)
     if data is None:
-        raise FileNotFoundError(2, "No such file", str(file))
+        raise BadSettings(f"there is no certificate {file}", "Look at its name.")
     return data
 
 
@@ -246,11 +244,17 @@ def _verified(chain: Sequence[Any], serial: str, books: Books, trusted: Path, cr
     if not serial:
         raise NotCertified("it has no serialNumber of a record in its subject")
     listed, record = books.record(serial)
-    wrong = [*faults_of(chain[0], record), *early_fault(record), *chain_fault(chain[0], chain[1:], trusted, crl)]
+    whose = f"{serial}, the chip {listed.chip}"
+    wrong = [*faults_of(chain[0], record), *chain_fault(chain[0], chain[1:], trusted, crl)]
+    if wrong == [REVOKED]:
+        raise NotCertified(f"it is the certificate of {whose}, and its CA revoked it", "Trust this device no more.")
     if wrong:
         told = "Don't trust it, and look where it is from."
-        raise NotCertified(f"it isn't the certificate of {serial}, the chip {listed.chip}: {'; '.join(wrong)}", told)
-    return f"{serial}, the chip {listed.chip} of {listed.order}, {listed.state}: as its record"
+        raise NotCertified(f"it isn't the certificate of {whose}: {'; '.join(wrong)}", told)
+    if is_early(record):
+        told = f"It holds from then on: now it is {now().strftime(TIME)}."
+        raise NotCertified(f"it is the certificate of {whose}, valid from {record['not_before']} and not before", told)
+    return f"{whose} of {listed.order}, {listed.state}: as its record"
 
 
 COMMANDS = [

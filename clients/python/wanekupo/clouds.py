@@ -28,7 +28,7 @@ def aws_line(spool: Path, row: Row) -> dict[str, Any]:
         return line | {"CertificatePem": pem_of("CERTIFICATE", der_of(certificate))}
     request = request_in(spool, serial)
     if request is None:
-        raise _lacks(spool, serial, CSR)
+        raise lacks(spool, serial, CSR)
     return line | {"CSR": request.pem}
 
 
@@ -36,7 +36,7 @@ def azure_line(spool: Path, row: Row) -> dict[str, Any]:
     """A device that is known by the SHA-256 of its certificate."""
     certificate = certificate_in(spool, row["serial"])
     if certificate is None:
-        raise _lacks(spool, row["serial"], CERTIFICATE)
+        raise lacks(spool, row["serial"], CERTIFICATE)
     thumbprint = hashlib.sha256(der_of(certificate)).hexdigest().upper()
     known = {"type": "selfSigned", "x509Thumbprint": {"primaryThumbprint": thumbprint}}
     return {"id": row["serial"], "importMode": "create", "status": "enabled", "authentication": known}
@@ -57,6 +57,6 @@ def lines_of(line: Callable[[Path, Row], dict[str, Any]], spool: Path, rows: Seq
     return "".join(compact_json(it, sort_keys=True) + "\n" for it in made)
 
 
-def _lacks(spool: Path, serial: str, ending: str) -> StationError:
-    told = "Look whether this is the spool of these orders, and certify what is in it: wanekupo certify."
+def lacks(spool: Path, serial: str, ending: str) -> StationError:
+    told = "Bring the spools of all benches into this folder, and certify what is in it: wanekupo certify."
     return StationError(f"{spool} has no {serial}{ending}", told)

@@ -3,6 +3,7 @@
 from __future__ import annotations
 
 import argparse
+import re
 import sys
 from dataclasses import dataclass
 from pathlib import Path
@@ -10,6 +11,8 @@ from typing import Any, Callable
 
 from wanekupo.config import Settings
 from wanekupo.errors import StationError
+
+COLONS = re.compile("[0-9A-Fa-f]{2}(?::[0-9A-Fa-f]{2}){5}")
 
 
 @dataclass(frozen=True)
@@ -29,9 +32,14 @@ def words(*names: str) -> Callable[[argparse.ArgumentParser], None]:
 
     def add_arguments(parser: argparse.ArgumentParser) -> None:
         for name in names:
-            parser.add_argument(name, metavar=name.upper())
+            parser.add_argument(name, metavar=name.upper(), type=chip_word if name == "chip" else str)
 
     return add_arguments
+
+
+def chip_word(word: str) -> str:
+    """A chip's name, also with the colons that it has in a list."""
+    return word.replace(":", "").lower() if COLONS.fullmatch(word) else word
 
 
 def told(parse: Callable[[str], Any]) -> Callable[[str], Any]:

@@ -45,6 +45,11 @@ NUMBERS = range(1, 1 << 159)
 # What openssl asks of the keys and signatures of CAs: 112 bits of security, as RSA of 2048 bits has.
 LEVEL = "2"
 
+# An error of `openssl verify`, and the numbers of two: a certificate that isn't valid yet, and one that was revoked.
+ERROR = re.compile(r"^error ([0-9]+) at [^:]*: (.*)", re.MULTILINE)
+EARLY, REVOKED_NUMBER = 9, 23
+REVOKED = "its CA revoked it"
+
 # How many seconds a certificate without a beginning may begin before it is asked for.
 BACKDATED = 86_400
 
@@ -173,10 +178,9 @@ PARTS: Mapping[str, Callable[[Any, Record], Iterator[str]]] = {
 }
 
 
-def early_fault(record: Record) -> Iterator[str]:
+def is_early(record: Record) -> bool:
     """Whether a record's certificate holds later alone. It is issued before, and nobody else takes it until then."""
-    if record["not_before"] is not None and record["not_before"] > now().strftime(TIME):
-        yield f"it isn't valid yet: it begins at {record['not_before']}, and now it is {now().strftime(TIME)}"
+    return record["not_before"] is not None and record["not_before"] > now().strftime(TIME)
 
 
 def late_fault(certificate: Any, record: Record, asked: datetime) -> Iterator[str]:
@@ -189,18 +193,32 @@ def late_fault(certificate: Any, record: Record, asked: datetime) -> Iterator[st
 def chain_fault(
     certificate: Any, others: Sequence[Any], trusted: Path, crl: Optional[Path] = None
 ) -> Iterator[str]:
-    """What `openssl verify` says where no chain leads from a certificate to one of those that are trusted, or its CA's
-    list has it as revoked. The system's own are none of these. One that begins later is looked at as if it had begun.
-    What a CA has to be is openssl's to know: its extensions, its path's length, the strength of its key and signature.
-    """
+    """What `openssl verify` says where no chain leads from a certificate to one of those that are trusted, or where its
+    CA's list has it as revoked. The system's own are none of these. One that begins later is looked at as if it had
+    begun, and held to the list as that is now. What a CA has to be is openssl's to know: its extensions, its path's
+    length, the strength of its key and signature."""
     with contextlib.suppress(BadKey):
         if certificate in certificates_of(trusted.read_bytes(), trusted):
             yield f"{trusted} has it as one that is trusted, and its CA's is wanted there"
+    listed = _errors_of(certificate, others, trusted, "-crl_check", "-CRLfile", str(crl)) if crl else []
+    if crl and not listed:
+        return
     at = max(now(), validity_of(certificate)[0])
+    broken = _errors_of(certificate, others, trusted, "-attime", str(int(at.timestamp())))
+    unknown = [told for number, told in listed if number != EARLY]
+    if broken:
+        yield f"no chain leads to {trusted}: {broken[0][1]}"
+    elif REVOKED_NUMBER in dict(listed):
+        yield REVOKED
+    elif unknown:
+        yield f"{crl} doesn't say it: {unknown[0]}"
+
+
+def _errors_of(certificate: Any, others: Sequence[Any], trusted: Path, *more: str) -> list[tuple[int, str]]:
+    """The errors of `openssl verify`, each by its number and its words."""
     with tempfile.TemporaryDirectory() as folder:
-        words = ["openssl", "verify", "-x509_strict", "-auth_level", LEVEL, "-partial_chain"]
-        words += ["-attime", str(int(at.timestamp())), "-no-CAfile", "-no-CApath", "-no-CAstore"]
-        words += ["-trusted", str(trusted), *(["-crl_check", "-CRLfile", str(crl)] if crl else [])]
+        words = ["openssl", "verify", "-x509_strict", "-auth_level", LEVEL, "-partial_chain", *more]
+        words += ["-no-CAfile", "-no-CApath", "-no-CAstore", "-trusted", str(trusted)]
         for name, its in (("others", others), ("certificate", [certificate])):
             file = Path(folder) / name
             file.write_text("".join(pem_of("CERTIFICATE", der_of(it)) for it in its), encoding="ascii")
@@ -209,6 +227,5 @@ def chain_fault(
             done = subprocess.run([*words, str(file)], capture_output=True, text=True, check=False)
         except FileNotFoundError:
             raise BadSettings("there is no command openssl", "Install Debian's openssl.") from None
-    if done.returncode:
-        lines = [it for it in done.stderr.splitlines() if it.startswith("error ")]
-        yield f"no chain leads to {trusted}: {lines[0].partition(': ')[2] if lines else done.stderr.strip()[:200]}"
+    found = [(int(it[1]), it[2]) for it in ERROR.finditer(done.stderr)]
+    return found or [(0, done.stderr.strip()[:200])] if done.returncode else []

@@ -5,7 +5,7 @@ from __future__ import annotations
 import argparse
 from typing import Any, Callable, Iterator, Sequence
 
-from wanekupo.command_row import Command, words
+from wanekupo.command_row import Command, chip_word, words
 from wanekupo.config import Settings, looking_station_of
 from wanekupo.printing import Formulas, say, say_json, table_lines
 from wanekupo.replies import Listed
@@ -31,7 +31,8 @@ def shows(path: str, parameter: str) -> Callable[[Settings, argparse.Namespace],
 def _add_devices(parser: argparse.ArgumentParser) -> None:
     parser.add_argument("--order", metavar="NAME", help="those of this order alone")
     parser.add_argument("--state", metavar="STATE", help="those in this state alone")
-    parser.add_argument("--after", default="", metavar="CHIP", help="those whose chips come behind this one")
+    said = "those whose chips come behind this one"
+    parser.add_argument("--after", default="", metavar="CHIP", type=chip_word, help=said)
     parser.add_argument("--json", action="store_true", help="a line of JSON each, in place of values and commas")
 
 

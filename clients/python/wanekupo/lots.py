@@ -41,6 +41,10 @@ LOOKS, AT_A_TIME = 4, 20
 # The columns of a report by which the serial numbers are counted that are given.
 GIVEN = ("quantity", "serials_left")
 
+# The columns whose hardware addresses have colons in a list for people: without them a spreadsheet takes some for
+# numbers. What programs read has the twelve digits, as the server.
+ADDRESSES = ("chip", "mac", "addresses")
+
 Row = dict[str, Any]
 Counts = Mapping[str, Mapping[str, int]]
 
@@ -143,6 +147,17 @@ def addresses_of(mac: Any, macs: Any) -> Optional[list[str]]:
     if not isinstance(mac, str) or not CHIP.fullmatch(mac) or type(macs) is not int or not 0 < macs < 256:
         return None
     return [f"{int(mac, 16) + place:012x}" for place in range(macs)] if int(mac, 16) + macs <= 1 << 48 else None
+
+
+def fields_of(row: Row, names: Sequence[str]) -> list[str]:
+    """A row's fields in a list for people. Addresses of a serial number stand in one, with a space between."""
+    found = ((name, "" if row[name] is None else row[name]) for name in names)
+    texts = {name: it if isinstance(it, list) else [it] for name, it in found}
+    return [" ".join(map(with_colons, its)) if name in ADDRESSES else its[0] for name, its in texts.items()]
+
+
+def with_colons(address: str) -> str:
+    return bytes.fromhex(address).hex(":") if address else ""
 
 
 def is_row(row: Mapping[str, Any]) -> bool:

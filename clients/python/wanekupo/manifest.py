@@ -12,20 +12,22 @@ import contextlib
 import hashlib
 import json
 import os
+from concurrent.futures import ThreadPoolExecutor
 from pathlib import Path
 from typing import IO, Any, Callable, Iterator, Mapping, Optional, Sequence
 
-from wanekupo import clouds
+from wanekupo import clouds, gathering, sheets
 from wanekupo.command_row import Command
 from wanekupo.config import Settings, looking_station_of, token_of
-from wanekupo.errors import BadKey, BadSettings
+from wanekupo.errors import BadKey, BadSettings, StationError
 from wanekupo.files import locked, opened_own, replace_bytes, synced_folder
-from wanekupo.lots import COLUMNS, Lot, Row, is_row, lot_of, rows_of
+from wanekupo.idevid import REVOKED, chain_fault
+from wanekupo.lots import COLUMNS, Lot, Row, fields_of, is_row, lot_of, rows_of
 from wanekupo.printing import Progress, say, say_json, table_lines, warn
 from wanekupo.signing import CMS, DIGEST, MINISIG, Signer, add_signer, beside, digest_file, signer_of
-from wanekupo.spools import certificate_in, der_of, key_of_certificate, request_in
-from wanekupo.states import WITH_RECORD
-from wanekupo.texts import formulas_in
+from wanekupo.spools import CERTIFICATE, certificate_in, certificates_of, der_of, key_of_certificate
+from wanekupo.spools import read_in, request_in, tested_crl, tested_spool
+from wanekupo.states import IN_USE, WITH_RECORD
 
 SAID = "list a lot: a line for each record of orders, with its digest and its signature beside it"
 MORE = """. The lines come in the order of the orders' names, then of the serial numbers, and are counted against the
@@ -42,8 +44,11 @@ def add_arguments(parser: argparse.ArgumentParser) -> None:
     parser.add_argument("--all", action="store_true", help="each order of the customer, in place of names")
     parser.add_argument("--out", metavar="FILE", help="the list's file")
     parser.add_argument("--json", action="store_true", help="a line of JSON each, in place of values and commas")
+    parser.add_argument("--xlsx", metavar="FILE", help="write the list for a spreadsheet too, each cell a text")
     parser.add_argument("--aws", metavar="FILE", help="write AWS IoT's file of a bulk registration, by the spool")
     parser.add_argument("--azure", metavar="FILE", help="write Azure IoT Hub's file of a bulk import, by the spool")
+    parser.add_argument("--crl", metavar="FILE", help="leave out each device whose certificate this list of a CA names")
+    parser.add_argument("--trusted", metavar="FILE", help="the certificate of that CA, with --crl")
     add_signer(parser)
 
 
@@ -54,16 +59,37 @@ def _check(settings: Settings, args: argparse.Namespace) -> Optional[Signer]:
     if not args.orders and not args.all:
         raise BadSettings("it isn't said of which orders the list is", "Name orders, or give --all.")
     signer = signer_of(args)
-    if args.out is None and (signer or args.aws or args.azure):
-        raise BadSettings("only a file is signed, or goes with a cloud's", "Give --out FILE.")
-    named = [os.path.realpath(it) for it in (args.out, args.aws, args.azure) if it is not None]
-    if len(set(named)) < len(named):
-        raise BadSettings("one file is named twice", "Give the list, and each cloud's file, a name of its own.")
-    if (args.aws or args.azure) and settings.spool is None:
-        raise BadSettings("a cloud's file is made of a spool, and none is named", "Give --spool FOLDER.")
-    if settings.spool is not None and not settings.spool.is_dir():
-        raise BadSettings(f"there is no spool folder {settings.spool}", "Look at its name.")
+    if args.out is None and (signer or args.xlsx or args.aws or args.azure):
+        raise BadSettings("only a file is signed, or goes with a cloud's or a spreadsheet's", "Give --out FILE.")
+    _check_files([Path(it) for it in (args.out, args.xlsx, args.aws, args.azure) if it is not None], signer)
+    if args.xlsx:
+        sheets.library()
+    if (args.aws or args.azure or args.crl) and settings.spool is None:
+        raise BadSettings("certificates are looked for in a spool, and none is named", "Give --spool FOLDER.")
+    if (args.crl is None) != (args.trusted is None):
+        raise BadSettings("a CA's list of what it revoked is held to its certificate", "Give --crl and --trusted.")
+    if args.crl:
+        tested_crl(args.trusted, args.crl)
+    elif args.aws or args.azure:
+        warn("warning: without --crl a device whose certificate was revoked is in the cloud's file too.")
+    if settings.spool is not None:
+        tested_spool(settings.spool)
     return signer
+
+
+def _check_files(files: Sequence[Path], signer: Optional[Signer]) -> None:
+    """Refuses files that can't be written, or whose signature this list would take away."""
+    if len({os.path.realpath(it) for it in files}) < len(files):
+        raise BadSettings("one file is named twice", "Give each file a name of its own.")
+    for file in files:
+        if not file.parent.is_dir():
+            raise BadSettings(f"there is no folder {file.parent}", "Make it, or look at its name.")
+        for signature in (beside(file, MINISIG), beside(file, CMS)):
+            if os.path.lexists(signature) and not signer:
+                told = "Sign this list too, give it another name, or remove that file."
+                raise BadSettings(f"{signature} is there, and this list has no signature to take its place", told)
+            if os.path.lexists(signature) and signer and beside(file, signer.ending) != signature:
+                warn(f"warning: {signature} goes, as {file} gets another kind of signature.")
 
 
 def main(settings: Settings, args: argparse.Namespace) -> int:
@@ -78,16 +104,26 @@ def main(settings: Settings, args: argparse.Namespace) -> int:
                 rows = gathered((station, second), lot, part, told)
     rows = sorted(rows, key=lambda row: (row["order"], row["serial"]))
     names: tuple[str, ...] = COLUMNS
+    of_all = len(rows)
     if settings.spool is not None:
-        names, rows = (*COLUMNS, *SPOOLED), [row | _spooled(settings.spool, row) for row in rows]
-    text = text_of(names, rows, args.json)
+        spool, names = settings.spool, (*COLUMNS, *SPOOLED)
+        rows = [row | _spooled(spool, row) for row in rows]
+        rows = _not_revoked(spool, rows, args) if args.crl else rows
+    lines = [fields_of(row, names) for row in rows]
+    if args.json:
+        text = table_lines(names, ([row[name] for name in names] for row in rows), True)
+    else:
+        _warn_of_misread(names, lines, args.xlsx)
+        text = table_lines(names, [names, *lines], False)
     if file is None:
         say(text)
         return 0
-    write_all(_clouds_files(settings.spool, rows, args) | {file: text}, signer)
+    made = {Path(args.xlsx): sheets.xlsx_of(names, lines)} if args.xlsx else {}
+    write_all(_clouds_files(settings.spool, rows, args) | made | {file: text.encode()}, signer)
     with contextlib.suppress(FileNotFoundError):
         _part_name(file).unlink()
     counts = {state: sum(row["state"] == state for row in rows) for state in WITH_RECORD}
+    counts |= {"revoked": of_all - len(rows)} if args.crl else {}
     say_json({"file": str(file), "orders": len(lot.orders), "records": len(rows), **counts})
     return 0
 
@@ -99,35 +135,25 @@ def _warn_of_missing(lot: Lot) -> None:
         warn(f"warning: {number} serial numbers of {order} are given and not in this list: {told} (wanekupo issued)")
 
 
-def text_of(names: Sequence[str], rows: Sequence[Row], as_json: bool) -> str:
-    """The list. Addresses of a serial number stand in one field, with a space between."""
-    if as_json:
-        return table_lines(names, ([row[name] for name in names] for row in rows), True)
-    fields = [["" if row[it] is None else row[it] for it in names] for row in rows]
-    lines = [[" ".join(it) if isinstance(it, list) else it for it in row] for row in fields]
-    _warn_of_formulas(names, lines)
-    return table_lines(names, [names, *lines], False)
+def _warn_of_misread(names: Sequence[str], lines: Sequence[Sequence[str]], xlsx: Optional[str]) -> None:
+    """Tells of each column in which a spreadsheet may change fields, and once what to do."""
+    told = sheets.misread_in(names, lines)
+    warn(*(f"warning: {it}" for it in told))
+    if told:
+        other = f"open {xlsx}" if xlsx else "give --xlsx FILE"
+        warn(f"Import these columns as text, or {other}.")
 
 
-def _warn_of_formulas(names: Sequence[str], lines: Sequence[Sequence[str]]) -> None:
-    """Tells of each column in which a spreadsheet would take fields for formulas, with the first of them."""
-    for place, name in enumerate(names):
-        found = formulas_in([name], ([line[place]] for line in lines))
-        first, more = next(found, None), sum(1 for _ in found)
-        if first:
-            warn(f"warning: {first}" + (f"; so do {more} more of this column" if more else ""))
-
-
-def write_all(files: Mapping[Path, str], signer: Optional[Signer]) -> None:
+def write_all(files: Mapping[Path, bytes], signer: Optional[Signer]) -> None:
     """Writes files whole, each with its digest and its signature beside it. None takes the place of an earlier one
     before all are signed: until then each lies in a folder of its own, FILE.new, under its own name."""
     rooms = {file: beside(file, ".new") for file in files}
     try:
-        for file, text in files.items():
+        for file, data in files.items():
             _clear(rooms[file], file.name)
             rooms[file].mkdir(mode=0o700)
             made = rooms[file] / file.name
-            replace_bytes(made, text.encode("utf-8"), WRITTEN)
+            replace_bytes(made, data, WRITTEN)
             digest_file(made)
             if signer:
                 signer.sign(made)
@@ -172,11 +198,41 @@ def _spooled(spool: Path, row: Row) -> dict[str, Optional[str]]:
     return {name: base64.b64encode(der).decode("ascii") if der else None for name, der in found.items()}
 
 
-def _clouds_files(spool: Optional[Path], rows: Sequence[Row], args: argparse.Namespace) -> dict[Path, str]:
-    made: dict[Path, str] = {}
+def _not_revoked(spool: Path, rows: Sequence[Row], args: argparse.Namespace) -> list[Row]:
+    """The rows whose certificates a CA's list hasn't; the others are told. openssl looks at several at a time."""
+    left: list[Row] = []
+    with ThreadPoolExecutor(os.cpu_count()) as beside, Progress("certificates") as told:
+        found = beside.map(lambda row: _is_revoked(spool, row, args), rows)
+        for row, is_revoked in zip(rows, gathering.watched(found, told, len(rows))):
+            if is_revoked:
+                warn(f"warning: {row['serial']}, the chip {row['chip']}, is left out: {REVOKED}.")
+            else:
+                left.append(row)
+    return left
+
+
+def _is_revoked(spool: Path, row: Row, args: argparse.Namespace) -> bool:
+    """Whether a CA's list has a device's certificate. Each device in use has to have one in the spool: of a request
+    alone nobody knows whether its certificate was revoked."""
+    if row["state"] not in IN_USE:
+        return False
+    file = spool / f"{row['serial']}{CERTIFICATE}"
+    data = read_in(file)
+    if data is None:
+        raise clouds.lacks(spool, row["serial"], CERTIFICATE)
+    certificate, *others = certificates_of(data, file)
+    wrong = list(chain_fault(certificate, others, Path(args.trusted), Path(args.crl)))
+    if wrong and wrong != [REVOKED]:
+        told = "Look at the files of --trusted and --crl: both are the CA's of this spool."
+        raise StationError(f"it isn't known whether {file} was revoked: {'; '.join(wrong)}", told)
+    return bool(wrong)
+
+
+def _clouds_files(spool: Optional[Path], rows: Sequence[Row], args: argparse.Namespace) -> dict[Path, bytes]:
+    made: dict[Path, bytes] = {}
     for file, line in ((args.aws, clouds.aws_line), (args.azure, clouds.azure_line)):
         if file is not None and spool is not None:
-            made[Path(file)] = clouds.lines_of(line, spool, rows)
+            made[Path(file)] = clouds.lines_of(line, spool, rows).encode("ascii")
     return made
 
 

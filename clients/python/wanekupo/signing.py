@@ -8,6 +8,7 @@ certificate. No authority's word is taken for either.
 from __future__ import annotations
 
 import argparse
+import base64
 import contextlib
 import hashlib
 import os
@@ -25,6 +26,12 @@ DIGEST, MINISIG, CMS = ".sha256", ".minisig", ".p7s"
 READABLE = 0o644
 BLOCK = 1 << 20
 STANDARD_ERROR = 2
+
+# A public key of minisign, and how much of a key's file is read.
+PUBLIC_BYTES, LONGEST_KEY = 42, 4096
+
+# How a certificate in DER begins.
+DER = b"\x30\x82"
 
 # What sha256sum would write in another way, with a backslash in front of its line.
 ESCAPED = re.compile(r"[\\\n\r]")
@@ -45,10 +52,13 @@ class Signer:
     cms: Optional[Path] = None
     cms_key: Optional[str] = None
 
+    @property
+    def ending(self) -> str:
+        return MINISIG if self.minisign else CMS
+
     def sign(self, file: Path) -> Path:
         """Signs a file, and gives the name of the signature, which is beside it, whole and synced."""
-        ending = MINISIG if self.minisign else CMS
-        made, new = beside(file, ending), beside(file, f"{ending}.new")
+        made, new = beside(file, self.ending), beside(file, f"{self.ending}.new")
         with contextlib.suppress(FileNotFoundError):
             new.unlink()
         if self.minisign:
@@ -99,7 +109,27 @@ def signer_of(args: argparse.Namespace) -> Optional[Signer]:
     for file in filter(None, named):
         if not os.path.isfile(file):
             raise BadSettings(f"there is no key's file {file}", "Look at its name.")
+    if args.minisign is not None and is_public(Path(args.minisign)):
+        raise BadSettings(f"{args.minisign} is a public key, which signs nothing", "Name the secret key's file.")
     return Signer(args.minisign and Path(args.minisign), args.cms and Path(args.cms), args.cms_key)
+
+
+def is_public(file: Path) -> bool:
+    """Whether a file has a public key as minisign writes it: in its second line, in base64, 42 bytes from Ed on."""
+    with contextlib.suppress(ValueError, IndexError), open(file, "rb") as source:
+        key = base64.b64decode(source.read(LONGEST_KEY).splitlines()[1], validate=True)
+        return len(key) == PUBLIC_BYTES and key.startswith(b"Ed")
+    return False
+
+
+def _check_trusted(minisign: Optional[Path], cms: Optional[Path]) -> None:
+    """Refuses a file that is no public key, or no certificate: with a secret one nothing could be verified."""
+    if minisign is not None and not is_public(minisign):
+        told = "Name the public one, which minisign -G wrote beside the secret one."
+        raise BadSettings(f"{minisign} is no public key of minisign", told)
+    data = cms.read_bytes() if cms is not None else b""
+    if cms is not None and b"-----BEGIN CERTIFICATE-----" not in data and not data.startswith(DER):
+        raise BadSettings(f"{cms} has no certificate", "Name the signer's certificate, and not its key.")
 
 
 def verify(file: Path, minisign: Optional[Path] = None, cms: Optional[Path] = None) -> None:
@@ -112,6 +142,7 @@ def verify(file: Path, minisign: Optional[Path] = None, cms: Optional[Path] = No
     for its in needed:
         if not os.path.isfile(str(its)):
             raise BadSettings(f"there is no {its}", "Look at its name.")
+    _check_trusted(minisign, cms)
     if minisign is not None:
         words: Sequence[object] = ["minisign", "-V", "-q", "-p", minisign, "-m", file, "-x", beside(file, MINISIG)]
     else:

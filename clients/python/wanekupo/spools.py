@@ -13,7 +13,7 @@ from dataclasses import dataclass
 from pathlib import Path
 from typing import Any, Optional
 
-from wanekupo.errors import BadKey
+from wanekupo.errors import BadKey, BadSettings
 from wanekupo.files import opened_plain
 from wanekupo.keys import library, public_key_of
 
@@ -25,6 +25,9 @@ CSR, CERTIFICATE = ".csr", ".pem"
 LONGEST = 1 << 16
 
 SECRET = b"PRIVATE KEY-----"
+
+# What a CA's folder has, and no spool.
+OF_CA = ("ca.pem", "ca.cnf", "index.txt")
 
 
 @dataclass(frozen=True)
@@ -51,6 +54,29 @@ def pem_of(kind: str, der: bytes) -> str:
     return "\n".join([f"-----BEGIN {kind}-----", *lines, f"-----END {kind}-----", ""])
 
 
+def tested_spool(folder: Path) -> None:
+    """Whether a folder is there, and isn't a CA's: who swaps the two gets no advice on devices."""
+    if not folder.is_dir():
+        raise BadSettings(f"there is no spool folder {folder}", "Look at its name.")
+    found = next((name for name in OF_CA if (folder / name).exists()), None)
+    if found:
+        told = "Nothing was done. Look whether two folders are swapped: a spool has SERIAL.csr, and no CA's files."
+        raise BadSettings(f"{folder} has {found}, so it is a CA's folder, and no spool", told)
+
+
+def tested_crl(trusted: str, crl: Optional[str]) -> tuple[Path, Optional[Path]]:
+    """The file of the certificates that a chain may end at, and that of what a CA revoked, where one is named."""
+    file = Path(trusted)
+    if not file.is_file():
+        raise BadSettings(f"there is no file {file}", "It has the certificates that a chain may end at, as PEM.")
+    certificates_of(file.read_bytes(), file)
+    if crl is None:
+        return file, None
+    if not (Path(crl).is_file() and b"-----BEGIN X509 CRL-----" in Path(crl).read_bytes()):
+        raise BadSettings(f"{crl} has no list of what a CA revoked, as PEM", "openssl ca -gencrl makes it.")
+    return file, Path(crl)
+
+
 def read_in(file: Path) -> Optional[bytes]:
     """What a file of a spool has; None where there is none."""
     try:
@@ -71,7 +97,8 @@ def request_in(spool: Path, serial: str) -> Optional[Request]:
     if data is None:
         return None
     if SECRET in data:
-        raise BadKey(f"{file} has a private key", "It never leaves the device: scrap this one.")
+        told = "Look whose it is before anything else: only where it is a device's own, scrap that device."
+        raise BadKey(f"{file} has a private key", told)
     try:
         public_key = public_key_of(csr=data)
         x509 = library("x509")
