@@ -28,6 +28,9 @@ PRIVATE = 0o600
 # How much of a file is overwritten at once.
 BLOCK = 1 << 20
 
+# What a person does where another thing than a file is named.
+NAME = "Look at its name, and name a file."
+
 # Who may write a file or a folder beside its owner.
 OTHERS_WRITE = stat.S_IWGRP | stat.S_IWOTH
 
@@ -62,9 +65,10 @@ def opened_plain(file: str | os.PathLike[str], flags: int, follows_links: bool =
         if NOFOLLOW and not follows_links and error.errno == errno.ELOOP:
             raise UnsafeFile(f"{file} is a link, and isn't followed") from error
         raise
-    if not stat.S_ISREG(os.fstat(opened).st_mode):
+    mode = os.fstat(opened).st_mode
+    if not stat.S_ISREG(mode):
         os.close(opened)
-        raise UnsafeFile(f"{file} is no plain file")
+        raise UnsafeFile(f"{file} is no plain file{', but a folder' if stat.S_ISDIR(mode) else ''}", NAME)
     return opened
 
 

@@ -40,7 +40,7 @@ WISHES = {
 class BadRecipe(StationError):
     """A recipe lacks something, or has what can't be used."""
 
-    advice = "Mend the recipe: the page 'Run a bench' of the documentation has its form."
+    advice = "Mend the recipe: man wanekupo-recipe has its form."
 
 
 @dataclass(frozen=True)

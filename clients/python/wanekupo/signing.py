@@ -26,6 +26,9 @@ READABLE = 0o644
 BLOCK = 1 << 20
 STANDARD_ERROR = 2
 
+# How many letters minisign's public key has: 42 bytes in base 64.
+PUBLIC_LENGTH = 56
+
 # What sha256sum would write in another way, with a backslash in front of its line.
 ESCAPED = re.compile(r"[\\\n\r]")
 
@@ -112,6 +115,7 @@ def verify(file: Path, minisign: Optional[Path] = None, cms: Optional[Path] = No
     for its in needed:
         if not os.path.isfile(str(its)):
             raise BadSettings(f"there is no {its}", "Look at its name.")
+    _tested_public(minisign or cms, minisign is not None)
     if minisign is not None:
         words: Sequence[object] = ["minisign", "-V", "-q", "-p", minisign, "-m", file, "-x", beside(file, MINISIG)]
     else:
@@ -119,6 +123,19 @@ def verify(file: Path, minisign: Optional[Path] = None, cms: Optional[Path] = No
         words = [*words, "-certfile", cms, "-nointern", "-noverify", "-out", os.devnull]
     told = "Don't go on with this file: have it sent again, by another way, and look at the key that you trust."
     _ran(words, f"{file} isn't as it was signed, or another key signed it", told)
+
+
+def _tested_public(file: Optional[Path], is_minisign: bool) -> None:
+    """Whether a file is what its name is to be: with another one each signature would seem to be forged."""
+    text = Path(str(file)).read_bytes()[:BLOCK]
+    kind = "public key of minisign's" if is_minisign else "certificate"
+    is_so = b"-----BEGIN CERTIFICATE-----" in text
+    if is_minisign:
+        lines = [it for it in text.split(b"\n") if it and not it.startswith(b"untrusted comment:")]
+        is_so = len(lines) == 1 and len(lines[0].strip()) == PUBLIC_LENGTH
+    if not is_so:
+        told = "Name the public one of the two files; a secret key stays where it signs."
+        raise BadSettings(f"{file} is no {kind}", told)
 
 
 def digest_of_file(file: Path) -> str:
