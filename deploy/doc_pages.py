@@ -2,8 +2,8 @@
 
     doc_pages.py FOLDER        writes FOLDER/docs and FOLDER/NEWS
 
-A link to what no package has, as a source of the server, becomes plain text. The tutorial's two files are the samples of
-the package. Python 3.11, standard library alone.
+A link to what no package has, as a source of the server, becomes plain text. The tutorial's two files are the
+package's samples. Python 3.11, standard library alone.
 """
 
 from __future__ import annotations

@@ -35,7 +35,8 @@ class Removing(unittest.TestCase):
 
     def test_bytes_are_overwritten_and_others_kept(self):
         """A key that is still open reads zeros; what a link or a second name leads to keeps its bytes."""
-        shared, linked, key, deep = (self.room / "shared", self.room / "linked", self.folder / "k", self.folder / "deeper/k")
+        shared, linked = self.room / "shared", self.room / "linked"
+        key, deep = self.folder / "k", self.folder / "deeper/k"
         for file in (shared, linked, key, deep):
             file.write_bytes(KEY)
         key.chmod(0o400)
@@ -129,7 +130,7 @@ class Folders(BenchCase):
         (file.parent / "chips" / "240ac40000aa").mkdir()  # which the server doesn't know
         for answer, left in (("no", [MAC, "240ac40000aa"]), ("yes", ["240ac40000aa"])):
             said = self.cleared(answer)
-            self.assertIn("1 folders are those of chips that are shipped or scrapped, with their keys; 1 others", said)
+            self.assertIn("1 folders are those of shipped and scrapped chips, with their keys; 1 others stay", said)
             self.assertEqual(self.folders(), sorted(left))
 
     def cleared(self, answer):

@@ -19,7 +19,7 @@ from wanekupo.command_row import Command
 from wanekupo.config import Settings
 from wanekupo.errors import BadSettings, NoPeriod
 from wanekupo.moments import tested_period, text_of
-from wanekupo.printing import Formulas, say, warn
+from wanekupo.printing import Formulas, say
 from wanekupo.shift_report import add_period
 from wanekupo.signing import add_signer, digest_of_file, signer_of
 
@@ -61,7 +61,7 @@ def _behind(store: Books, journals: Iterable[Book], period: Period) -> str:
     if not late:
         return ""
     told = f"{len(late)} lines of the journals, from {late[0]} on, are behind the copy's last request. "
-    return f"{told}The copy may be older than they are: give --to {late[0]}. Else the store was put back to an older one."
+    return f"{told}The copy may be older than they are: give --to {late[0]}. Else the store is an older one.\n"
 
 
 def _audit(_: Settings, args: argparse.Namespace) -> int:
@@ -83,8 +83,7 @@ def _audit(_: Settings, args: argparse.Namespace) -> int:
         Formulas().warn_of(table.columns, table.texts())
         write(Path(args.csv), table.as_csv())
     say(as_text(audit))
-    if behind:
-        warn(behind)
+    say(behind)
     if not audit.found and not audit.entries and not audit.held_lines:
         raise NoPeriod(*_nothing_of(period, journals))
     return FOUND if audit.found else DONE

@@ -1,4 +1,4 @@
-"""`wanekupo run RECIPE --clear-folders`: the folders of chips that an earlier version left, or a recipe that keeps them.
+"""`wanekupo run RECIPE --clear-folders`: the folders of chips that an earlier version left, or `keep_folder`.
 
 The server says which chips are shipped or scrapped, and a person says yes: some may want the keys first.
 """
@@ -20,8 +20,8 @@ def clear_old(kept: Kept, station: Station) -> int:
     begun = kept.under_way()
     known = {chip: station.find_device(chip) for chip in kept.chips() if chip not in begun}
     gone = [chip for chip, device in known.items() if device and device.state in GONE]
-    say(f"{len(gone)} folders are those of chips that are shipped or scrapped, with their keys; {len(known) - len(gone)} ")
-    say("others stay.\n")
+    others = len(known) - len(gone)
+    say(f"{len(gone)} folders are those of shipped and scrapped chips, with their keys; {others} others stay.\n")
     if not gone:
         return DONE
     say("Type yes to remove them for good: ")
