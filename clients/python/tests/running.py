@@ -33,7 +33,7 @@ SECONDS = 60
 A_CHIP = 60
 PAGE = ROOT / "docs" / "how-to" / "run-a-bench.md"
 FACTS = 'echo "$CHIP $ORDER $SERIAL $MAC $MACS $KEY_SHA256"\n'
-ENDS = ("PASS", "FAIL", "unlabelled")
+ENDS = ("PASS", "FAIL", "LABEL")
 GREEN, RED, ASK_WHERE = (f"take it out, {it}" for it in ("green box", "red box", "and ask where it comes from"))
 
 # The key pair of each chip, and a request for its certificate.

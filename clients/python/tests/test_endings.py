@@ -126,7 +126,7 @@ class Endings(BenchCase):
             ({"before_identity": {"command": [gone]}}, "hook_missing", "doesn't start (No such file or directory)"),
             (good | {"before_ship": {"command": [slow], "timeout": 0.3}}, "hook_late", "(more than 0.3 seconds)"),
             (good | {"before_ship": {"command": [broken]}}, "hook_failed", "The command before_ship failed"),
-            (good | {"label": {"command": [broken]}}, "unlabelled", "shipped as A001, its label is missing (no"),
+            (good | {"label": {"command": [broken]}}, "no_label", "shipped as A001, its label is missing (no"),
             (good | {"label": {"command": [nothing]}}, "passed", "The chip is shipped as A001"),
         ]
         self.order()
@@ -137,7 +137,7 @@ class Endings(BenchCase):
                 os.unlink(gone)
             bench.said("left")
             word, found, told = bench.ended("left")
-            words = {"passed": "PASS", "unlabelled": "unlabelled"}
+            words = {"passed": "PASS", "no_label": "LABEL"}
             self.assertEqual((word, found), (words.get(reason, "FAIL"), reason))
             self.assertIn(sentence, told)
             begun = [] if reason == "passed" else [MAC]

@@ -88,7 +88,7 @@ class Folders(BenchCase):
         (self.folder / shipped).touch()
         self.assertFalse(self.stay(bench, shipped, "passed"))
         self.assertFalse(self.stay(bench, shipped, "passed_before"))
-        self.assertTrue(self.stay(bench, unlabelled, "unlabelled"))
+        self.assertTrue(self.stay(bench, unlabelled, "no_label"))
         (self.folder / unlabelled).touch()
         self.assertFalse(self.stay(bench, unlabelled, "passed"))
         self.assertTrue(self.stay(bench, failed, "hook_failed"))

@@ -79,7 +79,7 @@ class Planned(BenchCase):
         """A chip that was shipped by the recipe as it was before, and is still in its socket, or awaits its label."""
         broken = script(self.folder / "broken", "exit 3\n")
         self.order()
-        for mac, hooks, reason in zip(macs_of(2), ({}, {"label": {"command": [broken]}}), ("passed", "unlabelled")):
+        for mac, hooks, reason in zip(macs_of(2), ({}, {"label": {"command": [broken]}}), ("passed", "no_label")):
             bench = self.run_bench(self.recipe(wishes=[], hooks=hooks))
             self.put("left", mac)
             bench.said("left")

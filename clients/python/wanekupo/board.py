@@ -16,7 +16,7 @@ from wanekupo.endings import UNLABELLED, Ended
 WAITING, WORKING, PASSED, FAILED = "waiting", "working", "PASS", "FAIL"
 
 # A chip that is shipped, and whose label is missing.
-NO_LABEL = "unlabelled"
+NO_LABEL = "LABEL"
 
 
 @dataclass(frozen=True)

@@ -124,7 +124,7 @@ TABLE = [
     Ending("hook_failed", AGAIN, "The command {hook} failed ({detail})", ONCE_MORE),
     Ending("hook_late", AGAIN, "The command {hook} took too long ({detail})", ONCE_MORE),
     Ending("no_public_key", STOP, "The command before_identity left no public key ({detail})", ENGINEER),
-    Ending("unlabelled", UNLABELLED, "The chip is shipped as {serial}, its label is missing ({detail})", LABEL_ANEW),
+    Ending("no_label", UNLABELLED, "The chip is shipped as {serial}, its label is missing ({detail})", LABEL_ANEW),
     # This machine.
     Ending("disk_full", STOP, "The disk of this bench is full", LEFT_IN + ENGINEER),
     Ending("disk", STOP, "A file of this bench can't be written ({detail})", LEFT_IN + ENGINEER),

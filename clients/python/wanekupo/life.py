@@ -340,4 +340,4 @@ class Life:
         try:
             self._hook("label", record)
         except Ended as ended:
-            raise Ended("unlabelled", serial=record.serial, detail=ended.facts.get("detail", "")) from ended
+            raise Ended("no_label", serial=record.serial, detail=ended.facts.get("detail", "")) from ended
