@@ -292,7 +292,7 @@ class Bench:
         try:
             self.kept.clear()
         except OSError as error:
-            self.board.notice(f"The folder of a chip that is done with can't be removed. {sentence_of(error)}")
+            self.tell(f"The folder of a chip that is done with can't be removed. {sentence_of(error)}")
 
     def _forget(self, chip: str) -> None:
         """A chip that was begun won't come again. One that awaits its label is shipped."""
