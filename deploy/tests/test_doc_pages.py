@@ -8,18 +8,18 @@ sys.path.insert(0, str(Path(__file__).resolve().parents[1]))
 
 import doc_pages  # noqa: E402
 
-KNOWN = frozenset(("docs/how-to/a.md", "docs/pictures/b.png"))
+KNOWN = frozenset(("docs/how-to/audit.md", "docs/pictures/bench-red.png"))
 
 
 def test_links():
     for before, after in (
-        ("[a](a.md#top)", "[a](a.md#top)"),
-        ("![b](../pictures/b.png)", "![b](../pictures/b.png)"),
+        ("[a](audit.md#top)", "[a](audit.md#top)"),
+        ("![b](../pictures/bench-red.png)", "![b](../pictures/bench-red.png)"),
         ("[its\nsource](../../crates/x/src/y.rt#L1), [c](https://c.example)", "its\nsource, [c](https://c.example)"),
         ("[x](../../deploy/ca/devices.cnf)", "[x](/usr/share/doc/wanekupo-client/examples/ca/devices.cnf)"),
         ("`crates/station/data/map.toml`", "`/usr/share/doc/wanekupo/examples/map.toml`"),
     ):
-        assert doc_pages.mended("docs/how-to/c.md", before, KNOWN) == after
+        assert doc_pages.mended("docs/how-to/install.md", before, KNOWN) == after
 
 
 def test_all_pages(tmp_path):
