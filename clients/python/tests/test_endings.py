@@ -315,6 +315,9 @@ class Endings(BenchCase):
             bench = self.run_bench(self.recipe(**options))
             self.assertEqual(bench.until(lambda board: board["stopped"])["stopped"], told)
             self.assertEqual(bench.end(), 0)
+        bench = self.run_bench(self.recipe(self.canned(502, "text/html", b"<html>")))
+        told = "nginx answers, and the server behind it doesn't"
+        self.assertEqual(bench.until(lambda board: board["away"])["away"]["why"], told)
 
     def test_three_in_a_row(self):
         """The line stops, and says what the three have in common; a person has it go on."""

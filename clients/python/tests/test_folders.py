@@ -49,6 +49,9 @@ class Removing(unittest.TestCase):
             self.assertEqual((one.read(), other.read()), (bytes(len(KEY)), bytes(len(KEY))))
         self.assertEqual((shared.read_bytes(), linked.read_bytes()), (KEY, KEY))
         self.assertEqual(list((self.room / "chips").iterdir()), [])
+        self.folder.symlink_to(self.room)
+        removed_folder(self.folder)
+        self.assertEqual((shared.read_bytes(), self.folder.is_symlink()), (KEY, False))
 
     def test_what_can_not_be_overwritten(self):
         """It goes all the same."""

@@ -212,7 +212,7 @@ def _no_port(port: str, output: str) -> EspefuseFailed:
 def port_fault(tool: Sequence[str]) -> str:
     """What is wrong with the port that a command names, or nothing. A chip's own isn't there before the chip."""
     options = argparse.ArgumentParser(add_help=False, allow_abbrev=False)
-    options.add_argument("--port", "-p", default="")
+    options.add_argument("--port", "-p", nargs="?", const="", default="")
     port = options.parse_known_args(tool[1:])[0].port
     if not os.path.exists(port):
         return f"there is no port {port}: plug it in, or mend its name" if STAYING.fullmatch(port) else ""

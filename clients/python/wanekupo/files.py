@@ -157,6 +157,9 @@ def replaced(file: Path, mode: int, is_exact: bool = False) -> Iterator[IO[bytes
 def removed_folder(folder: Path) -> None:
     """Removes a folder with all that is in it, and overwrites its files before, as far as their file system lets one:
     what it wrote elsewhere meanwhile, as on a flash disk, stays there. No link is followed."""
+    if folder.is_symlink():
+        folder.unlink()
+        return
     for path, _, files in os.walk(folder):
         for name in files:
             with contextlib.suppress(OSError):
