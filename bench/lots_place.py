@@ -147,6 +147,7 @@ class LotsPlace(Place):
             self.made(seat, "add", seat, "--look", is_told=False)
             (self.folder / seat).write_text(self.outer[seat], encoding="ascii")
             (self.folder / seat).chmod(0o600)
+            (self.folder / seat).chmod(0o600)
 
     def conf(self, name, port):
         path = super().conf(name, port)

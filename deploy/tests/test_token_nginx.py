@@ -25,6 +25,14 @@ def test_ran(monkeypatch, command, is_fine, told):
     assert (found, told in said) == (is_fine, True) and calls == [([command, "-a", "b c"], subprocess.DEVNULL)]
 
 
+def test_a_warning_is_no_reason(monkeypatch):
+    """What nginx 1.26 says of `listen .. http2`, and takes."""
+    warning = 'nginx: [warn] the "listen ... http2" directive is deprecated, use the "http2" directive instead in x:158'
+    done = subprocess.CompletedProcess(["nginx"], 1, "", f"{warning}\nnginx: [emerg] bind() failed\n")
+    monkeypatch.setattr(token.subprocess, "run", lambda *words, **more: done)
+    assert token.ran("nginx -t") == (False, "nginx: [emerg] bind() failed")
+
+
 def process(folder, number, title, parent):
     (folder / str(number)).mkdir(parents=True)
     (folder / str(number) / "cmdline").write_bytes(title)

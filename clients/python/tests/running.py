@@ -33,6 +33,7 @@ SECONDS = 60
 A_CHIP = 60
 PAGE = ROOT / "docs" / "how-to" / "run-a-bench.md"
 FACTS = 'echo "$CHIP $ORDER $SERIAL $MAC $MACS $KEY_SHA256"\n'
+ENDS = ("PASS", "FAIL", "LABEL")
 GREEN, RED, ASK_WHERE = (f"take it out, {it}" for it in ("green box", "red box", "and ask where it comes from"))
 
 # The key pair of each chip, and a request for its certificate.
@@ -147,7 +148,7 @@ class Running:
     def ended(self, name):
         """How the chip in a socket ended: its word and its sentence."""
         board = self.until(
-            lambda it: next(one for one in it["sockets"] if one["name"] == name)["state"] in ("PASS", "FAIL"), "ended"
+            lambda it: next(one for one in it["sockets"] if one["name"] == name)["state"] in ENDS, "ended"
         )
         found = next(one for one in board["sockets"] if one["name"] == name)
         return found["state"], found["reason"], found["sentence"]
@@ -356,7 +357,7 @@ class Robot:
             raise AssertionError(board["stopped"])
         for it in board["sockets"]:
             name, mac = it["name"], self.placed.get(it["name"])
-            if it["state"] in ("PASS", "FAIL") and mac and it["chip"] in (mac, ""):
+            if it["state"] in ENDS and mac and it["chip"] in (mac, ""):
                 self.results.setdefault(mac, []).append(it["reason"])
                 if it["state"] == "PASS":
                     self.case.take(name, mac)

@@ -51,6 +51,8 @@ SITE = ROOT / "crates" / "station" / "data" / "site.toml"
 MAP = (ROOT / "maps" / "esp32.toml").read_text(encoding="utf-8")
 DIGEST = hashlib.sha256(MAP.encode()).hexdigest()
 
+os.umask(0o077)  # as of a station, whose token nobody else reads
+
 HOST = "127.0.0.1"
 MAC = "240ac4000001"
 FLASH_KEY = bytes(range(32))

@@ -60,6 +60,19 @@ class Audits(BooksCase):
                 out = self.found(self.folder / name / "books.db", journal)
                 self.assertEqual([it for it in words if it not in out], [], out)
 
+    def test_lines_behind_the_copy(self):
+        """An audit whose end is behind the copy says from when on the journals have what the copy can't know."""
+        store, later = self.lived(), self.folder / "later.journal"
+        with self.station(journal=self.journal("later.journal")) as station:
+            station.register(OTHER_MAC, "o1", DIGEST, self.chip(OTHER_MAC).read())
+            station.plan(OTHER_MAC, [])
+        first = json.loads(later.read_text(encoding="ascii").splitlines()[0])
+        both = self.folder / "both.journal"
+        both.write_bytes((self.folder / "a1.journal").read_bytes() + later.read_bytes())
+        out = self.found(store, both)
+        told = f"2 lines of the journals, from {first['at']} on, are behind the copy's last request. "
+        self.assertIn(f"{told}The copy may be older than they are: give --to {first['at']}.", out)
+
     def test_a_state_between_two_steps(self):
         """A chip is settled by hand behind its plan, and an honest station goes on with it. A reply that was lost, of
         a step that comes twice, accuses nobody."""

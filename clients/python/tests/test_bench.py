@@ -190,6 +190,7 @@ class Families(BenchCase):
         hook = re.search(r"^ {7}(#!/bin/sh\n.*?)\n\n", text, re.MULTILINE | re.DOTALL)[1]
         script(self.folder / "make-csr", re.sub("^ {7}", "", hook.partition("\n")[2], flags=re.MULTILINE) + "\n")
         script(self.folder / "flash", f'{FACTS}[ "$SERIAL" = A001 ]\n')
+        script(self.folder / "label", f"{FACTS}exit 0\n")
         (self.folder / "line1.token").write_text("abc\n", encoding="ascii")
         (self.folder / "thermostat.toml").write_text(recipe, encoding="utf-8")
         self.order()

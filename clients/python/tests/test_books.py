@@ -131,7 +131,7 @@ class Books(BooksCase):
             rows.write_bytes(whole[:place] + bytes([whole[place] ^ 1]) + whole[place + 1 :])
             status, out = self.verified(seals)
             self.assertEqual((status, out.splitlines()[0]), (1, f"{rows} was changed since it was sealed."), place)
-            status, out, told = ran("seal", "--verify", seals / "000002.rows", rows)
+            status, out, told = ran("seal", "--verify", rows, seals / "000002.rows")
             self.assertEqual((status in (0, 1), out != "", told), (True, True, ""), place)
 
     def test_a_folder_with_nothing_to_test(self):
@@ -186,6 +186,10 @@ class Books(BooksCase):
         (seals / f"{last.name}.minisig").unlink()
         status, out = self.verified(*check)
         self.assertEqual((status, out.splitlines()[:3]), (1, [f"{last} has no signature.", "1 found.", began]))
+        for other in (keys[1], first):  # the secret key, and what is no key: a slip, and no forgery
+            status, out, told = ran("seal", "--verify", seals, "--minisign", other)
+            self.assertEqual((status, out), (2, ""))
+            self.assertIn(f"{other} is no public key of minisign. Name the public one", told)
 
     def test_stopped_or_wrong(self):
         """What is told where a seal is stopped by hand, is of another customer, or is in no folder: at once, and by the

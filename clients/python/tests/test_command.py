@@ -11,6 +11,7 @@ import json
 import os
 import pty
 import re
+import shlex
 import subprocess
 import sys
 import tomllib
@@ -20,6 +21,7 @@ from commanding import CLIENT, NEEDS_KEYS, OTHER_MAC, CommandCase, digest_by_ope
 from simulated_chip import chip_class
 from support import DIGEST, HOST, MAC, MAP, ORDER, ROOT, SIMULATED, SITE, Canned, free_port
 
+from wanekupo.command_line import COMMANDS, parser
 from wanekupo.errors import OutOfStep, Refused
 from wanekupo.sentences import REFUSALS, sentence_of
 
@@ -214,6 +216,8 @@ class Words(CommandCase):
         self.taken_over()
         (self.folder / "notes").write_bytes(b"\xff\xfe\0")
         (self.folder / "text").write_text("no map\n", encoding="ascii")
+        (self.folder / "open.token").write_text("abc\n", encoding="ascii")
+        (self.folder / "open.token").chmod(0o644)
         nobody = ["--url", f"http://{HOST}:{free_port()}", "--patience", "0"]
         page = ["--url", self.canned(502, "text/html", b"<html>\x1b[2J"), "--patience", "0"]
         for words, status, told in (
@@ -226,7 +230,15 @@ class Words(CommandCase):
             (["--config", self.folder / "none", "report"], 2, "no configuration file"),
             (["--url", "http://192.0.2.1", "report"], 2, "unencrypted"),
             (["--url", "ftp://127.0.0.1", "report"], 2, "neither http nor https"),
+            (["--url", "station.example", "report"], 2, "write it as https://station.example:8443"),
+            (["--url", "http://127.0.0.1:x", "report"], 2, "is no number up to 65535"),
             (["map", self.folder / "none"], 2, "no file or command"),
+            (["map", self.folder / "none" / "map"], 2, f"there is no folder {self.folder / 'none'}."),
+            (["issued", self.folder / "open.token"], 2, "no line of a journal"),
+            (["--token", self.folder / "open.token", "report"], 2, f"chmod 600 {self.folder / 'open.token'}"),
+            (["seal", "--verify", self.folder / "none"], 2, f"there is no folder {self.folder / 'none'}"),
+            (["seal", "--verify", "000002.rows", "000001.rows"], 2, "the earlier one first: 000001.rows 000002.rows"),
+            ([], 2, "there are run, order, device"),
             (["map", self.folder / "notes"], 2, "is no text"),
             (["register", "o1", DIGEST, self.folder / "text"], 2, "dump"),
             (["import", "acme-ca", self.folder / "text"], 2, "serial,key_sha256"),
@@ -243,6 +255,15 @@ class Words(CommandCase):
             self.assertNotRegex(err, NO_SENTENCE)
             self.assertNotIn("\x1b", err)
             self.assertRegex(err, r"^$|^[^\n]+[.]\n$", words)
+
+    def test_the_help_of_each_command(self):
+        """It has an example that the command takes, and not the settings, which stand in the help of all."""
+        self.assertIn("--insecure", self.ran("--help")[1])
+        for row in COMMANDS:
+            text = " ".join(self.ran(row.name, "--help")[1].split())
+            example = re.search(r"Example: wanekupo (.*?)\. The settings", text)[1]
+            self.assertEqual(parser().parse_args(shlex.split(example)).command, row.name)
+            self.assertNotIn("--insecure", text)
 
     def test_a_map_by_its_name(self):
         """Of the folder first, as a recipe finds it, and then of those that come with the program."""

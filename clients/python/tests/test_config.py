@@ -14,7 +14,7 @@ from pathlib import Path
 
 from support import MAC, ROOT
 
-from wanekupo.config import Settings, settings_of
+from wanekupo.config import Settings, settings_of, token_of
 from wanekupo.errors import BadSettings
 
 
@@ -102,6 +102,21 @@ class Config(unittest.TestCase):
                 settings_of({"config": str(folder / "none")}, {}, [])
 
 
+    def test_a_token_that_strangers_may_read(self):
+        """It is refused with what to type; the group of a service may read it."""
+        with self.folder() as folder:
+            file = folder / "a1.token"
+            file.write_text("abc\n", encoding="ascii")
+            for mode in (0o600, 0o400, 0o640):
+                file.chmod(mode)
+                self.assertEqual(token_of(Settings(token=file)), "abc")
+            for mode in (0o644, 0o604, 0o660, 0o602):
+                file.chmod(mode)
+                with self.assertRaises(BadSettings) as found:
+                    token_of(Settings(token=file))
+                self.assertIn(f"chmod 600 {file}", found.exception.advice, oct(mode))
+
+
 class Example(unittest.TestCase):
     """What the package has in its examples, and its man page of a recipe, beside the page on benches."""
 
@@ -110,9 +125,10 @@ class Example(unittest.TestCase):
 
     def test_its_files(self):
         """The page shows each of them whole, byte for byte."""
-        for name in ("thermostat.toml", "make-csr", "flash"):
+        for name in ("thermostat.toml", "make-csr", "flash", "label", "read-csr"):
             lines = (ROOT / "deploy" / "thermostat" / name).read_text(encoding="utf-8").splitlines()
-            shown = "".join(f"       {line}".rstrip() + "\n" for line in lines)
+            indent = "    " if name == "read-csr" else "       "
+            shown = "".join(f"{indent}{line}".rstrip() + "\n" for line in lines)
             self.assertIn(f"\n\n{shown}\n", self.page, name)
 
     def test_the_man_page(self):

@@ -13,6 +13,7 @@ import re
 import socket
 import subprocess
 import sys
+import time
 import unittest
 from pathlib import Path
 
@@ -34,6 +35,30 @@ from simulated_chip import SimulatedChip
 from support import DIGEST, LIFE, MAC, MAP, ORDER, Proxy, TlsProxy, steps, whole
 
 from wanekupo.journal import issued, requests_of
+
+
+# What espefuse 4.7.0 prints (esptool/loader.py and espefuse/__init__.py), that of 5 with its comma, and what Python
+# prints of pySerial's error, which espefuse doesn't catch.
+RIGHT_PORT = "\nPlease make sure that you have specified the right port with the --port argument\n"
+C3 = "\nA fatal error occurred: This chip is ESP32-C3 not ESP32-S3. Wrong --chip argument?" + RIGHT_PORT
+C3_OF_5 = "\nA fatal error occurred: This chip is ESP32-C3, not ESP32-S3. Wrong chip argument?\n"
+KIND = "this chip is an ESP32-C3, and not an ESP32-S3"
+NO_CHIP = "A fatal error occurred: Failed to connect to ESP32-S3: No serial data received."
+WENT = f"""
+A fatal error occurred: Could not open /dev/ttyUSB77, the port is busy or doesn't exist.
+([Errno 2] could not open port /dev/ttyUSB77: [Errno 2] No such file or directory: '/dev/ttyUSB77')
+
+Hint: Check if the port is correct and ESP connected
+
+{RIGHT_PORT}"""
+OWN = WENT.replace("USB77", "ACM77")
+PULLED = "device reports readiness to read but returned no data (device disconnected or multiple access on port?)"
+TORN = f"""BLOCK1 : a0 a1 a2 a3 a4 a5 a6 a7 a8 a9 aa ab ac ad ae af
+Traceback (most recent call last):
+  File "/usr/lib/python3/dist-packages/serial/serialposix.py", line 595, in read
+    raise SerialException(
+serial.serialutil.SerialException: {PULLED}
+"""
 
 
 class Refusing(Proxy):
@@ -101,7 +126,7 @@ class Endings(BenchCase):
             ({"before_identity": {"command": [gone]}}, "hook_missing", "doesn't start (No such file or directory)"),
             (good | {"before_ship": {"command": [slow], "timeout": 0.3}}, "hook_late", "(more than 0.3 seconds)"),
             (good | {"before_ship": {"command": [broken]}}, "hook_failed", "The command before_ship failed"),
-            (good | {"label": {"command": [broken]}}, "no_label", "The chip is shipped as A001 and has no label (no"),
+            (good | {"label": {"command": [broken]}}, "no_label", "shipped as A001, its label is missing (no"),
             (good | {"label": {"command": [nothing]}}, "passed", "The chip is shipped as A001"),
         ]
         self.order()
@@ -112,7 +137,8 @@ class Endings(BenchCase):
                 os.unlink(gone)
             bench.said("left")
             word, found, told = bench.ended("left")
-            self.assertEqual((word, found), ("PASS" if reason == "passed" else "FAIL", reason))
+            words = {"passed": "PASS", "no_label": "LABEL"}
+            self.assertEqual((word, found), (words.get(reason, "FAIL"), reason))
             self.assertIn(sentence, told)
             begun = [] if reason == "passed" else [MAC]
             self.assertEqual([it["chip"] for it in bench.board()["under_way"]], begun)
@@ -183,10 +209,16 @@ class Endings(BenchCase):
         return script(self.folder / "tool", f'case "$*" in *execute_scripts*) {other};; esac\nexec {words} "$@"\n')
 
     def test_espefuse_that_fails(self):
-        """No chip, no command, what isn't a chip, and one that is silent behind its burning."""
+        """No chip, no command, no chip of the family, a port that went, one that is silent behind its
+        burning, and one that is pulled out while it is burnt. The log has what espefuse said, without a key."""
         tool(self.folder / "silent", "echo 'A fatal error occurred: Failed to connect to ESP32'; exit 2\n")
         tool(self.folder / "other", "echo 'espefuse v9'\n")
         gone = tool(self.folder / "gone", "exit 2\n")
+        for name, text, status in (("c3", C3, 2), ("c3_of_5", C3_OF_5, 2), ("went", WENT, 2), ("own", OWN, 2)):
+            tool(self.folder / name, f"cat <<'END'\n{text}END\nexit {status}\n")
+        chip = " ".join(self.socket_of("left"))
+        torn = f"case \"$*\" in *scripts*) cat <<'END' >&2\n{TORN}END\nexit 1;; esac"
+        tool(self.folder / "pulled", f'{torn}\nexec {chip} "$@"\n')
         late = 'case "$*" in *dump*) [ ! -e burnt ] || { echo "A fatal error occurred: Timed out"; exit 2; };;'
         tool(self.folder / "breaks", f'{late} *) touch burnt;; esac\nexec {" ".join(self.socket_of("left"))} "$@"\n')
         again = "put it in once more, and where that fails too, red box."
@@ -195,9 +227,15 @@ class Endings(BenchCase):
             ("./other", MAC, "no_dump", "take it out, and look at it."),
             ("./gone", MAC, "no_tool", "call the engineer."),
             ("./breaks", "000000000000", "no_mac", again),
+            ("./c3", MAC, "no_dump", f"({KIND}): take it out, and look at it."),
+            ("./c3_of_5", MAC, "no_dump", f"({KIND}): take it out, and look at it."),
+            ("./went", MAC, "no_port", "(the port /dev/ttyUSB77 isn't there): call the engineer."),
+            ("./own", MAC, "no_chip", "(the port /dev/ttyACM77 isn't there): press it in, and begin again."),
             ("./breaks", MAC, "no_read", f"espefuse can't read the chip (Timed out): {again}"),
+            ("./pulled", "240ac4000002", "no_burn", f"espefuse can't burn the chip ({PULLED}): {again}"),
         ]
         self.order()
+        begun = []
         for command, mac, reason, sentence in cases:
             bench = self.run_bench(self.recipe(sockets={"left": [command]}))
             if command == "./gone":
@@ -205,10 +243,32 @@ class Endings(BenchCase):
             self.put("left", mac)
             bench.said("left")
             word, found, told = bench.ended("left")
-            begun = [MAC] if reason == "no_read" else []
+            begun += [mac] if reason in ("no_read", "no_burn") else []
             self.assertEqual((word, found, [it["chip"] for it in bench.board()["under_way"]]), ("FAIL", reason, begun))
             self.assertTrue(told.endswith(sentence), told)
             bench.end()
+        outputs = {it["result"]: it.get("output", "") for it in self.logged() if "result" in it}
+        self.assertIn("BLOCK1 : [a key]\n", outputs["no_burn"])
+        self.assertIn("Traceback (most recent call last):", outputs["no_burn"])
+        self.assertNotIn("a0a1a2", "".join(outputs.values()).replace(" ", ""))
+        self.assertIn("Wrong chip argument?", outputs["no_dump"])
+
+    def test_chips_of_another_family(self):
+        """Each fails and counts once while it is in, also where a chip begins by itself, and three stop the line."""
+        reel = tool(self.folder / "reel", f'[ -e in ] && cat c3.txt || echo "{NO_CHIP}"\nexit 2\n')
+        (self.folder / "c3.txt").write_text(C3, encoding="ascii")
+        self.order()
+        bench = self.run_bench(self.recipe(sockets={"left": [reel]}, top={"start": "chip"}))
+        for place in (1, 2, 3):
+            (self.folder / "in").touch()
+            bench.until(lambda board, place=place: board["shift"]["failed"] == {"no_dump": place}, place)
+            time.sleep(2.5)  # in which it is looked at twice
+            self.assertEqual(bench.board()["shift"]["failed"], {"no_dump": place})
+            self.assertEqual(bench.socket("left")["state"], "FAIL")
+            (self.folder / "in").unlink()
+            if place < 3:
+                bench.until(lambda board: board["sockets"][0]["state"] == "waiting", "waiting")
+        self.assertIn("3 chips failed in a row", bench.board()["stopped"])
 
     def test_each_refusal(self):
         """By the numbers in the table of the page, whichever step the server refuses."""
@@ -255,6 +315,9 @@ class Endings(BenchCase):
             bench = self.run_bench(self.recipe(**options))
             self.assertEqual(bench.until(lambda board: board["stopped"])["stopped"], told)
             self.assertEqual(bench.end(), 0)
+        bench = self.run_bench(self.recipe(self.canned(502, "text/html", b"<html>")))
+        told = "nginx answers, and the server behind it doesn't"
+        self.assertEqual(bench.until(lambda board: board["away"])["away"]["why"], told)
 
     def test_three_in_a_row(self):
         """The line stops, and says what the three have in common; a person has it go on."""
@@ -367,7 +430,7 @@ class Endings(BenchCase):
         short = script(self.folder / "short", 'head -c 31 /dev/urandom > "$KEY_FILE"\n')
         wish = {"kind": "key", "field": "BLOCK1", "command": [make], "burnt_as": "flash_encryption"}
         self.order()
-        bench = self.run_bench(self.recipe(wishes=[wish]))
+        bench = self.run_bench(self.recipe(wishes=[wish], top={"keep_folder": True}))
         for mac in macs_of(2):
             self.put("left", mac)
             bench.said("left")

@@ -31,6 +31,7 @@ class Owners(StationCase):
         super().setUp()
         self.victim = self.folder / "victim"
         self.victim.write_text("x", encoding="ascii")
+        self.victim.chmod(0o644)
 
     def begun(self):
         """A state file, its lock and a log, which nobody has open."""

@@ -8,7 +8,7 @@ from __future__ import annotations
 import json
 import unittest
 
-from running import MAP_FILE, SECONDS, BenchCase, Running, script
+from running import MAP_FILE, SECONDS, BenchCase, Running, script, tool
 
 BIT, KEY = "JTAG_DISABLE", 'field = "BLOCK1"\nfile = "flash.key"'
 JTAG = f'kind = "bit"\nfield = "{BIT}"\nindex = 0'
@@ -43,6 +43,7 @@ class Recipes(BenchCase):
             ('"before_identity"', '"before_ship"', "[hooks] has no before_identity"),
             ('"url"', '"urls"', "has 'urls', which is no setting"),
             ("[stop]", "[stop", "is no TOML"),
+            ('order = "o1"', 'order = "o1"\nkeep_folder = 1', "keep_folder is 1, and may be true or false"),
             ('"timeout" = 20', '"timeout" = 0', "the timeout of before_identity is no number of seconds"),
         ]
         for old, new, told in cases:
@@ -79,6 +80,9 @@ class Recipes(BenchCase):
         yield '"spool" = "spool"', '"spool" = "none"', f"the folder spool, {here}/none, isn't there, or can't"
         told = "the command of the socket left can't be run: none-such isn't there, or lacks chmod +x."
         yield left, '"left" = ["none-such"]', told
+        tool(self.folder / "there", "exit 2\n")
+        gone = "the socket left: there is no port /dev/ttyUSB77: plug it in, or mend its name."
+        yield left, '"left" = ["./there", "--port", "/dev/ttyUSB77"]', gone
         yield left, '"left" = ["./silent"]', f"{NO_TOOL}espefuse ended with status 2, and didn't"
         yield left, '"left" = ["./older"]', f"{NO_TOOL}its version is 3.3, and 4 and 5 are."
 

@@ -51,7 +51,7 @@ class Tokens(StationCase):
         self.assertEqual(found.exception.no, 6)
         with self.assertRaises(BadStateFile) as told:
             self.seat("new")
-        self.assertIn("--new-token", str(told.exception))
+        self.assertIn("--new-token", told.exception.advice)
         self.assertEqual(self.kept(), kept)
         with self.seat("new", new_token=True) as seat:
             self.assertEqual(seat.order("o1").next, "A998")

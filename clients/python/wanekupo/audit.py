@@ -9,6 +9,7 @@ from typing import Iterable, Optional
 
 from wanekupo.books.audit import audit_of
 from wanekupo.books.audit_page import as_html, as_text, found_table
+from wanekupo.books.matching import seated
 from wanekupo.books.printed import write
 from wanekupo.books.shift import Period, period_of
 from wanekupo.books.steps import Book, books_of, shipped_books
@@ -16,12 +17,12 @@ from wanekupo.books.store import Store
 from wanekupo.books.stored import Books
 from wanekupo.command_row import Command
 from wanekupo.config import Settings
-from wanekupo.errors import BadJournal, NoPeriod
+from wanekupo.errors import BadJournal, BadSettings, NoPeriod
 from wanekupo.journal_lines import folders_at
 from wanekupo.moments import tested_period, text_of
 from wanekupo.printing import Formulas, say
 from wanekupo.shift_report import add_period
-from wanekupo.signing import digest_of_file
+from wanekupo.signing import add_signer, digest_of_file, signer_of
 
 DONE, FOUND = 0, 1
 
@@ -38,6 +39,7 @@ def _add_arguments(parser: argparse.ArgumentParser) -> None:
     parser.add_argument("--folders", type=Path, metavar="FILE", help=said)
     parser.add_argument("--html", metavar="FILE", help="write a page, to be read and printed")
     parser.add_argument("--csv", metavar="FILE", help="write what is found as comma-separated values")
+    add_signer(parser)
 
 
 def _journals(names: list[str], folders: Optional[Path]) -> list[Book]:
@@ -64,19 +66,37 @@ def _nothing_of(period: Period, journals: Iterable[Book]) -> tuple[str, str]:
     return happened, f"Look at --from and --to. {lines}"
 
 
+def _behind(store: Books, journals: Iterable[Book], period: Period) -> str:
+    """A sentence where lines have numbers behind the last one that the store knows of their seat, or nothing."""
+    own = [it for it in (seated(book, store) for book in journals) if it.seat in store.seats]
+    steps = [(it.at, it.number > store.seats[made.seat].last) for made in own for it in made.book.steps]
+    late = sorted(at for at, is_late in steps if is_late and period.has(at))
+    if not late:
+        return ""
+    told = f"{len(late)} lines of the journals, from {late[0]} on, are behind the copy's last request. "
+    return f"{told}The copy may be older than they are: give --to {late[0]}. Else the store is an older one.\n"
+
+
 def _audit(_: Settings, args: argparse.Namespace) -> int:
     tested_period(args.from_time, args.to_time)
-    path = Path(args.store)
+    path, signer = Path(args.store), signer_of(args)
+    if signer and not args.html:
+        raise BadSettings("there is no page to be signed", "Give --html FILE.")
     journals, period = _journals(args.journals, args.folders), period_of(args.from_time, args.to_time)
     with Store(path) as store:
-        audit = audit_of(Books(store), journals, period, text_of(datetime.now(timezone.utc)))
+        books = Books(store)
+        audit = audit_of(books, journals, period, text_of(datetime.now(timezone.utc)))
+        behind = _behind(books, journals, period) if audit.found else ""
     if args.html:
         write(Path(args.html), as_html(audit, _read(path, journals)))
+        if signer:
+            signer.sign(Path(args.html))
     if args.csv:
         table = found_table(audit)
         Formulas().warn_of(table.columns, table.texts())
         write(Path(args.csv), table.as_csv())
     say(as_text(audit))
+    say(behind)
     if not audit.found and not audit.entries and not audit.held_lines:
         raise NoPeriod(*_nothing_of(period, journals))
     return FOUND if audit.found else DONE

@@ -21,7 +21,7 @@ from pathlib import Path
 from typing import Any, Iterator, Mapping, Optional, Sequence
 from urllib.parse import unquote
 
-from wanekupo.errors import BadKey, BadSettings, StationError
+from wanekupo.errors import PAGES, BadKey, BadSettings, StationError
 from wanekupo.files import IS_POSIX, locked, opened_lock, replace_bytes, synced_folder, tested_folder
 from wanekupo.idevid import TIME, chain_fault, faults_of, late_fault, now
 from wanekupo.spools import Request, certificates_of, der_of, pem_of
@@ -43,6 +43,8 @@ PIN_FILE, PIN = re.compile(r"[?;&]pin-source=(?:file:)?([^;&\s]+)"), "pin-value=
 # A line of openssl's errors: thread, "error", number, library, function and reason, with colons between.
 ERROR, REASON = 1, 5
 
+NO_CA = f"Make the CA first: {PAGES}/how-to/certificates.md has the commands."
+
 
 class NotCertified(StationError):
     """A request gets no certificate; the others go on."""
@@ -62,8 +64,7 @@ class Authority:
         needed = [self.trusted] if command else [self.trusted, self._config]
         for file in needed:
             if not file.is_file():
-                told = "Make the CA first: the page on certificates has the commands."
-                raise BadSettings(f"there is no {file}", told)
+                raise BadSettings(f"there is no {file}", NO_CA)
         self.issued.mkdir(mode=0o755, exist_ok=True)
         for its in (folder, self.issued):
             tested_folder(its)
@@ -264,7 +265,7 @@ class Authority:
         try:
             lines = (self.folder / "index.txt").read_text(encoding="utf-8").splitlines()
         except FileNotFoundError:
-            raise BadSettings(f"{self.folder} has no index.txt", "Make the CA by the page on certificates.") from None
+            raise BadSettings(f"{self.folder} has no index.txt", NO_CA) from None
         return (row for row in (line.split("\t") for line in lines) if len(row) == SUBJECT + 1)
 
     def _add(self, file: Path) -> None:

@@ -19,7 +19,8 @@ from pathlib import Path
 from typing import Callable, Iterator, Mapping, Optional, TypeVar
 
 from wanekupo.board import PASSED, WORKING, Board, Shift, Socket, ended_socket, in_common
-from wanekupo.config import Settings, changed, station_of
+from wanekupo.clearing import clear_old
+from wanekupo.config import Settings, changed, looking_station_of, station_of
 from wanekupo.endings import STOP, Ended, ended_by
 from wanekupo.errors import BadSettings
 from wanekupo.espefuse import KeyFile
@@ -33,6 +34,7 @@ from wanekupo.recipe_checks import faults_of
 from wanekupo.replies import Identity, Order
 from wanekupo.scrapping import Scrapping
 from wanekupo.screen import Screen
+from wanekupo.sentences import sentence_of
 from wanekupo.station import Station
 from wanekupo.turns import Leaving, Turns
 
@@ -41,6 +43,9 @@ Made = TypeVar("Made")
 # How many seconds a reply is asked for before the board says that the server is away, and between two looks at a socket
 # whose chip begins by itself.
 PATIENCE, LOOK = 3.0, 1.0
+
+# The ending of a chip of another kind, which has no name by which it could be known.
+OTHER_KIND = "no_dump"
 
 # The status of a program that was ended by hand at once.
 INTERRUPTED = 130
@@ -115,6 +120,7 @@ class Bench:
         self._opening.start()
 
     def _open(self) -> None:
+        self.clear()
         try:
             self._turns.finish()
             order = self.order()
@@ -165,21 +171,30 @@ class Bench:
         try:
             life.find()
         except Exception as error:
-            ended = ended_by(error, "read")
-            if ended.ending.effect == STOP:
-                self._stop_by(ended)
-            self.board.waiting(name, ended.ending.sentence(**ended.facts))
-            self._seen[name] = ""  # one that was taken out may come again
+            self._not_found(name, life, ended_by(error, "read"))
             return False
         return life.chip != self._seen[name]
+
+    def _not_found(self, name: str, life: Life, ended: Ended) -> None:
+        """No chip answers that could be begun. One of another kind fails, once; where none is, it may come again."""
+        if ended.ending.effect == STOP:
+            self._stop_by(ended)
+        if ended.ending.name != OTHER_KIND:
+            self.board.waiting(name, ended.ending.sentence(**ended.facts))
+            self._seen[name] = ""
+        elif self._seen[name] != OTHER_KIND:
+            self._seen[name] = OTHER_KIND
+            self._record(name, life, ended)
 
     def _record(self, name: str, life: Life, ended: Ended) -> None:
         """Keeps and shows how a chip ended. A disk that takes nothing more stops the line."""
         last = ended_socket(name, ended, life.step, life.chip, life.serial, self.recipe.order)
         told = {"socket": name, "chip": life.chip, "serial": life.serial, "step": life.step}
         try:
-            self.kept.log({**told, "result": last.reason, "sentence": last.sentence})
+            output = {"output": ended.facts["output"]} if ended.facts.get("output") else {}
+            self.kept.log({**told, "result": last.reason, "sentence": last.sentence, **output})
             self._count(last, ended)
+            self.clear()
         except Exception as error:
             ended = ended_by(error, life.step)
             last = ended_socket(name, ended, life.step, life.chip, life.serial, self.recipe.order)
@@ -192,7 +207,8 @@ class Bench:
         """Counts a chip. One that may come again stays among those that were begun."""
         with self._counting:
             shift = self.kept.shift().with_ending(ended, last.step, last.name)
-            self.kept.ended(last, shift, ended.ending.is_last())
+            goes = ended.ending.is_gone() and not self.recipe.keep_folder
+            self.kept.ended(last, shift, ended.ending.is_last(), goes)
             self.board.counted(shift)
             most = self.recipe.lost_in_a_row
             if ended.ending.counts() and len(shift.row) >= most:
@@ -271,10 +287,19 @@ class Bench:
             self.kept.counted(shift)
             self.board.counted(shift)
 
+    def clear(self) -> None:
+        """Removes the folders of chips that are done with. Where that fails it is told, and tried again."""
+        try:
+            self.kept.clear()
+        except OSError as error:
+            self.tell(f"The folder of a chip that is done with can't be removed. {sentence_of(error)}")
+
     def _forget(self, chip: str) -> None:
-        """A chip that was begun won't come again."""
+        """A chip that was begun won't come again. One that awaits its label is shipped."""
         with self._on_disk():
-            is_there = self.kept.forget(chip)
+            is_shipped = self.kept.under_way().get(chip, {}).get("step") == "label"
+            is_there = self.kept.forget(chip, is_shipped and not self.recipe.keep_folder)
+            self.clear()
             self.tell_begun()
             self.board.notice(f"The bench forgot the chip {chip}." if is_there else f"No chip {chip} is under way.")
 
@@ -310,6 +335,8 @@ def add_arguments(parser: argparse.ArgumentParser) -> None:
     parser.add_argument("recipe", type=Path, metavar="RECIPE", help="the recipe's file")
     parser.add_argument("--port", type=int, help="the page's port on this machine, in place of the recipe's; 0 is any")
     parser.add_argument("--no-page", action="store_true", help="show no page, but the terminal alone")
+    said = "remove the folders of shipped and scrapped chips that an earlier version left, or keep_folder, and end"
+    parser.add_argument("--clear-folders", action="store_true", help=said)
 
 
 def settings_for(recipe: Recipe, settings: Settings, arguments: Mapping[str, object]) -> Settings:
@@ -336,6 +363,8 @@ def main(settings: Settings, arguments: argparse.Namespace) -> int:
     has_page = not arguments.no_page and (arguments.port is not None or recipe.page > 0)
     with contextlib.ExitStack() as stack:
         kept = stack.enter_context(contextlib.closing(Kept(recipe.folder or Path(f"{settings.state}.bench"))))
+        if arguments.clear_folders:
+            return clear_old(kept, stack.enter_context(looking_station_of(settings)))
         tell: list[Callable[[str], None]] = []
         patient = replace(settings, patience=min(settings.patience, PATIENCE))
         station = stack.enter_context(station_of(patient, tell=lambda text: tell[0](text)))

@@ -11,9 +11,12 @@ from collections import Counter
 from dataclasses import dataclass, field, replace
 from typing import Any, Mapping, Optional, Sequence
 
-from wanekupo.endings import Ended
+from wanekupo.endings import UNLABELLED, Ended
 
 WAITING, WORKING, PASSED, FAILED = "waiting", "working", "PASS", "FAIL"
+
+# A chip that is shipped, and whose label is missing.
+NO_LABEL = "LABEL"
 
 
 @dataclass(frozen=True)
@@ -64,6 +67,7 @@ def ended_socket(name: str, ended: Ended, step: str, chip: str, serial: str, ord
     """A socket whose chip has ended so."""
     sentence = ended.ending.sentence(**{"order": order, "step": step, **ended.facts})
     state = PASSED if ended.ending.is_pass() else FAILED
+    state = NO_LABEL if ended.ending.effect == UNLABELLED else state
     return Socket(name, state, step, chip, serial, sentence, ended.ending.name, time.time())
 
 

@@ -163,11 +163,20 @@ def token_of(settings: Settings) -> str:
     if settings.token is None:
         raise BadSettings("no token is named", "Give --token FILE, or have a line token = .. in wanekupo.toml.")
     try:
+        _tested_token(settings.token)
         return settings.token.read_text(encoding="ascii").strip()
     except FileNotFoundError:
         raise BadSettings(f"there is no token file {settings.token}", "Look at its name.") from None
     except ValueError:
         raise BadSettings(f"{settings.token} is no token file", "It has the token alone, in visible ASCII.") from None
+
+
+def _tested_token(file: Path) -> None:
+    """Whether strangers can't read or change it. A group may read it, as that of a service."""
+    found = file.stat().st_mode
+    if os.name == "posix" and stat.S_ISREG(found) and found & (stat.S_IRWXO | stat.S_IWGRP):
+        told = "If others use this machine, have the token ended, and take another one of the same seat."
+        raise BadSettings(f"others may read or write the token {file}", f"Type chmod 600 {file}. {told}")
 
 
 def context_of(settings: Settings) -> Optional[ssl.SSLContext]:

@@ -50,12 +50,16 @@ def address_of(url: str, insecure: bool) -> SplitResult:
     """Where the server is. A token goes to another machine by https alone, unless the caller says otherwise."""
     parts = urlsplit(url)
     if parts.scheme not in ("http", "https"):
-        raise ValueError(f"{url}: neither http nor https")
+        raise ValueError(f"the address {url} is neither http nor https: write it as https://station.example:8443")
     if not parts.hostname or "@" in parts.netloc:
         raise ValueError(f"{url}: a host, and a port where it isn't the scheme's, are all that stands behind //")
     if parts.scheme == "http" and not insecure and not _is_loopback(parts.hostname):
         told = "would send the token to another machine unencrypted, for all on the way to read"
-        raise ValueError(f"{url} {told}: give an address of https, or --insecure (insecure=True)")
+        raise ValueError(f"{url} {told}: give an address of https, or --insecure where that may be")
+    try:
+        _ = parts.port  # which reads the number
+    except ValueError:
+        raise ValueError(f"the port of {url} is no number up to 65535") from None
     return parts
 
 

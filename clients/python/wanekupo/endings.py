@@ -13,13 +13,13 @@ from dataclasses import dataclass
 from typing import Any, Optional
 
 from wanekupo.errors import BadJournal, BadStateFile, OutOfStep, Refused, StationError, TooLong, UnsafeFile
-from wanekupo.espefuse import ChangedUnasked, EspefuseFailed, NoEspefuse, NoKey
+from wanekupo.espefuse import ChangedUnasked, EspefuseFailed, NoEspefuse, NoKey, NoPort, OtherFamily
 from wanekupo.families import BadDump, NoMac
 from wanekupo.texts import shown
 
 # What an ending means for the chip and for the line: the green box; the red box; the same chip may come again, as
-# nothing is lost; the line stops.
-PASS, RED, AGAIN, STOP = "pass", "red", "again", "stop"
+# nothing is lost; the chip is shipped, and comes again for its label; the line stops.
+PASS, RED, AGAIN, UNLABELLED, STOP = "pass", "red", "again", "unlabelled", "stop"
 
 GREEN_BOX, RED_BOX, ENGINEER = "take it out, green box", "take it out, red box", "call the engineer"
 ONCE_MORE = "put it in once more, and where that fails too, red box"
@@ -27,7 +27,7 @@ UNTOUCHED, LEFT_IN = "touch nothing, and ", "leave the chips in, and "
 ASK_WHERE = "take it out, and ask where it comes from"
 NEXT_ORDER = "ask for the next order"
 SCRAP_OR_NEXT = f"take it out, and have the red box scrapped, or {NEXT_ORDER}"
-LABEL_ANEW = "look at the printer, and put the chip in once more"
+LABEL_ANEW = "keep it apart, look at the printer, and put it in once more"
 
 
 @dataclass(frozen=True)
@@ -53,11 +53,15 @@ class Ending:
 
     def counts(self) -> bool:
         """Whether it counts in the row of failed chips, of which so many stop the line."""
-        return self.effect in (RED, AGAIN) and self.name not in UNCOUNTED
+        return self.effect in (RED, AGAIN, UNLABELLED) and self.name not in UNCOUNTED
 
     def is_failure(self) -> bool:
         """Whether the shift counts the chip as failed. One that only lacks its label is counted once it has passed."""
-        return self.counts() and self.name != "no_label"
+        return self.counts() and self.effect != UNLABELLED
+
+    def is_gone(self) -> bool:
+        """Whether the server has the chip as shipped or scrapped, and no hook runs for it any more."""
+        return self.effect == PASS or self.name in ("shipped_before", "scrapped_before")
 
 
 # What a sentence may have filled in.
@@ -105,6 +109,7 @@ TABLE = [
     Ending("too_long", STOP, "What answers isn't the server", ENGINEER),
     # espefuse, and the chip behind it.
     Ending("no_chip", AGAIN, "No chip answers in the socket ({detail})", "press it in, and begin again"),
+    Ending("no_port", STOP, "The socket's port can't be opened ({detail})", ENGINEER),
     Ending("no_tool", STOP, "What reads the chip doesn't start ({detail})", ENGINEER),
     Ending("no_dump", AGAIN, "This is no chip of the recipe's kind ({detail})", "take it out, and look at it"),
     Ending("no_mac", AGAIN, "The chip shows no factory address ({detail})", ONCE_MORE),
@@ -119,7 +124,7 @@ TABLE = [
     Ending("hook_failed", AGAIN, "The command {hook} failed ({detail})", ONCE_MORE),
     Ending("hook_late", AGAIN, "The command {hook} took too long ({detail})", ONCE_MORE),
     Ending("no_public_key", STOP, "The command before_identity left no public key ({detail})", ENGINEER),
-    Ending("no_label", AGAIN, "The chip is shipped as {serial} and has no label ({detail})", LABEL_ANEW),
+    Ending("no_label", UNLABELLED, "The chip is shipped as {serial}, its label is missing ({detail})", LABEL_ANEW),
     # This machine.
     Ending("disk_full", STOP, "The disk of this bench is full", LEFT_IN + ENGINEER),
     Ending("disk", STOP, "A file of this bench can't be written ({detail})", LEFT_IN + ENGINEER),
@@ -153,6 +158,7 @@ OF_STATION: list[tuple[type[StationError], str]] = [
     (NoEspefuse, "no_tool"),
     (ChangedUnasked, "changed"),
     (NoKey, "no_key"),
+    (NoPort, "no_port"),
     (NoMac, "no_mac"),
     (BadStateFile, "bad_file"),
     (BadJournal, "bad_file"),
@@ -180,7 +186,8 @@ def ended_by(error: BaseException, step: str) -> Ended:
     if isinstance(error, Refused):
         return Ended(REFUSALS.get(error.no, "refused"), no=error.no, detail=str(error))
     if isinstance(error, StationError):
-        return Ended(_of_station(error, step), detail=str(error).removeprefix("espefuse says: "))
+        detail = str(error).removeprefix("espefuse says: ")
+        return Ended(_of_station(error, step), detail=detail, output=getattr(error, "output", ""))
     if isinstance(error, ssl.SSLCertVerificationError):
         return Ended("certificate")
     if isinstance(error, subprocess.SubprocessError):
@@ -194,6 +201,8 @@ def _of_station(error: StationError, step: str) -> str:
     for kind, name in OF_STATION:
         if isinstance(error, kind):
             return name
+    if isinstance(error, OtherFamily):
+        return "no_dump" if step == "read" else "other_chip"
     if isinstance(error, EspefuseFailed):
         return "other_chip" if "another chip" in str(error) else _of_tool(step)
     if isinstance(error, BadDump):

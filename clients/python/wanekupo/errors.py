@@ -7,6 +7,10 @@ from typing import Any, Mapping
 from wanekupo.texts import shown
 
 
+# Where the package has its pages.
+PAGES = "/usr/share/doc/wanekupo-client/docs"
+
+
 class StationError(Exception):
     """What a station can't do by itself. Its text says what happened; it may have words of a server, and is safe to
     print. `advice` says in whole sentences what a person does then."""
@@ -62,8 +66,9 @@ class NoReply(StationError):
 
 class NotTheServer(StationError):
     """A proxy's page, or what else isn't one of the server's replies, until the station's patience ended. A POST is
-    still under way."""
+    still under way. `status` is the page's."""
 
+    status = 0
     advice = (
         "Look at the address, and at the proxy between. A request that was sent stays under way: wanekupo finish sends "
         "it again."
@@ -114,7 +119,7 @@ class BadKey(StationError):
 class Differs(StationError):
     """A restored store answers otherwise than the lost one did."""
 
-    advice = "A journal is missing, or two clocks differ: the page on restoring a store says what to do."
+    advice = f"A journal is missing, or two clocks differ: look into {PAGES}/how-to/back-up-and-restore.md."
 
 
 class NoReports(StationError):

@@ -1,13 +1,14 @@
 """espefuse's words: how it is found, which of its versions are known, and how a batch is burnt by one start of it.
 
 A key never reaches a screen, a log or a command line. espefuse gets it in a file of the memory (`memfd_create`) that
-has no name, since `burn_block_data` doesn't turn the bytes of a key around and wants a file that has them so. And what
-espefuse prints is kept from everybody, since `burn_block_data` prints the key: of a failure one line is told, without
-what could be one.
+has no name, since `burn_block_data` doesn't turn the bytes of a key around and wants a file that has them so. Of what
+espefuse prints nothing is told but where it fails: its reason, and the whole for the log, both without what could be a
+key, since `burn_block_data` prints it.
 """
 
 from __future__ import annotations
 
+import argparse
 import contextlib
 import hashlib
 import os
@@ -22,7 +23,7 @@ from typing import Any, Iterator, Mapping, Optional, Protocol, Sequence
 from wanekupo.errors import StationError
 from wanekupo.families import VERSION, Blocks, Dump, Family, Told, bytes_of, dump_of, family_of, reversed_names
 from wanekupo.replies import Work
-from wanekupo.texts import shown
+from wanekupo.texts import shown, without_secrets
 
 # The names of the program: Debian's and version 5's, and that of version 4 as Python's own packages have it.
 TOOLS = ("espefuse", "espefuse.py")
@@ -38,8 +39,21 @@ LOOK = "Look at the chip, its socket and the cable."
 UNASKED = "--do-not-confirm"
 TURNED = "python3 -c 'import sys; sys.stdout.buffer.write(sys.stdin.buffer.read()[::-1])'"
 
-# What could be a key: sixteen hexadecimal digits or more, in bytes, in words or in one.
-SECRET = re.compile(r"(?:0x)?(?:[0-9a-fA-F]{2}[ ,:]?){7,}[0-9a-fA-F]{2}")
+# What could be a key: sixteen hexadecimal digits or more, in bytes, words or one, and bytes as Python writes them.
+SECRET = re.compile(r"(?:0x)?(?:[0-9a-fA-F]{2}[ ,:]?){7,}[0-9a-fA-F]{2}|\bb(['\"])(?:\\.|[^\\\n])*?\1")
+
+# How much of the end of what espefuse printed a log gets, and of its reason a screen.
+KEPT_OUTPUT, SHOWN_REASON = 1 << 16, 120
+
+# What espefuse says where it fails, of another family's chip (4.7; 5 has a comma) and of a port; and how the last line
+# of a traceback or of a word that it doesn't know begins, which it prints where nothing catches the error.
+FATAL = re.compile(r"^A fatal error occurred:\s*(.*)", re.MULTILINE)
+OTHER_CHIP = re.compile(r"This chip is (ESP[\w()-]+),? not (?:an? )?(ESP[\w()-]+)")
+CLOSED_PORT = re.compile(r"Could not open (\S+), the port is busy or doesn't exist")
+CLASS = re.compile(r"^[\w.]+: (?=.)")
+
+# An adapter's port, which stays where it is while no chip is in. Any other, as /dev/ttyACM0, may be a chip's own.
+STAYING = re.compile(r"/dev/tty(?:USB|S)\d+|/dev/serial/.*-port\d+")
 
 
 class NoEspefuse(StationError):
@@ -47,7 +61,17 @@ class NoEspefuse(StationError):
 
 
 class EspefuseFailed(StationError):
-    """espefuse didn't do what it was asked."""
+    """espefuse didn't do what it was asked. `output` is what it printed, without what could be a key."""
+
+    output = ""
+
+
+class OtherFamily(EspefuseFailed):
+    """The chip in the socket is of another family."""
+
+
+class NoPort(EspefuseFailed):
+    """The port of a socket isn't there, or can't be opened."""
 
 
 class ChangedUnasked(StationError):
@@ -137,24 +161,63 @@ def _ran(words: Sequence[str], files: Sequence[int] = ()) -> str:
     options = {"stdin": subprocess.DEVNULL, "capture_output": True, "text": True, "errors": "replace"}
     try:
         done = subprocess.run(list(words), pass_fds=files, timeout=LONGEST, **options)  # type: ignore[call-overload]
-    except subprocess.TimeoutExpired:
-        raise EspefuseFailed(f"espefuse took more than {LONGEST} seconds", LOOK) from None
+    except subprocess.TimeoutExpired as late:
+        said = b"".join(it if isinstance(it, bytes) else b"" for it in (late.stdout, late.stderr))
+        failed = EspefuseFailed(f"espefuse took more than {LONGEST} seconds", LOOK)
+        failed.output = _kept(said.decode(errors="replace"))
+        raise failed from None
     except OSError as error:
         raise NoEspefuse(f"{words[0]} can't be run ({error.strerror})", f"{INSTALL}, or name its command.") from None
     if done.returncode:
-        raise EspefuseFailed(*_told(done.stdout + done.stderr, done.returncode))
+        failed = _failed(done.stdout, done.stderr, done.returncode)
+        failed.output = _kept(done.stdout + done.stderr)
+        raise failed
     return done.stdout
 
 
-def _told(output: str, status: int) -> tuple[str, str]:
-    """What failed, by the line in which espefuse says why, without what could be a key; and what to do."""
+def _kept(output: str) -> str:
+    """The end of what espefuse printed, for a log."""
+    return SECRET.sub("[a key]", without_secrets(output))[-KEPT_OUTPUT:]
+
+
+def _failed(out: str, err: str, status: int) -> EspefuseFailed:
+    """What failed, by the line in which espefuse says why, and what to do."""
+    output = out + err
     if "Type 'BURN'" in output:
-        return "espefuse asks whether it may burn", f"Add {UNASKED} to its command."
-    found = re.search(r"^A fatal error occurred:\s*(.*)", output, re.MULTILINE)
-    if not found:
-        return f"espefuse ended with status {status}, and didn't say why", "Run its command with dump by hand."
-    reason = SECRET.sub("..", found[1]).strip().rstrip(".")
-    return f"espefuse says: {reason}", LOOK
+        return EspefuseFailed("espefuse asks whether it may burn", f"Add {UNASKED} to its command.")
+    fatal, other, port = FATAL.search(output), OTHER_CHIP.search(output), CLOSED_PORT.search(output)
+    if other:
+        told = f"this chip is an {other[1]}, and not an {other[2]}"
+        return OtherFamily(told, "Take it out, or name its family.")
+    if port:
+        return _no_port(port[1], output)
+    lines = [fatal[1]] if fatal else [CLASS.sub("", it) for it in err.splitlines() if it.strip()]
+    if not lines:
+        told = f"espefuse ended with status {status}, and didn't say why"
+        return EspefuseFailed(told, "Run its command with dump by hand.")
+    reason = SECRET.sub("..", without_secrets(lines[-1])).strip().rstrip(".")[:SHOWN_REASON]
+    return EspefuseFailed(f"espefuse says: {reason}", LOOK)
+
+
+def _no_port(port: str, output: str) -> EspefuseFailed:
+    """What is told of a port that espefuse couldn't open. A chip's own isn't there where the chip isn't."""
+    if not os.path.exists(port):
+        kind = NoPort if STAYING.fullmatch(port) else EspefuseFailed
+        return kind(f"the port {port} isn't there", "Look at the cable, and at the name: ls -l /dev/serial/by-path.")
+    if "Permission denied" in output:
+        return NoPort(f"this user may not open the port {port}", "Put the user into the group dialout.")
+    return NoPort(f"another program has the port {port}, or it fails", "End that program, and look at the cable.")
+
+
+def port_fault(tool: Sequence[str]) -> str:
+    """What is wrong with the port that a command names, or nothing. A chip's own isn't there before the chip."""
+    options = argparse.ArgumentParser(add_help=False, allow_abbrev=False)
+    options.add_argument("--port", "-p", nargs="?", const="", default="")
+    port = options.parse_known_args(tool[1:])[0].port
+    if not os.path.exists(port):
+        return f"there is no port {port}: plug it in, or mend its name" if STAYING.fullmatch(port) else ""
+    may_not = f"this user may not open the port {port}: adduser USER dialout as root, and log in anew"
+    return "" if os.access(port, os.R_OK | os.W_OK) else may_not
 
 
 @dataclass(frozen=True)

@@ -8,6 +8,7 @@ from __future__ import annotations
 import contextlib
 import errno
 import os
+import shutil
 import stat
 from pathlib import Path
 from typing import IO, Iterator
@@ -23,6 +24,12 @@ IS_POSIX = os.name == "posix"
 NOFOLLOW = getattr(os, "O_NOFOLLOW", 0)
 NONBLOCK = getattr(os, "O_NONBLOCK", 0)  # a pipe in a file's place is opened at once, and refused
 PRIVATE = 0o600
+
+# How much of a file is overwritten at once.
+BLOCK = 1 << 20
+
+# What a person does where another thing than a file is named.
+NAME = "Look at its name, and name a file."
 
 # Who may write a file or a folder beside its owner.
 OTHERS_WRITE = stat.S_IWGRP | stat.S_IWOTH
@@ -58,9 +65,10 @@ def opened_plain(file: str | os.PathLike[str], flags: int, follows_links: bool =
         if NOFOLLOW and not follows_links and error.errno == errno.ELOOP:
             raise UnsafeFile(f"{file} is a link, and isn't followed") from error
         raise
-    if not stat.S_ISREG(os.fstat(opened).st_mode):
+    mode = os.fstat(opened).st_mode
+    if not stat.S_ISREG(mode):
         os.close(opened)
-        raise UnsafeFile(f"{file} is no plain file")
+        raise UnsafeFile(f"{file} is no plain file{', but a folder' if stat.S_ISDIR(mode) else ''}", NAME)
     return opened
 
 
@@ -144,3 +152,33 @@ def replaced(file: Path, mode: int, is_exact: bool = False) -> Iterator[IO[bytes
             os.unlink(new)
         raise
     synced_folder(file.parent)
+
+
+def removed_folder(folder: Path) -> None:
+    """Removes a folder with all that is in it, and overwrites its files before, as far as their file system lets one:
+    what it wrote elsewhere meanwhile, as on a flash disk, stays there. No link is followed."""
+    if folder.is_symlink():
+        folder.unlink()
+        return
+    for path, _, files in os.walk(folder):
+        for name in files:
+            with contextlib.suppress(OSError):
+                _overwrite(os.path.join(path, name))
+    shutil.rmtree(folder)
+    synced_folder(folder.parent)
+
+
+def _overwrite(file: str) -> None:
+    """Puts zeros in the place of a plain file's bytes. One with another name elsewhere keeps them."""
+    found = os.lstat(file)
+    if not stat.S_ISREG(found.st_mode) or found.st_nlink != 1:
+        return
+    os.chmod(file, PRIVATE)
+    opened = os.open(file, os.O_WRONLY | NOFOLLOW | NONBLOCK)
+    try:
+        left = found.st_size
+        while left > 0:
+            left -= os.write(opened, bytes(min(left, BLOCK)))
+        os.fsync(opened)
+    finally:
+        os.close(opened)

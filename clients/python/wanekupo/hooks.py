@@ -8,7 +8,6 @@ from __future__ import annotations
 
 import contextlib
 import os
-import re
 import select
 import signal
 import subprocess
@@ -20,19 +19,10 @@ from typing import IO, Callable, Mapping, Optional
 
 from wanekupo.endings import Ended
 from wanekupo.recipe import Command
-from wanekupo.texts import shown
+from wanekupo.texts import shown, without_secrets
 
 # What of a hook's output is kept in the log, and what of its last line comes on a screen.
 KEPT_OUTPUT, SHOWN_OUTPUT = 1 << 16, 120
-
-# What a log never has, whatever a hook prints: private keys as PEM, and digits of 32 bytes or more, in one piece or by
-# bytes or words, as a dump prints them.
-SECRETS = (
-    re.compile(r"-----BEGIN [A-Z0-9 ]*PRIVATE KEY-----.*?(-----END [A-Z0-9 ]*PRIVATE KEY-----|\Z)", re.DOTALL),
-    re.compile(r"[0-9A-Fa-f]{64,}"),
-    re.compile(r"\b(?:[0-9A-Fa-f]{2}[\s:,]+){31,}[0-9A-Fa-f]{2}"),
-    re.compile(r"\b(?:[0-9A-Fa-f]{8}[\s:,]+){7,}[0-9A-Fa-f]{8}"),
-)
 
 
 @dataclass(frozen=True)
@@ -43,13 +33,6 @@ class Done:
     status: Optional[int]
     seconds: float
     output: str
-
-
-def without_secrets(text: str, kept: tuple[str, ...] = ()) -> str:
-    """A hook's output without what may be a key; digests in `kept` are no secret, and stay."""
-    for secret in SECRETS:
-        text = secret.sub(lambda it: it[0] if it[0].strip().lower() in kept else "[a key]", text)
-    return text
 
 
 def run_hook(command: Command, facts: Mapping[str, str], here: Path, log: Callable[[Done], None]) -> None:

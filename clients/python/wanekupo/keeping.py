@@ -2,7 +2,7 @@
 
     bench.json                 what is under way, each socket's last chip and the counts, replaced before each step
     log-2026-11-29.jsonl       a line of JSON for each chip that ended, and for each hook with what it printed
-    chips/240ac4000001/        the keys that were made for a chip, and what before_identity left
+    chips/240ac4000001/        the keys that were made for a chip, and what before_identity left, until it is done with
 
 The folder is one user's and one bench's. The station's own journal, which a restore goes by, isn't here.
 """
@@ -12,6 +12,7 @@ from __future__ import annotations
 import contextlib
 import json
 import os
+import re
 import threading
 import time
 from dataclasses import asdict
@@ -20,8 +21,12 @@ from typing import Any, Mapping, Optional
 
 from wanekupo.board import PASSED, Failure, Shift, Socket
 from wanekupo.errors import BadStateFile
-from wanekupo.files import locked, opened_lock, opened_own, replace_file, synced_folder, tested_folder
+from wanekupo.files import locked, opened_lock, opened_own, removed_folder, replace_file, synced_folder, tested_folder
 from wanekupo.texts import compact_json
+
+
+# The name of a chip, and so of its folder.
+CHIP = re.compile("[0-9a-f]{12}")
 
 
 def now_text() -> str:
@@ -41,7 +46,8 @@ class Kept:
         except OSError as error:
             self.close()
             raise BadStateFile(f"{folder} is another bench's", "End that one, or have another folder.") from error
-        self._data: dict[str, Any] = {"last": {}, "map": "", "shift": asdict(Shift(now_text())), "under_way": {}}
+        shift = asdict(Shift(now_text()))
+        self._data: dict[str, Any] = {"last": {}, "map": "", "shift": shift, "under_way": {}, "going": []}
         try:
             self._read(folder / "bench.json")
         except BaseException:
@@ -52,7 +58,8 @@ class Kept:
         try:
             with open(opened_own(file, os.O_RDONLY), "rb") as source:
                 found = json.loads(source.read())
-            self._data = {name: found[name] for name in self._data}
+            self._data = {name: found[name] for name in self._data if name != "going" or name in found}
+            self._data.setdefault("going", [])
             self.shift()
             self.last()
         except FileNotFoundError:
@@ -84,14 +91,17 @@ class Kept:
         with self._turn:
             chips = self.under_way()
             since = chips.get(chip, {}).get("since") or now_text()
-            self._keep(under_way={**chips, chip: {"socket": socket, "step": step, "since": since}})
+            begun = {**chips, chip: {"socket": socket, "step": step, "since": since}}
+            self._keep(under_way=begun, going=[it for it in self._going("") if it != chip])
 
-    def ended(self, last: Socket, shift: Shift, is_done: bool) -> None:
-        """A chip has ended so in a socket, and `shift` has counted it. One that isn't done stays under way."""
+    def ended(self, last: Socket, shift: Shift, is_done: bool, goes: bool = False) -> None:
+        """A chip has ended so in a socket, and `shift` has counted it. One that isn't done stays under way, and of one
+        that `goes` the folder is to go."""
         with self._turn:
             chips = {name: it for name, it in self.under_way().items() if name != last.chip or not is_done}
             lasts = {**self._data["last"], last.name: asdict(last)}
-            self._keep(last=lasts, shift=asdict(shift), under_way=chips)
+            going = self._going(last.chip if goes else "")
+            self._keep(last=lasts, shift=asdict(shift), under_way=chips, going=going)
 
     def counted(self, shift: Shift) -> None:
         """The counts are others, as of a new shift."""
@@ -107,12 +117,14 @@ class Kept:
         """Whether a chip passed as the last one of a socket: it may not have been taken out yet."""
         return any((it.chip, it.state) == (chip, PASSED) for it in self.last().values())
 
-    def forget(self, chip: str) -> bool:
-        """Takes a chip from those that are under way; whether it was among them."""
+    def forget(self, chip: str, goes: bool = False) -> bool:
+        """Takes a chip from those that are under way; whether it was among them. Of one that `goes` the folder is to
+        go."""
         with self._turn:
             is_there = chip in self._data["under_way"]
-            if is_there:
-                self._keep(under_way={name: it for name, it in self.under_way().items() if name != chip})
+            if is_there or goes:
+                chips = {name: it for name, it in self.under_way().items() if name != chip}
+                self._keep(under_way=chips, going=self._going(chip if goes else ""))
             return is_there
 
     def shift(self) -> Shift:
@@ -139,6 +151,28 @@ class Kept:
             folder.mkdir(mode=0o700)
             synced_folder(folder.parent)
         return folder
+
+    def chips(self) -> list[str]:
+        """The chips that have a folder."""
+        return sorted(it.name for it in (self._folder / "chips").iterdir() if CHIP.fullmatch(it.name) and it.is_dir())
+
+    def _going(self, chip: str) -> list[str]:
+        """The chips whose folders are to go and are still there, with one more."""
+        known = [it for it in {*self._data["going"], chip} if CHIP.fullmatch(it)]
+        return sorted(it for it in known if (self._folder / "chips" / it).is_dir())
+
+    def clear(self, *chips: str) -> None:
+        """Removes the folders that are to go, and those of these chips; none of a chip that is under way. Each is
+        tried, also behind one that fails."""
+        faults: list[OSError] = []
+        with self._turn:
+            for chip in {*self._going(""), *chips} - self._data["under_way"].keys():
+                try:
+                    removed_folder(self._folder / "chips" / chip)
+                except OSError as error:
+                    faults.append(error)
+        if faults:
+            raise faults[0]
 
     # The log.
 

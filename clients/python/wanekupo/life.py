@@ -190,6 +190,8 @@ class Life:
         asked: list[dict[str, Any]] = []
         for wish in self.line.recipe.wishes:
             is_key = wish.kind == "key"
+            if is_key and wish.field not in self.keys:
+                continue  # that of a shipped chip, which isn't here any more
             asked += wishes_of(family, wish.field, self.keys[wish.field]) if is_key else [wish.asked()]
         return asked
 
@@ -252,6 +254,8 @@ class Life:
                 continue
             file = wish.file or self.line.kept.folder_of(self.chip) / f"{wish.field}.key"
             is_known = wish.field in known
+            if device.state == "shipped" and wish.command and not file.exists():
+                continue  # it went with the chip
             if wish.command and not file.exists() and not is_known:
                 if device.state not in PLANNED_ANEW:
                     raise Ended("other_wishes", detail=wish.field)

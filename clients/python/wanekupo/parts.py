@@ -27,6 +27,8 @@ class Named:
         except OSError as error:
             raise Ended("no_tool", detail=f"{self._tool[0]}: {error.strerror}") from error
         name = re.sub("[:-]", "", done.stdout.strip().lower())
+        if not name:
+            raise Ended("no_chip", detail="its command prints nothing")
         if not re.fullmatch("[0-9a-f]{12}", name):
             raise Ended("no_dump", detail="its command prints no 12 hexadecimal digits")
         return NoFuses(name).read()

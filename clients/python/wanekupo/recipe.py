@@ -26,7 +26,8 @@ STARTS = ("key", "scan", "chip")
 LONGEST_HOOK, LONGEST_TOOL = 60.0, 120.0
 
 # Names of the recipe, and of each of its tables.
-TOP = ("name", "order", "map", "family", "start", "page", "folder", "server", "wish", "sockets", "hooks", "stop")
+TOP = ("name", "order", "map", "family", "start", "page", "folder", "keep_folder")
+TABLES = ("server", "wish", "sockets", "hooks", "stop")
 WISHES = {
     "bit": ("index",),
     "value": ("value",),
@@ -39,7 +40,7 @@ WISHES = {
 class BadRecipe(StationError):
     """A recipe lacks something, or has what can't be used."""
 
-    advice = "Mend the recipe: the page 'Run a bench' of the documentation has its form."
+    advice = "Mend the recipe: man wanekupo-recipe has its form."
 
 
 @dataclass(frozen=True)
@@ -75,7 +76,8 @@ class Wish:
 @dataclass(frozen=True)
 class Recipe:
     """`start` is what begins a chip: a `key`, a `scan` of its traveller, or the `chip` itself once it answers. `page`
-    is the port of the page on this machine, 0 for none; `server` are settings that win over the configuration's."""
+    is the port of the page on this machine, 0 for none; `server` are settings that win over the configuration's. With
+    `keep_folder` the files of a chip stay behind its last hook."""
 
     file: Path
     name: str
@@ -90,6 +92,7 @@ class Recipe:
     start: str = "key"
     page: int = 8091
     folder: Optional[Path] = None
+    keep_folder: bool = False
 
     def digest(self) -> str:
         """What the server knows the map by."""
@@ -111,7 +114,7 @@ def recipe_of(file: Path) -> Recipe:
 
 
 def _recipe(file: Path, table: Mapping[str, Any]) -> Recipe:
-    _known(table, TOP, "the recipe")
+    _known(table, TOP + TABLES, "the recipe")
     here = file.parent
     stop = _table(table, "stop")
     _known(stop, ("lost_in_a_row",), "[stop]")
@@ -133,6 +136,7 @@ def _recipe(file: Path, table: Mapping[str, Any]) -> Recipe:
         _one_of(table.get("start", "key"), STARTS, "start"),
         _whole(table, "page", 8091, 0),
         here / _text(table, "folder", "the recipe") if "folder" in table else None,
+        _truth(table, "keep_folder"),
     )
 
 
@@ -177,6 +181,13 @@ def _whole(table: Mapping[str, Any], name: str, otherwise: int, least: int) -> i
     found = table.get(name, otherwise)
     if type(found) is not int or found < least:
         raise ValueError(f"{name} is no whole number from {least} on")
+    return found
+
+
+def _truth(table: Mapping[str, Any], name: str) -> bool:
+    found = table.get(name, False)
+    if not isinstance(found, bool):
+        raise ValueError(f"{name} is {found!r}, and may be true or false")
     return found
 
 

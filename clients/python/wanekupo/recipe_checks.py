@@ -13,7 +13,7 @@ import stat
 from pathlib import Path
 from typing import Iterator, Optional
 
-from wanekupo.espefuse import EspefuseFailed, NoEspefuse, version_of
+from wanekupo.espefuse import EspefuseFailed, NoEspefuse, port_fault, version_of
 from wanekupo.families import Family, family_of, names
 from wanekupo.parts import NO_FUSES
 from wanekupo.recipe import Recipe, Wish
@@ -127,6 +127,8 @@ def _tool_faults(recipe: Recipe) -> Iterator[str]:
             yield f"the command of the socket {name} can't be run: {words[0]} isn't there, or lacks chmod +x"
         elif recipe.family != NO_FUSES and (told := _version_fault(words)):
             yield f"the command of the socket {name} is no espefuse that is known: {told}"
+        elif recipe.family != NO_FUSES and (told := port_fault(words)):
+            yield f"the socket {name}: {told}"
 
 
 def _version_fault(words: tuple[str, ...]) -> str:

@@ -223,7 +223,9 @@ def body_of(status: int, kind: str, data: bytes, path: str, members: Mapping[str
     if status == 200 and strange is None or status != 200 and _is_refusal(body):
         return body
     told = f", {strange}" if strange else ""
-    raise NotTheServer(f"another's reply: status {status}, {kind}{told}: {data[:60]!r}")
+    page = NotTheServer(f"another's reply: status {status}, {kind}{told}: {data[:60]!r}")
+    page.status = status
+    raise page
 
 
 def accepted(status: int, body: Any) -> Any:

@@ -43,6 +43,8 @@ class Line(Protocol):
 
     def tell_begun(self, ended: str = "") -> None: ...
 
+    def clear(self) -> None: ...
+
 
 def chip_named(text: str) -> Optional[str]:
     """The chip that a scanned or typed text names, also with the colons of a MAC."""
@@ -164,7 +166,8 @@ class Scrapping:
         told = f"The chip {chip} is scrapped ({reason}): it is done with."
         try:
             self._line.kept.log({"scrapped": chip, "reason": reason})
-            self._line.kept.forget(chip)
+            self._line.kept.forget(chip, not self._line.recipe.keep_folder)
+            self._line.clear()
         except OSError as error:
             told += f" The bench didn't keep that. {sentence_of(error)}"
         self._line.tell_begun()

@@ -102,8 +102,12 @@ def _verify(args: argparse.Namespace) -> int:
             told = "Name the folder of the seals, or leave these words away."
             raise BadSettings("two files of rows have no signature and no stamp that could be held", told)
         return _told(_between(*places))
-    if len(places) != 1 or not places[0].is_dir():
-        raise BadSettings("nothing is named that can be compared", "Give A B, two files of rows, or a FOLDER of seals.")
+    told = "Give A B, two files of rows, the earlier one first, or one FOLDER of seals."
+    if len(places) != 1:
+        raise BadSettings(f"{len(places)} places are named", told)
+    if not places[0].is_dir():
+        happened = f"{places[0]} is one file alone" if places[0].exists() else f"there is no folder {places[0]}"
+        raise BadSettings(happened, told)
     if args.minisign and args.cms:
         raise BadSettings("both --minisign and --cms are given", "Give the one by which these seals were signed.")
     minisign, cms = (Path(it) if it else None for it in (args.minisign, args.cms))
@@ -113,6 +117,9 @@ def _verify(args: argparse.Namespace) -> int:
 
 def _between(before: Path, after: Path) -> list[str]:
     """What is wrong with two files that somebody names, and between them."""
+    numbers = [it.name.partition(".")[0] for it in (before, after)]
+    if all(it.isdecimal() for it in numbers) and int(numbers[0]) > int(numbers[1]):
+        raise BadSettings(f"{before} is of a later seal than {after}", f"Name the earlier one first: {after} {before}.")
     texts = {file: rows_of(file) for file in (before, after)}
     bad = [f"{file}: {it}." for file, text in texts.items() for it in text.bad]
     return bad + folder.sentences_of(texts[before], texts[after])

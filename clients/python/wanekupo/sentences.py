@@ -10,7 +10,7 @@ import ssl
 import subprocess
 import traceback
 
-from wanekupo.errors import OutOfStep, Refused, StationError
+from wanekupo.errors import PAGES, OutOfStep, Refused, StationError
 from wanekupo.texts import shown
 
 # What each refusal of docs/reference/api.md means, and what to do.
@@ -21,7 +21,10 @@ REFUSALS = {
     4: ("the request came in pieces without a length", "Look at the proxy between: it has to pass requests on whole."),
     6: ("the server doesn't know the token", "Look whether it ended. station-token's tokens work through nginx alone."),
     7: ("the server doesn't know this request", "The server is an older one than this client: compare their versions."),
-    8: ("this token may not ask for that", "Take the token of a seat, or for the site's report the manager's."),
+    8: (
+        "this token may not ask for that",
+        "One that only looks changes nothing: take the seat's own. The site's report takes the manager's.",
+    ),
     9: ("the request is no JSON", "This client isn't the server's: mend it."),
     10: ("the request lacks something, or has a word of another form", "Look at the words: names, digits and numbers."),
     13: ("the customer has imported no such map", "Import the map first: wanekupo map FILE."),
@@ -32,14 +35,14 @@ REFUSALS = {
     ),
     16: ("it is there already", "Look at it: wanekupo device CHIP, or wanekupo order NAME."),
     17: ("the device's state doesn't allow it", "Look at it, and go on by its state: wanekupo device CHIP."),
-    18: ("each place of the order is taken", "Take another order, or scrap a device that is lost."),
+    18: ("each place of the order is taken", "Take another order: each device keeps its place until it is scrapped."),
     19: ("the map has no field of this name", "Look at the names of the map's fields."),
     20: ("the field has no bit of this number", "Look at the map: the first bit of a field is 0."),
     21: ("the value doesn't fit into its field", "Look at the digits: the highest comes first."),
-    22: ("a bit is to be 0 that is burnt already", "Leave it out, or put the chip aside and scrap it."),
+    22: ("a bit is to be 0 that is burnt already", "Look at the wish. Where it is right put the chip aside."),
     23: ("two of the wishes contradict each other", "Look at them: one place is to be both 0 and 1, or has two keys."),
     24: ("a wish is of another kind than its field", "Wish for a key in key fields alone, and for bits in others."),
-    25: ("the key block has another key", "Leave it out, or put the chip aside and scrap it."),
+    25: ("the key block has another key", "Look which file the key is of. Where it is right put the chip aside."),
     26: ("something can't be burnt any more, as its write lock is", "Leave it out, or put the chip aside."),
     27: ("something can't be read any more, as its read lock is burnt", "Leave it out, or put the chip aside."),
     28: ("the field has no such lock", "Look at the map, and leave the lock out."),
@@ -65,7 +68,7 @@ STOPPED_HIGHER = (
 )
 STOPPED_LOWER = (
     "The store is an older one. Unless it was restored on purpose, stop its server now, keep all stations off, and "
-    "restore it from step 1 of the page on restoring."
+    f"restore it from step 1 of {PAGES}/how-to/back-up-and-restore.md."
 )
 
 # What a call to the machine failed with, and what to do, by the class of the error.
@@ -126,12 +129,15 @@ def _stopped(stop: OutOfStep) -> str:
 
 
 def _refused(refused: Refused) -> tuple[str, str]:
-    meaning, advice = REFUSALS.get(refused.no, (refused.name, "Look the number up on the page of the API."))
+    meaning, advice = REFUSALS.get(refused.no, (refused.name, f"Look the number up in {PAGES}/reference/api.md."))
     more = "".join(f", {name} {value}" for name, value in refused.more.items())
     return f"the server refused it: {meaning} (refusal {refused.no}, {refused.name}{more})", advice
 
 
 def _of_file(error: OSError) -> tuple[str, str]:
+    folder = os.path.dirname(os.fsdecode(error.filename)) if isinstance(error.filename, (str, bytes)) else ""
+    if isinstance(error, FileNotFoundError) and folder and not os.path.exists(folder):
+        return f"there is no folder {folder}", "Look at its name, or make it first."
     if error.filename is not None:
         for kind, happened, advice in OF_FILES:
             if isinstance(error, kind):

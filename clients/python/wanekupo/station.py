@@ -118,8 +118,8 @@ class Seat:
         self._state = State(file, token)
         try:
             if not self._state.is_of_the_token() and not new_token:
-                told = "is another token's: --new-token (new_token=True) where it is the same seat's"
-                raise BadStateFile(f"{self._state.file} {told}")
+                told = "Name the seat's own file; or give --new-token where the token is a new one of the same seat."
+                raise BadStateFile(f"{self._state.file} is another token's", told)
             self._state.forget_words()
         except BaseException:
             self.close()

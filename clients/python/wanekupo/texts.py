@@ -20,6 +20,15 @@ COUNT = re.compile(
 )
 NUMBER = re.compile(r"[+-]?[0-9]+(?:\.[0-9]+)?")
 
+# What a log never has, whatever a command prints: private keys as PEM, and digits of 32 bytes or more, in one piece or
+# by bytes or words, as a dump prints them.
+SECRETS = (
+    re.compile(r"-----BEGIN [A-Z0-9 ]*PRIVATE KEY-----.*?(-----END [A-Z0-9 ]*PRIVATE KEY-----|\Z)", re.DOTALL),
+    re.compile(r"[0-9A-Fa-f]{64,}"),
+    re.compile(r"\b(?:[0-9A-Fa-f]{2}[\s:,]+){31,}[0-9A-Fa-f]{2}"),
+    re.compile(r"\b(?:[0-9A-Fa-f]{8}[\s:,]+){7,}[0-9A-Fa-f]{8}"),
+)
+
 # The longest text that stands in a sentence as it is: longer than a name or a digest of the server's.
 LONGEST_SHOWN = 80
 
@@ -30,6 +39,13 @@ def shown(text: str) -> str:
     if text.isprintable():
         return text
     return "".join(it if it.isprintable() else it.encode("unicode_escape").decode("ascii") for it in text)
+
+
+def without_secrets(text: str, kept: tuple[str, ...] = ()) -> str:
+    """What a command printed, without what may be a key; digests in `kept` are no secret, and stay."""
+    for secret in SECRETS:
+        text = secret.sub(lambda it: it[0] if it[0].strip().lower() in kept else "[a key]", text)
+    return text
 
 
 def brief(text: Any) -> str:

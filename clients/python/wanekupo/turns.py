@@ -14,6 +14,9 @@ from wanekupo.station import OTHER_BODY, Station
 
 Made = TypeVar("Made")
 
+# What a proxy answers where the server behind it gives no reply.
+BEHIND = (502, 504)
+
 # How many seconds pass between two tries, beside the station's own patience.
 PAUSE = 1.0
 
@@ -56,8 +59,10 @@ class Turns:
             self._wait(fault)
 
     def _wait(self, fault: Exception) -> None:
-        is_page = isinstance(fault, NotTheServer)
-        self._board.away("something else answers in its place" if is_page else "no reply comes")
+        told = "something else answers in its place" if isinstance(fault, NotTheServer) else "no reply comes"
+        if isinstance(fault, NotTheServer) and fault.status in BEHIND:
+            told = "nginx answers, and the server behind it doesn't"
+        self._board.away(told)
         self._leaving.wait(PAUSE)
 
 

@@ -9,11 +9,14 @@ from __future__ import annotations
 import base64
 import hashlib
 from dataclasses import dataclass
+from datetime import datetime, timezone
 from html import escape
 from pathlib import Path
 from typing import Any, Iterable, Mapping, Sequence
 
+from wanekupo import __version__
 from wanekupo.files import replace_bytes
+from wanekupo.moments import text_of as moment_text
 from wanekupo.texts import csv_lines, shown
 from wanekupo.yields import LOOKS, fill, patterns
 
@@ -65,7 +68,16 @@ def page(title: str, parts: Iterable[str]) -> str:
         "<body>",
         f"<h1>{text(title)}</h1>",
     ]
-    return "\n".join([*head, *parts, "</body>", "</html>", ""])
+    made = paragraph(f"Made by wanekupo {__version__} at {moment_text(datetime.now(timezone.utc))}.")
+    return "\n".join([*head, *parts, made, "</body>", "</html>", ""])
+
+
+def _time(seconds: str) -> str:
+    """How long something took."""
+    if not seconds.isdecimal() or int(seconds) < 120:
+        return f"{seconds} s" if seconds else ""
+    minutes = int(seconds) // 60
+    return f"{minutes} min" if minutes < 120 else f"{minutes // 60} h {minutes % 60} min"
 
 
 def heading(title: str) -> str:
@@ -91,15 +103,20 @@ class Table:
     def texts(self) -> list[list[str]]:
         return [["" if field is None else str(field) for field in row] for row in self.rows]
 
+    def read(self) -> list[list[str]]:
+        """The same as people read it: seconds as minutes or hours."""
+        is_time = [name.endswith("_s") for name in self.columns]
+        return [[_time(field) if its else field for field, its in zip(row, is_time)] for row in self.texts()]
+
     def as_html(self) -> str:
         if not self.rows:
             return f"{heading(self.title)}\n{paragraph(self.nothing)}"
         kinds = [' class="number"' if name in self.numbers else "" for name in self.columns]
-        names = (text(name.replace("_", " ")) for name in self.columns)
+        names = (text(name.removesuffix("_s").replace("_", " ")) for name in self.columns)
         head = "".join(f'<th scope="col"{kind}>{name}</th>' for name, kind in zip(names, kinds))
         rows = [
             "<tr>" + "".join(f"<td{kind}>{text(field)}</td>" for field, kind in zip(row, kinds)) + "</tr>"
-            for row in self.texts()
+            for row in self.read()
         ]
         body = "\n".join(rows)
         return f"{heading(self.title)}\n<table>\n<thead><tr>{head}</tr></thead>\n<tbody>\n{body}\n</tbody>\n</table>"
@@ -108,7 +125,8 @@ class Table:
         """A table for people on a terminal: the columns under each other, those of numbers to the right."""
         if not self.rows:
             return f"{self.title}: {self.nothing}\n"
-        rows = [list(self.columns), *([shown(field) for field in row] for row in self.texts())]
+        names = [name.removesuffix("_s") for name in self.columns]
+        rows = [names, *([shown(field) for field in row] for row in self.read())]
         widths = [max(map(len, column)) for column in zip(*rows)]
         lines = []
         for row in rows:
