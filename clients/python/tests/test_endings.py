@@ -33,7 +33,7 @@ from running import (
 from simulated_chip import SimulatedChip
 from support import DIGEST, LIFE, MAC, MAP, ORDER, Proxy, TlsProxy, steps, whole
 
-from wanekupo.journal import issued, requests_of
+from wanekupo.journal import issued, lines_of, requests_of
 
 
 class Refusing(Proxy):
@@ -119,7 +119,9 @@ class Endings(BenchCase):
             self.assertEqual(bool(bench.board()["stopped"]), reason in ("no_public_key", "hook_missing"))
             self.assertEqual(bench.end(), 0)
         shift = json.loads((self.folder / "a1.json.bench" / "bench.json").read_text("ascii"))["shift"]
-        self.assertEqual((shift["passed"], shift["failed"]), (1, {"hook_failed": 2, "hook_late": 1}))
+        self.assertEqual((shift["passed"], shift["first"], shift["failed"]), (1, 0, {}))
+        ships = [it for it in lines_of(self.folder / "a1.journal") if it.get("path") == "/v1/ship"]
+        self.assertEqual([it["reason"] for it in ships], ["hook_late"])
         self.assertEqual(life_of(self.ledger()), LIFE)
         self.assertEqual(len(issued(requests_of(self.folder / "a1.journal"))), 1)
 

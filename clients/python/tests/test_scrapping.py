@@ -94,7 +94,7 @@ class Scrapping(BenchCase):
         bench = self.failed(hooks={"before_ship": {"command": [broken]}})
         for answer in ("no", "", "left", "o1 left", MAC, "yes yes", "scrapped"):
             bench.said(f"scrap {MAC}")
-            self.assertIn("It is identified. The bench said: The command before_ship failed", self.asked_about(bench))
+            self.assertIn("used up for good. The bench said: The command before_ship failed", self.asked_about(bench))
             bench.said(answer)
             self.assertEqual(bench.board()["notice"], f"The chip {MAC} isn't scrapped.")
         for word, is_stopped in (("stop", True), ("go", False)):

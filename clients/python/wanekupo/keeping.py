@@ -1,6 +1,7 @@
 """What a bench keeps in its folder: which chips it has begun, the shift's counts, its log, and each chip's own files.
 
-    bench.json                 what is under way, each socket's last chip and the counts, replaced before each step
+    bench.json                 what is under way, each socket's last chip, the counts and which chips failed before,
+                               replaced before each step
     log-2026-11-29.jsonl       a line of JSON for each chip that ended, and for each hook with what it printed
     chips/240ac4000001/        the keys that were made for a chip, and what before_identity left
 
@@ -18,10 +19,15 @@ from dataclasses import asdict
 from pathlib import Path
 from typing import Any, Mapping, Optional
 
-from wanekupo.board import PASSED, Failure, Shift, Socket
+from wanekupo.board import PASSED, Before, Failure, Shift, Socket
+from wanekupo.endings import UNLABELLED, Ended
 from wanekupo.errors import BadStateFile
 from wanekupo.files import locked, opened_lock, opened_own, replace_file, synced_folder, tested_folder
 from wanekupo.texts import compact_json
+
+
+# Why a chip isn't at its first stay that another bench began; and how many that failed are known, the last ones.
+ELSEWHERE, MOST_BEFORE = "elsewhere", 1000
 
 
 def now_text() -> str:
@@ -41,7 +47,8 @@ class Kept:
         except OSError as error:
             self.close()
             raise BadStateFile(f"{folder} is another bench's", "End that one, or have another folder.") from error
-        self._data: dict[str, Any] = {"last": {}, "map": "", "shift": asdict(Shift(now_text())), "under_way": {}}
+        shift = asdict(Shift(now_text()))
+        self._data: dict[str, Any] = {"before": {}, "last": {}, "map": "", "shift": shift, "under_way": {}}
         try:
             self._read(folder / "bench.json")
         except BaseException:
@@ -51,7 +58,7 @@ class Kept:
     def _read(self, file: Path) -> None:
         try:
             with open(opened_own(file, os.O_RDONLY), "rb") as source:
-                found = json.loads(source.read())
+                found = {"before": {}, **json.loads(source.read())}
             self._data = {name: found[name] for name in self._data}
             self.shift()
             self.last()
@@ -86,12 +93,37 @@ class Kept:
             since = chips.get(chip, {}).get("since") or now_text()
             self._keep(under_way={**chips, chip: {"socket": socket, "step": step, "since": since}})
 
-    def ended(self, last: Socket, shift: Shift, is_done: bool) -> None:
-        """A chip has ended so in a socket, and `shift` has counted it. One that isn't done stays under way."""
+    def ended(self, last: Socket, ended: Ended) -> Shift:
+        """A chip has ended so in a socket: the counts with it. One that may come again stays under way."""
         with self._turn:
+            is_done, ending = ended.ending.is_last(), ended.ending
             chips = {name: it for name, it in self.under_way().items() if name != last.chip or not is_done}
             lasts = {**self._data["last"], last.name: asdict(last)}
-            self._keep(last=lasts, shift=asdict(shift), under_way=chips)
+            shift = self.shift().with_ending(ended, last, self.before(last.chip))
+            before = self._without(last.chip) if ending.name == "passed" else self._data["before"]
+            if last.chip and (ending.is_failure() or ending.name == UNLABELLED):
+                before = self._with(last.chip, Before(ending.name, now_text()))
+            self._keep(before=before, last=lasts, shift=asdict(shift), under_way=chips)
+            return shift
+
+    # How earlier stays failed, of chips that didn't pass since.
+
+    def before(self, chip: str) -> Optional[Before]:
+        with self._turn:
+            found = self._data["before"].get(chip)
+            return Before(**found) if found else None
+
+    def elsewhere(self, chip: str) -> None:
+        """Another bench, or another program, began the chip: this isn't its first stay."""
+        with self._turn:
+            if chip not in self._data["before"]:
+                self._keep(before=self._with(chip, Before(ELSEWHERE)))
+
+    def _with(self, chip: str, before: Before) -> dict[str, Any]:
+        return dict([*self._without(chip).items(), (chip, asdict(before))][-MOST_BEFORE:])
+
+    def _without(self, chip: str) -> dict[str, Any]:
+        return {name: it for name, it in self._data["before"].items() if name != chip}
 
     def counted(self, shift: Shift) -> None:
         """The counts are others, as of a new shift."""
@@ -119,7 +151,7 @@ class Kept:
         with self._turn:
             found = self._data["shift"]
             row = tuple(Failure(**it) for it in found["row"])
-            return Shift(found["since"], int(found["passed"]), dict(found["failed"]), row)
+            return Shift(found["since"], int(found["passed"]), dict(found["failed"]), row, int(found.get("first", 0)))
 
     # The map that the server has.
 
