@@ -217,7 +217,7 @@ class Hands:
     def sort(self, name, mac, reason):
         """Where a chip goes, by what its socket says."""
         self.said[reason] += 1
-        if reason in ("passed", "passed_before"):
+        if reason in ("passed", "passed_before", "shipped_before"):  # the last two behind a kill
             self.passed.append(self.take(name))
         elif reason in NEXT:
             self.plant.stock[self.family].insert(0, self.take(name))

@@ -259,7 +259,8 @@ class Endings(BenchCase):
             self.assertEqual(bench.end(), 0)
 
     def test_three_in_a_row(self):
-        """The line stops, and says what the three have in common; a person has it go on."""
+        """The line stops, and says what the three chips have in common; a person has it go on. One that is put in again
+        counts once."""
         broken = script(self.folder / "broken", "exit 3\n")
         self.order()
         bench = self.run_bench(self.recipe(hooks={"before_ship": {"command": [broken]}}))
@@ -268,6 +269,10 @@ class Endings(BenchCase):
             self.put("left", mac)
             bench.said("left")
             bench.until(lambda board: sum(board["shift"]["failed"].values()) == place)
+            for _ in range(2 if place == 1 else 0):
+                since = bench.socket("left")["since"]
+                bench.said("left")
+                bench.until(lambda _, since=since: (it := bench.socket("left"))["since"] != since and it["sentence"])
             self.take("left", mac)
         common = "all at the step 'before ship', each as 'hook_failed', each in the socket 'left'"
         told = f"3 chips failed in a row, {common}: look why before you go on."

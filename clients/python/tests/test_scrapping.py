@@ -109,6 +109,7 @@ class Scrapping(BenchCase):
         self.asked_about(bench)
         bench.said("Yes")
         self.told(bench, f"The chip {MAC} is scrapped (hook_failed)")
+        self.assertEqual(bench.socket("left")["state"], "waiting")
         self.assertEqual(bench.until(lambda board: not board["under_way"])["under_way"], [])
         self.assertEqual((self.state()[0], self.lost()), ("scrapped", [(MAC, "o1", "hook_failed")]))
 
