@@ -8,6 +8,7 @@ import random
 import shlex
 import sys
 from collections import Counter
+from concurrent.futures import ThreadPoolExecutor
 from pathlib import Path
 
 ROOT = Path(__file__).resolve().parent.parent
@@ -112,14 +113,17 @@ class Plant:
         for mac, kind in self.faults.items():
             text = stray_of(self.macs[mac]) if kind == "stray" else ""
             (self.folder / "faults" / f"{mac}-{kind}").write_text(text, encoding="ascii")
-        self.blank = {}
-        for mac, family in self.macs.items():
-            file = self.folder / f"chip-{mac}"
-            new_chip(family, mac, file, shlex.split(self.args.espefuse or ""))
-            self.blank[mac] = file.read_bytes()
+        with ThreadPoolExecutor(4) as pool:
+            self.blank = dict(zip(self.macs, pool.map(self.make_chip, self.macs)))
         quantity = {"o1": max(3, len(self.macs) // 2), "o2": len(self.macs)}
         for name, count in quantity.items():
             self.office.make_order(name, "acme-ca", name.upper(), 5, 1, count)
+
+    def make_chip(self, mac):
+        """A new chip in a file, and what that has."""
+        file = self.folder / f"chip-{mac}"
+        new_chip(self.macs[mac], mac, file, shlex.split(self.args.espefuse or ""))
+        return file.read_bytes()
 
     def recipe(self, seat, order, family):
         """The recipe's file of a bench, for an order and a family."""

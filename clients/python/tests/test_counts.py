@@ -28,6 +28,7 @@ CASES = [
     ("c1 no_label, c1 no_label", 1, 1, {}, 1),
     ("c1 no_label, c1 passed", 1, 1, {}, 0),
     ("c1 hook_failed, c1 no_label, c1 passed", 1, 0, {}, 0),
+    ("c1 no_label, c1 other_wishes, c1 passed", 1, 1, {}, 0),
     ("c1 stray, c1 lost_before", 0, 0, {"stray": 1}, 1),
     ("c1 elsewhere, c1 passed", 1, 0, {}, 0),
     ("c1 no_burn, new shift, c1 passed", 1, 0, {}, 0),

@@ -63,10 +63,11 @@ class Shift:
         """The counts behind one stay more. A chip that failed before counts anew, by this stay. One that is shipped and
         has no label has passed, and doesn't pass again with its label."""
         ending, failed, row = ended.ending, Counter(self.failed), self.row
-        is_new = ending.is_shipped() and not (before and before.reason == UNLABELLED)
-        if before and before.at >= self.since and (is_new or ending.is_failure()):
+        has_passed = before is not None and before.reason == UNLABELLED
+        is_new, is_failed = (it and not has_passed for it in (ending.is_shipped(), ending.is_failure()))
+        if before and before.at >= self.since and (is_new or is_failed):
             failed[before.reason] -= 1
-        if ending.is_failure():
+        if is_failed:
             failed[ending.name] += 1
         if ending.counts():
             others = [it for it in row if not last.chip or it.chip != last.chip]
@@ -198,8 +199,7 @@ class Board:
                 "start": self._start,
                 "rest": self._rest,
                 "sockets": [dict(vars(it)) for it in self._sockets.values()],
-                "shift": {"since": self._shift.since, "passed": self._shift.passed, "failed": dict(self._shift.failed),
-                          "first": self._shift.first},
+                "shift": {name: getattr(self._shift, name) for name in ("since", "passed", "first", "failed")},
                 "away": {"since": away[0], "why": away[1]} if away else None,
                 "stopped": self._stopped,
                 "notice": self._notice,

@@ -62,6 +62,8 @@ class Kept:
             self._data = {name: found[name] for name in self._data}
             self.shift()
             self.last()
+            for chip in self._data["before"]:
+                self.before(chip)
         except FileNotFoundError:
             return
         except (ValueError, KeyError, TypeError, AttributeError) as error:
@@ -99,9 +101,11 @@ class Kept:
             is_done, ending = ended.ending.is_last(), ended.ending
             chips = {name: it for name, it in self.under_way().items() if name != last.chip or not is_done}
             lasts = {**self._data["last"], last.name: asdict(last)}
-            shift = self.shift().with_ending(ended, last, self.before(last.chip))
+            known = self.before(last.chip)
+            shift = self.shift().with_ending(ended, last, known)
             before = self._without(last.chip) if ending.name == "passed" else self._data["before"]
-            if last.chip and (ending.is_failure() or ending.name == UNLABELLED):
+            has_passed = known is not None and known.reason == UNLABELLED
+            if last.chip and not has_passed and (ending.is_failure() or ending.name == UNLABELLED):
                 before = self._with(last.chip, Before(ending.name, now_text()))
             self._keep(before=before, last=lasts, shift=asdict(shift), under_way=chips)
             return shift
