@@ -105,7 +105,6 @@ class Plant:
         """Chips of each family in turn, as many faults of each kind as FAULTS says, and both orders."""
         self.macs = {f"7cdfa1{place % 3:02x}{place:04x}": FAMILIES[place % 3] for place in range(self.args.size)}
         self.stock = {family: [mac for mac, it in self.macs.items() if it == family] for family in FAMILIES}
-        # The chips of the last family come in both orders; a first one of each kind of fault is among them.
         names, self.faults = self.chance.sample(list(self.macs), len(self.macs)), {}
         for kind, count in FAULTS.items():
             for _ in range(max(1, round(count * len(self.macs) / 100))):

@@ -121,7 +121,7 @@ class Endings(BenchCase):
         shift = json.loads((self.folder / "a1.json.bench" / "bench.json").read_text("ascii"))["shift"]
         self.assertEqual((shift["passed"], shift["first"], shift["failed"]), (1, 0, {}))
         ships = [it for it in lines_of(self.folder / "a1.journal") if it.get("path") == "/v1/ship"]
-        self.assertEqual([it["reason"] for it in ships], ["hook_late"])
+        self.assertEqual([it["reason"] for it in ships], ["hook_failed"])
         self.assertEqual(life_of(self.ledger()), LIFE)
         self.assertEqual(len(issued(requests_of(self.folder / "a1.journal"))), 1)
 
