@@ -219,8 +219,8 @@ class Moments(StationCase):
 
     def turns(self, chance, kind):
         """Whose request is next, a few times by turns, and else by chance."""
-        names = list(TOKENS)
-        return [names[place % 2 if kind and chance.random() < 0.4 * kind else chance.randrange(2)] for place in range(99)]
+        names, by_turns = list(TOKENS), 0.4 * kind
+        return [names[place % 2 if chance.random() < by_turns else chance.randrange(2)] for place in range(99)]
 
     def one_left(self, order, prefix):
         """An order of two with a place for two, and one number: a chip was scrapped behind its identity."""
