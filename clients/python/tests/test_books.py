@@ -79,6 +79,19 @@ class Books(BooksCase):
         told = "out of step (11): number 17, and the server expects 40"
         self.assertEqual(stopped, [(f"{DAY}12:00:00Z", told, "not yet")])
 
+    def test_what_is_first(self):
+        """A chip that failed a stay before isn't; one that is shipped anew, as behind a restore, counts once."""
+        lines = list(lines_of("a1", *A1))
+        ships = {it["asked"]["chip"]: it for it in lines if it.get("path") == "/v1/ship"}
+        ships["c1"]["reason"] = "hook_failed"
+        self.write("a1.journal", lines)
+        anew = device("11:00:00", "c1"), step("11:01:00", "ship", "c1", state="shipped")
+        self.write("a2.journal", lines_of("a2", *anew))
+        (self.folder / "csv").mkdir()
+        journals = [self.folder / name for name in ("a1.journal", "a2.journal")]
+        self.assertEqual(ran("shift", *journals, *PERIOD, "--csv", self.folder / "csv")[0], 0)
+        self.assertEqual([(it["begun"], it["first"], it["shipped"]) for it in self.rows("orders")], [("3", "0", "2")])
+
     def test_a_page_of_hostile_names(self):
         """No markup and no control character of a journal comes into a page or onto a terminal."""
         file = self.write("a1.journal", lines_of(MARKUP, *A1, operator=MARKUP))

@@ -34,7 +34,7 @@ from running import (
 from simulated_chip import SimulatedChip
 from support import DIGEST, LIFE, MAC, MAP, ORDER, Proxy, TlsProxy, steps, whole
 
-from wanekupo.journal import issued, requests_of
+from wanekupo.journal import issued, lines_of, requests_of
 
 
 # What espefuse 4.7.0 prints (esptool/loader.py and espefuse/__init__.py), that of 5 with its comma, and what Python
@@ -145,7 +145,9 @@ class Endings(BenchCase):
             self.assertEqual(bool(bench.board()["stopped"]), reason in ("no_public_key", "hook_missing"))
             self.assertEqual(bench.end(), 0)
         shift = json.loads((self.folder / "a1.json.bench" / "bench.json").read_text("ascii"))["shift"]
-        self.assertEqual((shift["passed"], shift["failed"]), (1, {"hook_failed": 2, "hook_late": 1}))
+        self.assertEqual((shift["passed"], shift["first"], shift["failed"]), (1, 0, {}))
+        ships = [it for it in lines_of(self.folder / "a1.journal") if it.get("path") == "/v1/ship"]
+        self.assertEqual([it["reason"] for it in ships], ["hook_failed"])
         self.assertEqual(life_of(self.ledger()), LIFE)
         self.assertEqual(len(issued(requests_of(self.folder / "a1.journal"))), 1)
 
@@ -320,7 +322,8 @@ class Endings(BenchCase):
         self.assertEqual(bench.until(lambda board: board["away"])["away"]["why"], told)
 
     def test_three_in_a_row(self):
-        """The line stops, and says what the three have in common; a person has it go on."""
+        """The line stops, and says what the three chips have in common; a person has it go on. One that is put in again
+        counts once."""
         broken = script(self.folder / "broken", "exit 3\n")
         self.order()
         bench = self.run_bench(self.recipe(hooks={"before_ship": {"command": [broken]}}))
@@ -329,6 +332,10 @@ class Endings(BenchCase):
             self.put("left", mac)
             bench.said("left")
             bench.until(lambda board: sum(board["shift"]["failed"].values()) == place)
+            for _ in range(2 if place == 1 else 0):
+                since = bench.socket("left")["since"]
+                bench.said("left")
+                bench.until(lambda _, since=since: (it := bench.socket("left"))["since"] != since and it["sentence"])
             self.take("left", mac)
         common = "all at the step 'before ship', each as 'hook_failed', each in the socket 'left'"
         told = f"3 chips failed in a row, {common}: look why before you go on."

@@ -31,6 +31,7 @@ OTHERS.add("wanekupo_restart_end_timestamp_seconds")  # of deploy/restart
 STATUS = "Active connections: 2 \nserver accepts handled requests\n 9 9 %d \nReading: 0 Writing: 1 Waiting: 1 \n"
 # A request and its reply, as a journal has them.
 ASKED = {"asked": {"chip": MAC, "nr": 7}, "at": "2026-11-29T06:00:00Z", "digest": "0", "path": "/v1/ship"}
+OLDER = {**ASKED, "asked": {"chip": "240ac4000003", "nr": 3}}
 DONE = {"at": "2026-11-29T06:00:01Z", "nr": 7, "reply": {"chip": MAC, "state": "shipped"}, "status": 200}
 STOPPED = {**DONE, "reply": {"error": "wrong_number", "expected": 9, "no": 11}, "status": 409}
 
@@ -282,13 +283,14 @@ class Journals(StationCase):
         six = datetime.fromisoformat("2026-11-29T06:00:00+00:00").timestamp()
         for minute, lines, expected in (
             (1, [ASKED, lost], [1, 0, None]),
+            (1, [ASKED, lost], [1, 0, None]),  # a crash had it sent and answered again
             (2, [ASKED], [1, 0, six + 120]),
             (3, [ASKED], [1, 0, six + 120]),  # it is sent again
             (4, [STOPPED], [1, 1, None]),
             (5, [ASKED, DONE], [1, 0, None]),
             (6, [ASKED, STOPPED, {"at": "", "resynchronized": 9}], [1, 0, None]),
             (7, [ASKED, STOPPED], [1, 1, None]),
-            (0, [ASKED, lost], [2, 1, None]),  # an older journal comes late: it only counts
+            (0, [OLDER, lost], [2, 1, None]),  # an older journal comes late: it only counts
             (8, [ASKED, DONE], [2, 0, None]),
         ):
             self.add(*({**line, "at": f"2026-11-29T06:{minute:02}:00Z"} for line in lines))

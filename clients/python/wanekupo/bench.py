@@ -36,6 +36,7 @@ from wanekupo.scrapping import Scrapping
 from wanekupo.screen import Screen
 from wanekupo.sentences import sentence_of
 from wanekupo.station import Station
+from wanekupo.supply import Supply
 from wanekupo.turns import Leaving, Turns
 
 Made = TypeVar("Made")
@@ -73,6 +74,7 @@ class Bench:
         self.board.under_way(kept.under_way())
         self.leaving = threading.Event()
         self._turns = Turns(station, self.board, self.leaving)
+        self.supply = Supply(self.ask, recipe.order, self.board.left, self.leaving)
         self._counting, self._scrapping = threading.Lock(), Scrapping(self)
         self._begin = {name: threading.Event() for name in recipe.sockets}
         self._seen = dict.fromkeys(recipe.sockets, "")
@@ -111,7 +113,7 @@ class Bench:
         order = self.order()
         number = record.serial.removeprefix(order.prefix)
         if number.isdecimal():
-            self.board.left(max(0, order.first + order.quantity - 1 - int(number)))
+            self.supply.given(max(0, order.first + order.quantity - 1 - int(number)))
 
     # A bench's day.
 
@@ -123,9 +125,8 @@ class Bench:
         self.clear()
         try:
             self._turns.finish()
-            order = self.order()
-            number = (order.next or "").removeprefix(order.prefix)
-            self.board.left(order.first + order.quantity - int(number) if number.isdecimal() else 0)
+            self.order()
+            self.supply.look()
             if not self.kept.has_map(self.recipe.digest(), self._url):
                 self.import_map()
         except Leaving:
@@ -206,9 +207,8 @@ class Bench:
     def _count(self, last: Socket, ended: Ended) -> None:
         """Counts a chip. One that may come again stays among those that were begun."""
         with self._counting:
-            shift = self.kept.shift().with_ending(ended, last.step, last.name)
             goes = ended.ending.is_gone() and not self.recipe.keep_folder
-            self.kept.ended(last, shift, ended.ending.is_last(), goes)
+            shift = self.kept.ended(last, ended, goes)
             self.board.counted(shift)
             most = self.recipe.lost_in_a_row
             if ended.ending.counts() and len(shift.row) >= most:

@@ -8,15 +8,15 @@ from __future__ import annotations
 import threading
 import time
 from collections import Counter
-from dataclasses import dataclass, field, replace
+from dataclasses import dataclass, field
 from typing import Any, Mapping, Optional, Sequence
 
-from wanekupo.endings import UNLABELLED, Ended
+from wanekupo.endings import NO_LABEL, Ended
 
 WAITING, WORKING, PASSED, FAILED = "waiting", "working", "PASS", "FAIL"
 
 # A chip that is shipped, and whose label is missing.
-NO_LABEL = "LABEL"
+LABEL = "LABEL"
 
 
 @dataclass(frozen=True)
@@ -35,39 +35,55 @@ class Socket:
 
 @dataclass(frozen=True)
 class Failure:
-    """A chip that failed: at which step, why, and in which socket."""
+    """A chip that failed: at which step, why, and in which socket. One whose name couldn't be read has none."""
 
     step: str
     reason: str
     socket: str
+    chip: str = ""
+
+
+@dataclass(frozen=True)
+class Before:
+    """Why a chip's earlier stay failed, and when; without a time it was on another bench."""
+
+    reason: str
+    at: str = ""
 
 
 @dataclass(frozen=True)
 class Shift:
-    """The counts of a shift: since when, how many passed, how many failed by their reasons, and the last ones that
-    failed with none between that passed."""
+    """The counts of a shift, of chips and not of stays: since when, how many passed, how many failed by the reasons of
+    their last stays, the last ones that failed with none between that passed, and how many passed at first."""
 
     since: str
     passed: int = 0
     failed: Mapping[str, int] = field(default_factory=dict)
     row: tuple[Failure, ...] = ()
+    first: int = 0
 
-    def with_ending(self, ended: Ended, step: str, socket: str) -> Shift:
-        """The counts with one chip more."""
-        if ended.ending.name == "passed":
-            return replace(self, passed=self.passed + 1, row=())
-        if not ended.ending.counts():
-            return self
-        name = ended.ending.name
-        failed = dict(Counter(self.failed) + Counter([name] if ended.ending.is_failure() else []))
-        return replace(self, failed=failed, row=(*self.row, Failure(step, name, socket)))
+    def with_ending(self, ended: Ended, last: Socket, before: Optional[Before]) -> Shift:
+        """The counts behind one stay more. A chip that failed before counts anew, by this stay. One that is shipped and
+        has no label has passed, and doesn't pass again with its label."""
+        ending, failed, row = ended.ending, Counter(self.failed), self.row
+        has_passed = before is not None and before.reason == NO_LABEL
+        is_new, is_failed = (it and not has_passed for it in (ending.is_shipped(), ending.is_failure()))
+        if before and before.at >= self.since and (is_new or is_failed):
+            failed[before.reason] -= 1
+        if is_failed:
+            failed[ending.name] += 1
+        if ending.counts():
+            others = [it for it in row if not last.chip or it.chip != last.chip]
+            row = (*others, Failure(last.step, ending.name, last.name, last.chip))
+        row = () if ending.name == "passed" else row
+        first = self.first + (is_new and not before)
+        return Shift(self.since, self.passed + is_new, dict(+failed), row, first)
 
 
 def ended_socket(name: str, ended: Ended, step: str, chip: str, serial: str, order: str) -> Socket:
     """A socket whose chip has ended so."""
     sentence = ended.ending.sentence(**{"order": order, "step": step, **ended.facts})
-    state = PASSED if ended.ending.is_pass() else FAILED
-    state = NO_LABEL if ended.ending.effect == UNLABELLED else state
+    state = PASSED if ended.ending.is_pass() else LABEL if ended.ending.name == NO_LABEL else FAILED
     return Socket(name, state, step, chip, serial, sentence, ended.ending.name, time.time())
 
 
@@ -186,7 +202,7 @@ class Board:
                 "start": self._start,
                 "rest": self._rest,
                 "sockets": [dict(vars(it)) for it in self._sockets.values()],
-                "shift": {"since": self._shift.since, "passed": self._shift.passed, "failed": dict(self._shift.failed)},
+                "shift": {name: getattr(self._shift, name) for name in ("since", "passed", "first", "failed")},
                 "away": {"since": away[0], "why": away[1]} if away else None,
                 "stopped": self._stopped,
                 "notice": self._notice,

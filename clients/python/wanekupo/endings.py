@@ -26,6 +26,8 @@ ONCE_MORE = "put it in once more, and where that fails too, red box"
 UNTOUCHED, LEFT_IN = "touch nothing, and ", "leave the chips in, and "
 ASK_WHERE = "take it out, and ask where it comes from"
 NEXT_ORDER = "ask for the next order"
+KEEP_FOR_NEXT = f"take it out, keep it, and {NEXT_ORDER}"
+RED_AND_NEXT = f"{RED_BOX}, and {NEXT_ORDER}"
 SCRAP_OR_NEXT = f"take it out, and have the red box scrapped, or {NEXT_ORDER}"
 LABEL_ANEW = "keep it apart, look at the printer, and put it in once more"
 
@@ -56,8 +58,12 @@ class Ending:
         return self.effect in (RED, AGAIN, UNLABELLED) and self.name not in UNCOUNTED
 
     def is_failure(self) -> bool:
-        """Whether the shift counts the chip as failed. One that only lacks its label is counted once it has passed."""
-        return self.counts() and self.effect != UNLABELLED
+        """Whether the shift counts the chip as failed."""
+        return self.counts() and not self.is_shipped() or self.name in NUMBERLESS
+
+    def is_shipped(self) -> bool:
+        """Whether the shift counts the chip as passed: also one that only lacks its label."""
+        return self.name == "passed" or self.effect == UNLABELLED
 
     def is_gone(self) -> bool:
         """Whether the server has the chip as shipped or scrapped, and no hook runs for it any more."""
@@ -67,8 +73,12 @@ class Ending:
 # What a sentence may have filled in.
 FACTS = ("serial", "detail", "order", "hook", "step", "no")
 
-# The line stops, and its chip goes without coming again.
-SENT_AWAY = ("order_full", "no_serial")
+# The ending of a chip that is shipped, and whose label isn't printed.
+NO_LABEL = "no_label"
+
+# The line stops, and its chip goes without coming again: those that have no number are of their order, and fail.
+NUMBERLESS = ("gave_way", "no_serial")
+SENT_AWAY = ("order_full", "used_up", *NUMBERLESS)
 
 # No chip was there, or nothing was done to it now.
 BEFORE = ("lost_before", "scrapped_before", "shipped_before")
@@ -93,8 +103,10 @@ TABLE = [
     Ending("coding", RED, "The chip has another coding scheme (refusal 36)", RED_BOX),
     Ending("bad_words", RED, "The chip shows what the server can't take (refusal 41)", RED_BOX),
     Ending("other_hand", AGAIN, "Somebody else works on this chip (refusal {no})", "put it in once more"),
-    Ending("order_full", STOP, "Each place of the order is taken, also by failed chips (refusal {no})", SCRAP_OR_NEXT),
-    Ending("no_serial", STOP, "The order has no serial number left (refusal {no})", RED_BOX + ", and " + NEXT_ORDER),
+    Ending("order_full", STOP, "Each serial number left is for a chip that was begun, also failed ones", SCRAP_OR_NEXT),
+    Ending("used_up", STOP, "The order has no serial number left, and the chip isn't begun", KEEP_FOR_NEXT),
+    Ending("gave_way", STOP, "The last serial number is another chip's, and this one isn't burnt", RED_AND_NEXT),
+    Ending("no_serial", STOP, "The order has no serial number left for this chip (refusal {no})", RED_AND_NEXT),
     Ending("bad_token", STOP, "The server doesn't take this bench's token (refusal {no})", ENGINEER),
     Ending("bad_wish", STOP, "The recipe wishes for what the fuse map hasn't (refusal {no})", ENGINEER),
     Ending("no_order", STOP, "The server knows no order {order} (refusal {no})", ENGINEER),
@@ -124,7 +136,7 @@ TABLE = [
     Ending("hook_failed", AGAIN, "The command {hook} failed ({detail})", ONCE_MORE),
     Ending("hook_late", AGAIN, "The command {hook} took too long ({detail})", ONCE_MORE),
     Ending("no_public_key", STOP, "The command before_identity left no public key ({detail})", ENGINEER),
-    Ending("no_label", UNLABELLED, "The chip is shipped as {serial}, its label is missing ({detail})", LABEL_ANEW),
+    Ending(NO_LABEL, UNLABELLED, "The chip is shipped as {serial}, its label is missing ({detail})", LABEL_ANEW),
     # This machine.
     Ending("disk_full", STOP, "The disk of this bench is full", LEFT_IN + ENGINEER),
     Ending("disk", STOP, "A file of this bench can't be written ({detail})", LEFT_IN + ENGINEER),

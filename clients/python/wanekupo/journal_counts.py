@@ -55,13 +55,17 @@ class Counts:
 
     def take(self, line: dict[str, Any], otherwise: str) -> None:
         """A line. One that is older than what is known of its seat only counts, as where an old journal comes late. One
-        of a time to come, by a clock that is ahead, is of now: else no later line of that seat would count."""
+        of a time to come, by a clock that is ahead, is of now: else no later line of that seat would count. A chip is
+        lost once, also where a crash had its read-back sent and answered again."""
         name = line.get("seat", "")
         seat = self.seat(name if NAME.fullmatch(name) else otherwise)
         at = min(line["at"], self.now)
         reply = line.get("reply")
-        if isinstance(reply, dict) and reply.get("outcome") in LOST:
+        if "asked" in line:
+            seat["chip"] = line["asked"].get("chip", "")
+        if isinstance(reply, dict) and reply.get("outcome") in LOST and seat.get("lost_chip") != seat.get("chip", ""):
             seat["lost"][reply["outcome"]] = seat["lost"].get(reply["outcome"], 0) + 1
+            seat["lost_chip"] = seat.get("chip", "")
         if at < seat["at"]:
             return
         seat["at"] = at

@@ -1,6 +1,7 @@
 """What a bench keeps in its folder: which chips it has begun, the shift's counts, its log, and each chip's own files.
 
-    bench.json                 what is under way, each socket's last chip and the counts, replaced before each step
+    bench.json                 what is under way, each socket's last chip, the counts and which chips failed before,
+                               replaced before each step
     log-2026-11-29.jsonl       a line of JSON for each chip that ended, and for each hook with what it printed
     chips/240ac4000001/        the keys that were made for a chip, and what before_identity left, until it is done with
 
@@ -19,7 +20,8 @@ from dataclasses import asdict
 from pathlib import Path
 from typing import Any, Mapping, Optional
 
-from wanekupo.board import PASSED, Failure, Shift, Socket
+from wanekupo.board import PASSED, Before, Failure, Shift, Socket
+from wanekupo.endings import NO_LABEL, Ended
 from wanekupo.errors import BadStateFile
 from wanekupo.files import locked, opened_lock, opened_own, removed_folder, replace_file, synced_folder, tested_folder
 from wanekupo.texts import compact_json
@@ -27,6 +29,9 @@ from wanekupo.texts import compact_json
 
 # The name of a chip, and so of its folder.
 CHIP = re.compile("[0-9a-f]{12}")
+
+# Why a chip isn't at its first stay that another bench began; and how many that failed are known, the last ones.
+ELSEWHERE, MOST_BEFORE = "elsewhere", 1000
 
 
 def now_text() -> str:
@@ -47,7 +52,8 @@ class Kept:
             self.close()
             raise BadStateFile(f"{folder} is another bench's", "End that one, or have another folder.") from error
         shift = asdict(Shift(now_text()))
-        self._data: dict[str, Any] = {"last": {}, "map": "", "shift": shift, "under_way": {}, "going": []}
+        nothing: dict[str, Any] = {"before": {}, "last": {}, "map": "", "under_way": {}, "going": []}
+        self._data: dict[str, Any] = {**nothing, "shift": shift}
         try:
             self._read(folder / "bench.json")
         except BaseException:
@@ -57,11 +63,12 @@ class Kept:
     def _read(self, file: Path) -> None:
         try:
             with open(opened_own(file, os.O_RDONLY), "rb") as source:
-                found = json.loads(source.read())
-            self._data = {name: found[name] for name in self._data if name != "going" or name in found}
-            self._data.setdefault("going", [])
+                found = {"before": {}, "going": [], **json.loads(source.read())}
+            self._data = {name: found[name] for name in self._data}
             self.shift()
             self.last()
+            for chip in self._data["before"]:
+                self.before(chip)
         except FileNotFoundError:
             return
         except (ValueError, KeyError, TypeError, AttributeError) as error:
@@ -94,14 +101,41 @@ class Kept:
             begun = {**chips, chip: {"socket": socket, "step": step, "since": since}}
             self._keep(under_way=begun, going=[it for it in self._going("") if it != chip])
 
-    def ended(self, last: Socket, shift: Shift, is_done: bool, goes: bool = False) -> None:
-        """A chip has ended so in a socket, and `shift` has counted it. One that isn't done stays under way, and of one
-        that `goes` the folder is to go."""
+    def ended(self, last: Socket, ended: Ended, goes: bool = False) -> Shift:
+        """A chip has ended so in a socket: the counts with it. One that may come again stays under way, and of one that
+        `goes` the folder is to go."""
         with self._turn:
+            is_done, ending = ended.ending.is_last(), ended.ending
             chips = {name: it for name, it in self.under_way().items() if name != last.chip or not is_done}
             lasts = {**self._data["last"], last.name: asdict(last)}
             going = self._going(last.chip if goes else "")
-            self._keep(last=lasts, shift=asdict(shift), under_way=chips, going=going)
+            known = self.before(last.chip)
+            shift = self.shift().with_ending(ended, last, known)
+            before = self._without(last.chip) if ending.name == "passed" else self._data["before"]
+            has_passed = known is not None and known.reason == NO_LABEL
+            if last.chip and not has_passed and (ending.is_failure() or ending.name == NO_LABEL):
+                before = self._with(last.chip, Before(ending.name, now_text()))
+            self._keep(before=before, last=lasts, shift=asdict(shift), under_way=chips, going=going)
+            return shift
+
+    # How earlier stays failed, of chips that didn't pass since.
+
+    def before(self, chip: str) -> Optional[Before]:
+        with self._turn:
+            found = self._data["before"].get(chip)
+            return Before(**found) if found else None
+
+    def elsewhere(self, chip: str) -> None:
+        """Another bench, or another program, began the chip: this isn't its first stay."""
+        with self._turn:
+            if chip not in self._data["before"]:
+                self._keep(before=self._with(chip, Before(ELSEWHERE)))
+
+    def _with(self, chip: str, before: Before) -> dict[str, Any]:
+        return dict([*self._without(chip).items(), (chip, asdict(before))][-MOST_BEFORE:])
+
+    def _without(self, chip: str) -> dict[str, Any]:
+        return {name: it for name, it in self._data["before"].items() if name != chip}
 
     def counted(self, shift: Shift) -> None:
         """The counts are others, as of a new shift."""
@@ -131,7 +165,7 @@ class Kept:
         with self._turn:
             found = self._data["shift"]
             row = tuple(Failure(**it) for it in found["row"])
-            return Shift(found["since"], int(found["passed"]), dict(found["failed"]), row)
+            return Shift(found["since"], int(found["passed"]), dict(found["failed"]), row, int(found.get("first", 0)))
 
     # The map that the server has.
 

@@ -1,7 +1,7 @@
 """A chip's life in a socket: read, register, plan, burn, read back, key pair, identity, ship, label.
 
 It goes on wherever the chip was stopped, by what the server knows of it. A chip with two batches costs seven requests,
-and five starts of espefuse: one to read it, and two a batch.
+with reports at its order's end (`supply`), and five starts of espefuse: one to read it, and two a batch.
 """
 
 from __future__ import annotations
@@ -24,6 +24,7 @@ from wanekupo.recipe import Command, Recipe, Wish
 from wanekupo.recipe_wishes import Layout, Place, places_of, wanted_of
 from wanekupo.replies import Device, Identity, Order, Verdict, Work
 from wanekupo.station import Station
+from wanekupo.supply import Supply
 from wanekupo.turns import Leaving
 
 Made = TypeVar("Made")
@@ -57,6 +58,7 @@ class Line(Protocol):
     recipe: Recipe
     kept: Kept
     spool: Optional[Path]
+    supply: Supply
 
     def ask(self, call: Callable[[Station], Made]) -> Made: ...
 
@@ -112,12 +114,16 @@ class Life:
         device = self._device(was_begun)
         self._make_keys(device)
         state = device.state
+        if state == "registered":
+            self.line.supply.test_plan()
         if state in ("registered", "settled"):
             state = self._plan()
         else:
             self._test_wishes(device)
             if state == "shipped" and not was_begun:
                 raise Ended("passed_before", serial=self.serial)
+            if state == "awaiting1" and not Layout(self.line.recipe.map).has_some(self._blocks, device.batch1):
+                self.line.supply.test_burn()
             state = self._burn_all(state, device.batch1, device.batch2)
             if state == "settled":
                 state = self._plan()
@@ -128,7 +134,8 @@ class Life:
         if state != "shipped":
             self._hook("before_ship", record)
             self._at("ship")
-            self._ask(Station.ship)
+            before = self.line.kept.before(self.chip)
+            self._ask(Station.ship, before.reason if before else "")
         self._label(record)
 
     # The device.
@@ -138,7 +145,8 @@ class Life:
         isn't touched."""
         self.step = "look"
         self.line.working(self.socket, "look", self.chip, "")
-        device, recipe = self._ask(Station.find_device) or self._register(), self.line.recipe
+        found, recipe = self._ask(Station.find_device), self.line.recipe
+        device = found or self.line.supply.registered(self._register)
         self._known = places_of(device.burnt)
         is_known = was_begun or self.line.kept.has_passed(self.chip)
         self.serial = device.serial or ""
@@ -152,6 +160,8 @@ class Life:
             raise Ended("lost_before", detail=device.reason)
         if device.state == "scrapped":
             raise Ended("scrapped_before")
+        if found and not is_known:
+            self.line.kept.elsewhere(self.chip)
         return device
 
     def _register(self) -> Device:
@@ -182,6 +192,8 @@ class Life:
         others = wanted_of(Layout(self.line.recipe.map), wishes).others(Work((), {}), (plan.batch1, plan.batch2))
         if others:
             raise Ended("other_wishes", detail=_shown(others))
+        if plan.state != "settled":
+            self.line.supply.test_burn()
         return self._burn_all(plan.state, plan.batch1, plan.batch2)
 
     def _wishes(self) -> list[dict[str, Any]]:

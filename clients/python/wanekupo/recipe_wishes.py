@@ -79,6 +79,11 @@ class Layout:
         found = [Word(block, place, int(word, 16)) for block, words in own for place, word in enumerate(words)]
         return places_of(Work(tuple(found), {}))
 
+    def has_some(self, blocks: Sequence[Sequence[str]], work: Work) -> bool:
+        """Whether a chip shows something of a batch: of its bits, or of a block for its keys."""
+        keys = [blocks[self.fields[name].block] for name in work.keys]
+        return bool(self.shown(blocks) & places_of(work)) or any(int(word, 16) for words in keys for word in words)
+
     def name_of(self, place: Place) -> str:
         """What a person calls a bit: its field, or the lock of one."""
         for name in self.fields:

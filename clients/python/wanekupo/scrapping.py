@@ -130,6 +130,7 @@ class Scrapping:
             return
         last = self._line.kept.last_word(chip)
         lost = f", as {device.reason}" if device.reason else ""
+        lost += f", and its serial number {device.serial} is used up for good" if device.serial else ""
         said = f" The bench said: {last[1]}" if last else ""
         with self._turn:
             if self._looked_at != chip:
@@ -171,4 +172,7 @@ class Scrapping:
         except OSError as error:
             told += f" The bench didn't keep that. {sentence_of(error)}"
         self._line.tell_begun()
+        for it in map(self._line.board.socket, self._line.recipe.sockets):
+            if it.chip == chip:
+                self._line.board.waiting(it.name, told)
         self._line.board.notice(told)

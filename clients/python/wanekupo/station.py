@@ -340,8 +340,9 @@ class Station(Seat):
     def identify(self, chip: str, public_key: bytes) -> Identity:
         return identity_of(self.post("/v1/identity", {"chip": chip, "public_key": public_key.hex()}))
 
-    def ship(self, chip: str) -> str:
-        return str(self.post("/v1/ship", {"chip": chip})["state"])
+    def ship(self, chip: str, reason: str = "") -> str:
+        """`reason` is why the chip didn't pass at first, where it is known; it stands in the journal's line alone."""
+        return str(self.post("/v1/ship", {"chip": chip}, reason)["state"])
 
     def scrap(self, chip: str, reason: str = "") -> str:
         return str(self.post("/v1/scrap", {"chip": chip}, reason)["state"])

@@ -78,8 +78,15 @@ class Chip:
         return next((it for it in reversed(self.done) if it.at < moment), None)
 
     def passed_first(self) -> bool:
-        """Whether each of its read-backs matched at once."""
-        return all(it.step.note == "match" for it in self.done if it.step.event == "read")
+        """Whether each of its read-backs matched at once, and its bench knew of no earlier stay that failed."""
+        is_again = any(it.step.reason for it in self.done if it.step.event == "shipped")
+        return not is_again and all(it.step.note == "match" for it in self.done if it.step.event == "read")
+
+    def once(self) -> list[Done]:
+        """Its steps, but those that were done anew, as behind a restore: a chip is begun and shipped once."""
+        firsts: dict[str, Done] = {}
+        is_first = lambda it: it.step.event in ("planned", "read") or firsts.setdefault(it.step.event, it) is it
+        return list(filter(is_first, self.done))
 
     def reason(self) -> str:
         """Why it was given up: the outcome of its read-back, or that it was scrapped without one."""
@@ -227,7 +234,7 @@ def shift_of(books: Iterable[Owned], period: Period) -> Shift:
 def _count(shift: Shift, chip: Chip) -> None:
     """Adds what was done with a chip to its order's counts, and to those of the stations that did it."""
     period, order = shift.period, shift.orders.setdefault((chip.customer, chip.order()), Counts())
-    for done in chip.done:
+    for done in chip.once():
         if not period.has(done.at):
             continue
         station = shift.stations[done.station]

@@ -23,7 +23,7 @@ UNDER_WAY = ("customer", "order", "chip", "state", "since", "station")
 STOPPED = ("time", "customer", "station", "what", "went_on")
 RESTS = ("customer", "order", "left", "identified", "lasts_hours", "what")
 
-FIRST = "First: shipped, and each read-back matched at once."
+FIRST = "First: shipped, each read-back matched at once, and no stay at a bench failed before."
 NO_REST = "Not asked: give --left or --watch, and this says what the next shift runs out of."
 
 
