@@ -9,6 +9,7 @@ The folder is one user's and one bench's. The station's own journal, which a res
 
 from __future__ import annotations
 
+import calendar
 import contextlib
 import json
 import os
@@ -16,9 +17,10 @@ import threading
 import time
 from dataclasses import asdict
 from pathlib import Path
-from typing import Any, Mapping, Optional
+from typing import Any, Iterator, Mapping, Optional
 
-from wanekupo.board import PASSED, Failure, Shift, Socket
+from wanekupo.board import FAILED, PASSED, Failure, Shift, Socket, state_of
+from wanekupo.endings import ENDINGS
 from wanekupo.errors import BadStateFile
 from wanekupo.files import locked, opened_lock, opened_own, replace_file, synced_folder, tested_folder
 from wanekupo.texts import compact_json
@@ -83,15 +85,21 @@ class Kept:
         """A chip is about to begin a step."""
         with self._turn:
             chips = self.under_way()
-            since = chips.get(chip, {}).get("since") or now_text()
-            self._keep(under_way={**chips, chip: {"socket": socket, "step": step, "since": since}})
+            before = chips.get(chip) or {"since": now_text()}
+            self._keep(under_way={**chips, chip: {**before, "socket": socket, "step": step}})
 
     def ended(self, last: Socket, shift: Shift, is_done: bool) -> None:
         """A chip has ended so in a socket, and `shift` has counted it. One that isn't done stays under way."""
         with self._turn:
             chips = {name: it for name, it in self.under_way().items() if name != last.chip or not is_done}
+            if last.chip in chips:
+                chips[last.chip]["failed"] = last.reason
             lasts = {**self._data["last"], last.name: asdict(last)}
             self._keep(last=lasts, shift=asdict(shift), under_way=chips)
+
+    def has_failed(self, chip: str) -> bool:
+        """Whether a chip that is under way failed in an earlier stay."""
+        return "failed" in self.under_way().get(chip, {})
 
     def counted(self, shift: Shift) -> None:
         """The counts are others, as of a new shift."""
@@ -119,7 +127,7 @@ class Kept:
         with self._turn:
             found = self._data["shift"]
             row = tuple(Failure(**it) for it in found["row"])
-            return Shift(found["since"], int(found["passed"]), dict(found["failed"]), row)
+            return Shift(found["since"], int(found["passed"]), dict(found["failed"]), row, int(found.get("first", 0)))
 
     # The map that the server has.
 
@@ -144,12 +152,26 @@ class Kept:
 
     def last_word(self, chip: str) -> Optional[tuple[str, str]]:
         """The name and the sentence of a chip's last ending on this bench, by the newest log that has one."""
+        for found in self._endings():
+            own = [it for it in found if it["chip"] == chip]
+            if own:
+                return own[-1]["result"], own[-1]["sentence"]
+        return None
+
+    def last_chips(self, most: int) -> list[Socket]:
+        """The last chips that ended, the newest first."""
+        last: list[Socket] = []
+        for found in self._endings():
+            last += [_ended_as(it) for it in reversed(found) if it["chip"]]
+            if len(last) >= most:
+                break
+        return last[:most]
+
+    def _endings(self) -> Iterator[list[dict[str, Any]]]:
+        """Each log's lines on chips that ended, the newest log first."""
         for file in sorted(self._folder.glob("log-*.jsonl"), reverse=True):
             with open(opened_own(file, os.O_RDONLY), "rb") as source:
-                found = [it for it in map(_ending_in, source) if it and it["chip"] == chip]
-            if found:
-                return found[-1]["result"], found[-1]["sentence"]
-        return None
+                yield [it for it in map(_ending_in, source) if it]
 
     def log(self, line: Mapping[str, Any]) -> None:
         """Adds a line to the day's log, or nothing of it, and syncs it."""
@@ -169,6 +191,13 @@ def _ending_in(line: bytes) -> Optional[dict[str, Any]]:
         return None
     found: dict[str, Any] = json.loads(line)
     return found
+
+
+def _ended_as(line: Mapping[str, Any]) -> Socket:
+    """How a socket showed the ending that a line of the log has."""
+    ending, at = ENDINGS.get(line["result"]), calendar.timegm(time.strptime(line["at"], "%Y-%m-%dT%H:%M:%SZ"))
+    state, chip, took = state_of(ending) if ending else FAILED, line["chip"], float(line.get("seconds", 0))
+    return Socket(line["socket"], state, "", chip, line["serial"], reason=line["result"], since=at, took=took)
 
 
 def _add_line(out: int, data: bytes) -> None:

@@ -11,6 +11,7 @@ from typing import Callable, TypeVar
 from wanekupo.board import Board
 from wanekupo.errors import NoReply, NotTheServer, Refused, UnderWay
 from wanekupo.station import OTHER_BODY, Station
+from wanekupo.words import said
 
 Made = TypeVar("Made")
 
@@ -57,7 +58,7 @@ class Turns:
 
     def _wait(self, fault: Exception) -> None:
         is_page = isinstance(fault, NotTheServer)
-        self._board.away("something else answers in its place" if is_page else "no reply comes")
+        self._board.away(said("other_reply" if is_page else "no_reply"))
         self._leaving.wait(PAUSE)
 
 

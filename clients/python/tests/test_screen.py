@@ -1,0 +1,197 @@
+"""The bench's page as an operator has it: what is read from two metres, gloves, Enter, sounds, on four screens.
+
+It needs Debian's chromium, and is left out where there is none. With PICTURES=1 it writes a picture of
+docs/how-to/run-a-bench.md. What it expects is that page's: capitals of 12.8 mm (22 minutes of arc at two metres, which
+is 2 * 2000 mm * tan(11')), letters at least half as wide as high (ISO 9241-303), and controls of 20 mm.
+"""
+
+from __future__ import annotations
+
+import math
+import os
+import unittest
+from types import SimpleNamespace
+
+from browser import PROGRAM, Browser
+from support import ROOT
+
+from wanekupo.board import Board, Shift, Socket, ended_socket
+from wanekupo.endings import Ended
+from wanekupo.page import Page
+from wanekupo.recipe import Display
+
+CAPITALS = 2 * 2000 * math.tan(math.radians(11 / 60))
+# Width and height in pixels, the diagonal in inches that the recipe says, and the one that the screen has.
+SCREENS = [(1280, 720, 0, math.hypot(1280, 720) / 96), (1920, 1080, 24, 24), (1920, 1080, 0, 24), (1280, 800, 10, 10),
+           (1024, 600, 10, 10)]  # fmt: skip
+FAILED = ("hook_failed", {"hook": "before_ship", "detail": "the flash is write protected"})
+ENDINGS = [("passed", {"serial": "T0017"}), ("stray", {"detail": "ABS_DONE_1"}), FAILED, ("bad_token", {"no": 6}),
+           ("no_label", {"serial": "T0018", "detail": "no paper"}), ("other_order", {"order": "o18"}),
+           ("passed", {"serial": "T0019"}), ("lost", {"detail": "JTAG_DISABLE"})]  # fmt: skip
+STOPPED = ("3 chips failed in a row, all at the step 'before ship', each as 'hook_failed', each in the socket 'left': "
+           "look why before you go on.")  # fmt: skip
+ASKED = ("Scrap the chip 240ac4000001 for good? It is identified. Its serial number A001 is used up for good. The bench "
+         "said: The command before_ship failed (the flash is write protected): put it in once more, and where that "
+         "fails too, red box. Type yes; all else leaves it.")  # fmt: skip
+
+# What is seen of the page, in its pixels: each word from afar with the height of its capitals and how it was narrowed,
+# the texts and the controls.
+SEEN = """(() => {
+    const box = (it) => { const { left, top, right, bottom } = it.getBoundingClientRect(); return [left, top, right, bottom]; };
+    const isSeen = (it) => it.getClientRects().length > 0 && getComputedStyle(it).visibility === 'visible';
+    const all = (names) => [...document.querySelectorAll(names)].filter(isSeen);
+    const pen = document.createElement('canvas').getContext('2d');
+    const words = all('.word, .box, #banner-word').map((it) => {
+        const line = it.firstChild, text = line.lastChild, range = document.createRange(), style = getComputedStyle(it);
+        range.selectNodeContents(text);
+        pen.font = `${style.fontWeight} ${style.fontSize} ${style.fontFamily}`;
+        const scale = new DOMMatrix(getComputedStyle(line).transform).a, capital = pen.measureText('H').actualBoundingBoxAscent;
+        const wide = pen.measureText(text.textContent).width * scale / text.textContent.length;
+        return { text: text.textContent, whole: line.textContent, lines: range.getClientRects().length, capital, wide, box: box(line),
+            within: box(it.closest('.socket') ?? it.parentElement) };
+    });
+    const texts = all('.told, #banner-text, #question').map((it) => ({ text: it.textContent, box: box(it),
+        size: parseFloat(getComputedStyle(it).fontSize), cut: it.scrollHeight - it.clientHeight }));
+    const isTight = document.getElementById('sockets').className === 'tight', panels = isTight ? all('.socket') : [];
+    const controls = [...all('button, input'), ...panels].map((it) => ({ text: it.textContent || it.id, box: box(it),
+        cut: it.matches('button') ? it.scrollWidth - it.clientWidth : 0, isPanel: it.matches('.socket') }));
+    return { words, texts, controls, isTight, width: innerWidth, height: innerHeight, panels: all('.socket').map(box) };
+})()"""
+
+# A browser's sounds, as they are begun.
+RECORDER = """window.tones = [];
+    window.AudioContext = class { currentTime = 0; destination = {}; resume() {} };
+    window.OscillatorNode = class { constructor(_, told) { window.tones.push(told.type); } connect() {} start() {} stop() {} };"""
+
+
+class Bench:
+    """What a page has of its bench: it keeps what was said."""
+
+    def __init__(self, sockets, display):
+        names = [f"socket{place}" for place in range(1, sockets + 1)]
+        self.recipe = SimpleNamespace(sockets=dict.fromkeys(names, ()), display=display)
+        shift = Shift("2026-11-29T06:00:00Z", 41, {"hook_failed": 2, "stray": 1}, (), 39)
+        steps = ["read", "look", "register", "plan", "burn 1"]
+        self.board = Board("thermostat r3", "o17", [Socket(it) for it in names], "key", shift, steps)
+        self.done = []
+
+    def said(self, text):
+        self.done.append(text)
+
+    def pressed(self, name):
+        self.done.append(name)
+
+    def end(self, place, name, facts=None, took=13.4):
+        socket, chip, facts = f"socket{place}", f"240ac40000{place:02x}", facts or {}
+        self.board.working(socket, "read", chip, "")
+        serial = facts.get("serial", "")
+        self.board.ended(ended_socket(socket, Ended(name, **facts), "before ship", chip, serial, "o17", took))
+
+
+def apart(one, other):
+    """How far two boxes are from each other."""
+    aside = max(one[0] - other[2], other[0] - one[2], 0)
+    above = max(one[1] - other[3], other[1] - one[3], 0)
+    return math.hypot(aside, above)
+
+
+@unittest.skipUnless(PROGRAM, "there is no chromium")
+class Screen(unittest.TestCase):
+    """One browser, and a bench for each page."""
+
+    @classmethod
+    def setUpClass(cls):
+        cls.browser = Browser()
+        cls.addClassCleanup(cls.browser.close)
+        cls.browser.call("Page.addScriptToEvaluateOnNewDocument", source=RECORDER)
+
+    def show(self, sockets, display=Display(), ended=True):
+        bench = Bench(sockets, display)
+        for place in range(1, sockets + 1 if ended else 1):
+            bench.end(place, *ENDINGS[place - 1])
+        page = Page(bench, 0)
+        self.addCleanup(page.close)
+        page.start()
+        self.browser.show(page.url)
+        self.browser.until("document.querySelector('.word span') !== null")
+        bench.page = page
+        return bench
+
+    def drawn(self, bench):
+        """What is seen once the page shows the board."""
+        self.browser.until(f"document.body.dataset.version === '{bench.board.shown()['version']}'")
+        return self.browser.value(SEEN)
+
+    def text(self, name):
+        return self.browser.value(f"document.querySelector('{name}').textContent")
+
+    def click(self, name):
+        self.browser.value(f"document.querySelector('{name}').click()")
+
+    def done(self, bench, count):
+        self.browser.until("true")
+        for _ in range(200):
+            if len(bench.done) >= count:
+                break
+            self.browser.value("new Promise((done) => setTimeout(done, 10))")
+        return bench.done
+
+    def test_each_size(self):
+        """With results, with the line stopped, and with a question too; and while the server is away."""
+        for width, height, inches, diagonal in SCREENS:
+            self.browser.size(width, height)
+            mm = math.hypot(width, height) / diagonal / 25.4
+            for sockets in range(1, 9):
+                bench = self.show(sockets, Display(inches=inches))
+                for what, change in (
+                    ("results", lambda: None),
+                    ("away", lambda: bench.board.away("no reply comes")),
+                    ("stopped", lambda: bench.board.stop(STOPPED)),
+                    ("asked", lambda: bench.board.ask(ASKED, ["yes", "no"])),
+                ):
+                    change()
+                    with self.subTest(what, screen=(width, height, inches), sockets=sockets):
+                        self.assert_fits(self.drawn(bench), mm, sockets, what)
+            self.picture(f"{width}")
+
+    def picture(self, width):
+        if os.environ.get("PICTURES") and width == "1280":
+            self.browser.picture(ROOT / "docs" / "pictures" / "bench-panel.png", 800)
+
+    def assert_fits(self, seen, mm, sockets, what):
+        whole = [0, 0, seen["width"], seen["height"]]
+        self.assertEqual(len(seen["panels"]), sockets)
+        banner = {"results": [], "away": ["AWAY"]}.get(what, ["STOPPED"])
+        self.assertEqual(len(seen["words"]), 2 * sockets + len(banner))
+        for it in seen["words"]:
+            self.assertEqual(it["lines"], 1, it)
+            self.assertGreaterEqual(it["capital"] / mm, CAPITALS, it)
+            self.assertGreaterEqual(it["wide"], 0.5 * it["capital"], it)
+            self.assert_within(it["box"], it["within"], it)
+            self.assert_within(it["within"], whole, it)
+        for it in seen["texts"]:
+            self.assert_within(it["box"], whole, it)
+            self.assertLessEqual(it["cut"], 1, it)
+            self.assertGreaterEqual(it["size"] / mm, 2.5, it)
+        told = [it["text"] for it in seen["texts"]]
+        self.assertFalse(seen["isTight"] and (seen["width"] == 1920 or sockets < 4 and what == "results"))
+        self.assertTrue(seen["isTight"] or sum(": " in it for it in told) >= sockets, told)
+        self.assertEqual([STOPPED in told, ASKED in told], [what in ("stopped", "asked"), what == "asked"])
+        for place, it in enumerate(seen["controls"]):
+            self.assert_within(it["box"], whole, it)
+            self.assertLessEqual(it["cut"], 0, it)
+            left, top, right, bottom = it["box"]
+            self.assertGreaterEqual(min(right - left, bottom - top) / mm, 19.9, it)
+            for other in seen["controls"][:place]:
+                least = 1.9 if it["isPanel"] or other["isPanel"] else 3.9
+                self.assertGreaterEqual(apart(it["box"], other["box"]) / mm, least, (it, other))
+        names = [it["text"] for it in seen["controls"]]
+        self.assertEqual(["Go on" in names, "Yes" in names], [what in ("stopped", "asked"), what == "asked"])
+
+    def assert_within(self, inner, outer, told):
+        for place, sign in enumerate((1, 1, -1, -1)):
+            self.assertGreaterEqual(sign * (inner[place] - outer[place]), -1.5, told)
+
+
+if __name__ == "__main__":
+    unittest.main()
