@@ -20,7 +20,7 @@ class Browser:
     """One page, of one size. `more` are further words of the program's command line."""
 
     def __init__(self, width=1200, height=760, more=()):
-        self.folder = tempfile.TemporaryDirectory()
+        self.folder = tempfile.TemporaryDirectory(ignore_cleanup_errors=True)  # its processes end a little later
         ours, theirs = os.pipe(), os.pipe()
         words = [PROGRAM, "--headless=new", "--no-sandbox", "--disable-gpu", "--hide-scrollbars", "--no-first-run"]
         words += [f"--window-size={width},{height}", f"--user-data-dir={self.folder.name}", "--remote-debugging-pipe"]

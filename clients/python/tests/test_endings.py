@@ -112,7 +112,7 @@ class Endings(BenchCase):
                 os.unlink(gone)
             bench.said("left")
             word, found, told = bench.ended("left")
-            self.assertEqual((word, found), ("PASS" if reason == "passed" else "FAIL", reason))
+            self.assertEqual((word, found), ({"passed": "PASS", "no_label": "LABEL"}.get(reason, "FAIL"), reason))
             self.assertIn(sentence, told)
             begun = [] if reason == "passed" else [MAC]
             self.assertEqual([it["chip"] for it in bench.board()["under_way"]], begun)

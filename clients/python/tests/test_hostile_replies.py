@@ -192,7 +192,7 @@ class AtBench(BenchCase):
         """A first address of six octets, with others behind it that have seven."""
         bench, _, _ = self.put_in((rb'"mac":"[^"]*"(,"not_after")', rb'"mac":"ffffffffffff"\1'))
         word, reason, sentence = bench.ended("left")
-        self.assertEqual((word, reason), ("FAIL", "no_label"))
+        self.assertEqual((word, reason), ("LABEL", "no_label"))
         self.assertIn("the addresses of A001 aren't those of its order", sentence)
         self.assertFalse((self.folder / "hooked").exists())
 

@@ -7,6 +7,7 @@ is 2 * 2000 mm * tan(11')), letters at least half as wide as high (ISO 9241-303)
 
 from __future__ import annotations
 
+import json
 import math
 import os
 import unittest
@@ -114,7 +115,6 @@ class Screen(unittest.TestCase):
         page.start()
         self.browser.show(page.url)
         self.browser.until("document.querySelector('.word span') !== null")
-        bench.page = page
         return bench
 
     def drawn(self, bench):
@@ -123,10 +123,10 @@ class Screen(unittest.TestCase):
         return self.browser.value(SEEN)
 
     def text(self, name):
-        return self.browser.value(f"document.querySelector('{name}').textContent")
+        return self.browser.value(f"document.querySelector({json.dumps(name)}).textContent")
 
     def click(self, name):
-        self.browser.value(f"document.querySelector('{name}').click()")
+        self.browser.value(f"document.querySelector({json.dumps(name)}).click()")
 
     def done(self, bench, count):
         self.browser.until("true")
@@ -154,6 +154,114 @@ class Screen(unittest.TestCase):
                         self.assert_fits(self.drawn(bench), mm, sockets, what)
             self.picture(f"{width}")
 
+    def test_banners_without_their_words(self):
+        """Each has a shape and a ground of its own, and another brightness."""
+        self.browser.size(1280, 800)
+        bench = self.show(2)
+        looks = """(() => {
+            const banner = getComputedStyle(document.getElementById('banner')), shape = document.querySelector('#banner i');
+            return [getComputedStyle(shape).clipPath, banner.backgroundImage, banner.backgroundColor + banner.color];
+        })()"""
+        found, speed = [], {"latency": 0, "downloadThroughput": -1, "uploadThroughput": -1}
+        for kind, change in (
+            ("AWAY", lambda: bench.board.away("no reply comes")),
+            ("STOPPED", lambda: bench.board.stop(STOPPED)),
+            ("GONE", lambda: self.browser.call("Network.emulateNetworkConditions", offline=True, **speed)),
+        ):
+            change()
+            self.browser.until(f"document.body.classList.contains('{kind}')")
+            found.append(self.browser.value(looks))
+        self.browser.call("Network.emulateNetworkConditions", offline=False, **speed)
+        for place in zip(*found):
+            self.assertEqual(len(set(place)), 3, place)
+
+    def test_enter_is_the_fields(self):
+        """Whatever was touched before: a button, a panel's button, the ground."""
+        self.browser.size(1280, 720)
+        bench = self.show(2)
+        done = 0
+        for name, told in (
+            ("#stop", ["stop"]),
+            ("#shift", ["shift"]),
+            ("#scrap", ["scrap"]),
+            ("#sound", []),
+            ("[data-place='0'] .keys button", ["socket1"]),
+            ("[data-place='1'] .keys button + button", ["scrap 240ac4000002"]),
+            ("h1", []),
+        ):
+            self.browser.value(f"document.querySelector({json.dumps(name)}).focus()")
+            self.click(name)
+            self.assertEqual(self.browser.value("document.activeElement.id"), "text", name)
+            self.browser.press("Enter")
+            done += len(told) + 1
+            self.assertEqual(self.done(bench, done)[done - len(told) - 1 :], [*told, ""], name)
+        self.browser.value("document.activeElement.blur()")
+        self.browser.type("")
+        self.assertEqual(self.done(bench, done + 1)[done:], [""])
+
+    def test_a_small_panel(self):
+        """A touch shows its sentence and its buttons in the bar."""
+        self.browser.size(1024, 600)
+        bench = self.show(8, Display(inches=10))
+        self.click("[data-place='1'] .word")
+        told = "2 socket2: A bit reads 1 that nobody planned, and the chip is lost (ABS_DONE_1): take it out, red box."
+        self.assertTrue(self.text("#question").startswith(told), self.text("#question"))
+        shown = "[...document.querySelectorAll('#line button')].filter((it) => !it.hidden).map((it) => it.textContent)"
+        self.assertEqual(self.browser.value(shown), ["Begin socket2", "Scrap", "Back"])
+        self.assert_fits(self.drawn(bench), math.hypot(1024, 600) / 254, 8, "panel")
+        self.click("#scrap")
+        self.assertEqual(self.done(bench, 1), ["scrap 240ac4000002"])
+        self.assertEqual(self.browser.value(shown), ["Begin all", "Stop the line", "New shift", "Scrap a chip", "Sound: on"])
+        self.click("[data-place='0'] .word")
+        self.click("#begin")
+        self.assertEqual(self.done(bench, 2)[1:], ["socket1"])
+
+    def test_what_is_counted(self):
+        """The time of a chip stands, the last ten are listed, and the counts have the first pass and the reasons."""
+        self.browser.size(1920, 1080)
+        bench = self.show(1, ended=False)
+        for place in range(11):
+            bench.end(1, "passed", {"serial": f"T{place:04}"}, 13.4)
+        self.drawn(bench)
+        more = self.text(".more")
+        self.assertEqual(more, "chip 240ac4000001, serial number T0010, 13 s")
+        last = self.browser.value("[...document.querySelectorAll('#last tr')].map((it) => it.children[1].textContent)")
+        self.assertEqual(last, [f"T{place:04}" for place in range(10, 0, -1)])
+        rows = self.browser.value("[...document.querySelectorAll('#counts tr')].map((it) => it.innerText.split('\\t'))")
+        told = [("passed", "41"), ("first pass", "39"), ("failed", "3"), ("hook failed", "2"), ("stray", "1")]
+        self.assertEqual([tuple(it.strip() for it in row) for row in rows], told)
+        bench.board.working("socket1", "register", "240ac4000002", "")
+        self.drawn(bench)
+        self.assertEqual((self.text(".word bdi:last-child"), self.text(".told")), ("3/5", "register"))
+        self.browser.until("document.querySelector('.more').textContent === 'chip 240ac4000002, 1 s'")
+        bench.end(1, *FAILED)
+        bench.board.waiting("socket1")
+        self.drawn(bench)
+        self.assertEqual((self.text(".word bdi:last-child"), self.text(".box bdi:last-child")), ("FAIL", "AGAIN"))
+        style = self.browser.value("[getComputedStyle(document.querySelector('.word')).color, "
+                                   "getComputedStyle(document.querySelector('.socket')).backgroundImage]")  # fmt: skip
+        self.assertEqual((style, self.text(".told")), (["rgb(107, 107, 107)", "none"], "waiting"))
+
+    def test_sounds(self):
+        """PASS and FAIL sound once each, and not alike; what ended before the page was opened, and what is off, don't."""
+        self.browser.size(1280, 720)
+        bench = self.show(2)
+        self.drawn(bench)
+        self.assertEqual(self.browser.value("window.tones"), [])
+        for name, tones in (("passed", ["sine", "sine"]), ("stray", ["square", "square"]), ("passed_before", [])):
+            self.browser.value("window.tones = []")
+            if not tones:
+                self.click("#sound")
+                self.assertEqual(self.text("#sound"), "Sound: off")
+            bench.end(1, name)
+            self.drawn(bench)
+            bench.board.notice("drawn once more")
+            self.drawn(bench)
+            self.assertEqual(self.browser.value("window.tones"), tones, name)
+        self.browser.value("localStorage.clear()")
+        self.show(1, Display(sound=False))
+        self.assertEqual(self.text("#sound"), "Sound: off")
+
     def picture(self, width):
         if os.environ.get("PICTURES") and width == "1280":
             self.browser.picture(ROOT / "docs" / "pictures" / "bench-panel.png", 800)
@@ -161,8 +269,7 @@ class Screen(unittest.TestCase):
     def assert_fits(self, seen, mm, sockets, what):
         whole = [0, 0, seen["width"], seen["height"]]
         self.assertEqual(len(seen["panels"]), sockets)
-        banner = {"results": [], "away": ["AWAY"]}.get(what, ["STOPPED"])
-        self.assertEqual(len(seen["words"]), 2 * sockets + len(banner))
+        self.assertEqual(len(seen["words"]), 2 * sockets + (what in ("away", "stopped", "asked")))
         for it in seen["words"]:
             self.assertEqual(it["lines"], 1, it)
             self.assertGreaterEqual(it["capital"] / mm, CAPITALS, it)
@@ -176,7 +283,8 @@ class Screen(unittest.TestCase):
         told = [it["text"] for it in seen["texts"]]
         self.assertFalse(seen["isTight"] and (seen["width"] == 1920 or sockets < 4 and what == "results"))
         self.assertTrue(seen["isTight"] or sum(": " in it for it in told) >= sockets, told)
-        self.assertEqual([STOPPED in told, ASKED in told], [what in ("stopped", "asked"), what == "asked"])
+        is_stopped, is_asked = what in ("stopped", "asked"), what == "asked"
+        self.assertEqual([STOPPED in told, ASKED in told], [is_stopped, is_asked])
         for place, it in enumerate(seen["controls"]):
             self.assert_within(it["box"], whole, it)
             self.assertLessEqual(it["cut"], 0, it)
@@ -186,7 +294,7 @@ class Screen(unittest.TestCase):
                 least = 1.9 if it["isPanel"] or other["isPanel"] else 3.9
                 self.assertGreaterEqual(apart(it["box"], other["box"]) / mm, least, (it, other))
         names = [it["text"] for it in seen["controls"]]
-        self.assertEqual(["Go on" in names, "Yes" in names], [what in ("stopped", "asked"), what == "asked"])
+        self.assertEqual(["Go on" in names, "Yes" in names], [is_stopped, is_asked])
 
     def assert_within(self, inner, outer, told):
         for place, sign in enumerate((1, 1, -1, -1)):

@@ -88,7 +88,7 @@
 
   // A word from afar in one line, narrower where it has to be.
   const fit = (element, number, sign, text) => {
-    const line = element.firstChild ?? element.appendChild(made("span", {}, made("b", { class: "number" }), made("b", { class: "sign" }), made("b", {})));
+    const line = element.firstChild ?? element.appendChild(made("span", {}, made("bdi", { class: "number" }), made("bdi", { class: "sign" }), made("bdi", {})));
     const [numbers, signs, word] = line.children;
     put(numbers, number && `${number} `);
     put(signs, sign && `${sign} `);
