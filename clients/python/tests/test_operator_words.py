@@ -1,4 +1,4 @@
-"""The operator's words: each language has each word and each ending, with the same names to fill in; a plant's own file.
+"""The operator's words: each language has each word and each ending, with the same names to fill in; a plant's file.
 
 The endings are those of the table in docs/how-to/run-a-bench.md.
 """
@@ -11,6 +11,7 @@ import string
 import tempfile
 import unittest
 from pathlib import Path
+from unittest import mock
 
 from support import ROOT
 
@@ -46,17 +47,13 @@ def blanks(*texts):
 class Words(unittest.TestCase):
     def setUp(self):
         """What a file changes is taken back."""
-        kept = copy.deepcopy(words.SAID), dict(ENDINGS)
+        for place, values in ((ENDINGS, {}), (words.SAID, copy.deepcopy(words.SAID))):
+            patch = mock.patch.dict(place, values)
+            self.addCleanup(patch.stop)
+            patch.start()
         folder = tempfile.TemporaryDirectory()
         self.addCleanup(folder.cleanup)
         self.folder = Path(folder.name)
-
-        def take_back():
-            for place, it in ((words.SAID, kept[0]), (ENDINGS, kept[1])):
-                place.clear()
-                place.update(it)
-
-        self.addCleanup(take_back)
 
     def file(self, text):
         file = self.folder / "our.toml"
@@ -81,7 +78,8 @@ class Words(unittest.TestCase):
     def test_what_is_said(self):
         """A file's words, and English where it has none; an ending's sentence too."""
         words.take(words.FOLDER / "de.toml")
-        words.take(self.file('[words]\nyes = "Jawohl"\n[endings]\ncoding = ["Pech", "weg damit"]\nno_such = ["", ""]\n'))
+        own = '[words]\nyes = "Jawohl"\n[endings]\ncoding = ["Pech", "weg damit"]\nno_such = ["", ""]\n'
+        words.take(self.file(own))
         self.assertEqual([words.said(it) for it in ("yes", "no", "STOPPED")], ["Jawohl", "Nein", "HALT"])
         self.assertEqual(Ended("passed").ending.sentence(serial="A1"),
                          "Der Chip ist ausgeliefert als A1: herausnehmen, grüne Kiste.")  # fmt: skip
@@ -89,7 +87,8 @@ class Words(unittest.TestCase):
         self.assertEqual([words.step_said(it) for it in ("read back 2", "burn 1", "key of BLOCK1", "read", "reading")],
                          ["zurücklesen 2", "brennen 1", "Schlüssel von BLOCK1", "lesen", "reading"])  # fmt: skip
         row = [type("Failure", (), {"step": "ship", "reason": "no_burn", "socket": "left"})] * 2
-        self.assertEqual(in_common(row), "alle beim Schritt 'ausliefern', jeder als 'brennt nicht', jeder im Sockel 'left'")
+        told = "alle beim Schritt 'ausliefern', jeder als 'brennt nicht', jeder im Sockel 'left'"
+        self.assertEqual(in_common(row), told)
 
     def test_what_is_refused(self):
         """Before the first chip: what can't be filled in, and what would be more than a name."""
@@ -132,9 +131,11 @@ class Words(unittest.TestCase):
             return recipe_of(file).display
 
         found = read('words = "our.toml"\ninches = 10.1\nsound = false\nbadge = "EMP-"\n')
-        self.assertEqual((found.words, found.inches, found.sound, found.badge), (self.folder / "our.toml", 10.1, False, "EMP-"))
+        told = {"words": file.with_name("our.toml"), "inches": 10.1, "sound": False, "badge": "EMP-"}
+        self.assertEqual(vars(found), told)
         found = read('words = "de.toml"')
-        self.assertEqual((found.words.parent, found.inches, found.sound, found.badge), (words.FOLDER, 0, True, "operator:"))
+        usual = {"words": words.FOLDER / "de.toml", "inches": 0, "sound": True, "badge": "operator:"}
+        self.assertEqual(vars(found), usual)
         for more, told in (
             ("colour = 1", "[screen] has 'colour'"),
             ('words = "no.toml"', "there is no file of words no.toml"),

@@ -52,7 +52,8 @@ class Page(BenchCase):
         return self.browser.value(f"""(() => {{
             const card = document.querySelector('[data-place="{place}"]'), style = getComputedStyle(card);
             return {{ name: card.children[0].textContent, word: card.children[1].innerText.trim(),
-                box: card.children[2].innerText.trim(), told: card.children[3].textContent, colour: style.backgroundColor, image: style.backgroundImage,
+                box: card.children[2].innerText.trim(), told: card.children[3].textContent,
+                colour: style.backgroundColor, image: style.backgroundImage,
                 line: style.borderTopStyle, size: parseFloat(getComputedStyle(card.children[1]).fontSize) }};
         }})()""")
 
@@ -61,7 +62,8 @@ class Page(BenchCase):
         return self.card(place)
 
     def banner(self):
-        return self.browser.value("['word', 'text'].map((it) => document.getElementById(`banner-${it}`).textContent).join(' ')")
+        told = "['word', 'text'].map((it) => document.getElementById(`banner-${it}`).textContent).join(' ')"
+        return self.browser.value(told)
 
     def aloud(self):
         return self.browser.value("document.getElementById('said').textContent")
@@ -101,7 +103,8 @@ class Page(BenchCase):
         self.assertIn(STRIPES, card["image"])
         self.assertEqual(self.word(1, "PASS")["line"], "solid")
         rows = self.browser.value("[...document.querySelectorAll('#counts tr')].map((row) => row.innerText.trim())")
-        self.assertEqual([row.split() for row in rows], [["passed", "1"], ["first", "pass", "1"], ["failed", "1"], ["stray", "1"]])
+        told = [["passed", "1"], ["first", "pass", "1"], ["failed", "1"], ["stray", "1"]]
+        self.assertEqual([row.split() for row in rows], told)
         self.assertIsNone(bench.board()["away"])
         self.picture("red")
         self.browser.call("Emulation.setEmulatedVisionDeficiency", type="achromatopsia")
@@ -201,7 +204,8 @@ class Page(BenchCase):
             self.assertEqual(self.asked("GET", f"/v1/device?chip={MACS[0]}")[1]["state"], state)
         self.assertEqual(bench.board()["notice"], f"The chip {MACS[0]} is scrapped (hook_failed): it is done with.")
         card = self.card(0)
-        self.assertEqual((card["box"], card["told"]), ("RED BOX", "The chip is scrapped, for good: take it out, red box."))
+        told = "The chip is scrapped, for good: take it out, red box."
+        self.assertEqual((card["box"], card["told"]), ("RED BOX", told))
         self.assertTrue(self.browser.value("document.querySelector('.keys button + button').hidden"))
 
     def test_others_pages(self):

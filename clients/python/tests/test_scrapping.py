@@ -94,7 +94,7 @@ class Scrapping(BenchCase):
         bench = self.failed(hooks={"before_ship": {"command": [broken]}})
         for answer in ("no", "", "left", "o1 left", MAC, "yes yes", "scrapped"):
             bench.said(f"scrap {MAC}")
-            told = "It is identified. Its serial number A001 is used up for good. The bench said: The command before_ship"
+            told = "It is identified. Its serial number A001 is used up for good. The bench said: The command"
             self.assertIn(told, self.asked_about(bench))
             bench.said(answer)
             self.assertEqual(bench.board()["notice"], f"The chip {MAC} isn't scrapped.")

@@ -7,17 +7,20 @@ is 2 * 2000 mm * tan(11')), letters at least half as wide as high (ISO 9241-303)
 
 from __future__ import annotations
 
+import copy
 import json
 import math
 import os
 import unittest
 from types import SimpleNamespace
+from unittest import mock
 
 from browser import PROGRAM, Browser
 from support import ROOT
 
+from wanekupo import words
 from wanekupo.board import Board, Shift, Socket, ended_socket
-from wanekupo.endings import Ended
+from wanekupo.endings import ENDINGS, Ended
 from wanekupo.page import Page
 from wanekupo.recipe import Display
 
@@ -26,19 +29,19 @@ CAPITALS = 2 * 2000 * math.tan(math.radians(11 / 60))
 SCREENS = [(1280, 720, 0, math.hypot(1280, 720) / 96), (1920, 1080, 24, 24), (1920, 1080, 0, 24), (1280, 800, 10, 10),
            (1024, 600, 10, 10)]  # fmt: skip
 FAILED = ("hook_failed", {"hook": "before_ship", "detail": "the flash is write protected"})
-ENDINGS = [("passed", {"serial": "T0017"}), ("stray", {"detail": "ABS_DONE_1"}), FAILED, ("bad_token", {"no": 6}),
-           ("no_label", {"serial": "T0018", "detail": "no paper"}), ("other_order", {"order": "o18"}),
-           ("passed", {"serial": "T0019"}), ("lost", {"detail": "JTAG_DISABLE"})]  # fmt: skip
+STAYS = [("passed", {"serial": "T0017"}), ("stray", {"detail": "ABS_DONE_1"}), FAILED, ("bad_token", {"no": 6}),
+         ("no_label", {"serial": "T0018", "detail": "no paper"}), ("other_order", {"order": "o18"}),
+         ("passed", {"serial": "T0019"}), ("lost", {"detail": "JTAG_DISABLE"})]  # fmt: skip
 STOPPED = ("3 chips failed in a row, all at the step 'before ship', each as 'hook_failed', each in the socket 'left': "
            "look why before you go on.")  # fmt: skip
-ASKED = ("Scrap the chip 240ac4000001 for good? It is identified. Its serial number A001 is used up for good. The bench "
-         "said: The command before_ship failed (the flash is write protected): put it in once more, and where that "
-         "fails too, red box. Type yes; all else leaves it.")  # fmt: skip
+ASKED = ("Scrap the chip 240ac4000001 for good? It is identified. Its serial number A001 is used up for good. The "
+         "bench said: The command before_ship failed (the flash is write protected): put it in once more, and where "
+         "that fails too, red box. Type yes; all else leaves it.")  # fmt: skip
 
 # What is seen of the page, in its pixels: each word from afar with the height of its capitals and how it was narrowed,
 # the texts and the controls.
 SEEN = """(() => {
-    const box = (it) => { const { left, top, right, bottom } = it.getBoundingClientRect(); return [left, top, right, bottom]; };
+    const box = (it) => ['left', 'top', 'right', 'bottom'].map((side) => it.getBoundingClientRect()[side]);
     const isSeen = (it) => it.getClientRects().length > 0 && getComputedStyle(it).visibility === 'visible';
     const all = (names) => [...document.querySelectorAll(names)].filter(isSeen);
     const pen = document.createElement('canvas').getContext('2d');
@@ -46,9 +49,10 @@ SEEN = """(() => {
         const line = it.firstChild, text = line.lastChild, range = document.createRange(), style = getComputedStyle(it);
         range.selectNodeContents(text);
         pen.font = `${style.fontWeight} ${style.fontSize} ${style.fontFamily}`;
-        const scale = new DOMMatrix(getComputedStyle(line).transform).a, capital = pen.measureText('H').actualBoundingBoxAscent;
+        const scale = new DOMMatrix(getComputedStyle(line).transform).a;
+        const capital = pen.measureText('H').actualBoundingBoxAscent;
         const wide = pen.measureText(text.textContent).width * scale / text.textContent.length;
-        return { text: text.textContent, whole: line.textContent, lines: range.getClientRects().length, capital, wide, box: box(line),
+        return { text: text.textContent, lines: range.getClientRects().length, capital, wide, box: box(line),
             within: box(it.closest('.socket') ?? it.parentElement) };
     });
     const texts = all('.told, #banner-text, #question').map((it) => ({ text: it.textContent, box: box(it),
@@ -62,7 +66,10 @@ SEEN = """(() => {
 # A browser's sounds, as they are begun.
 RECORDER = """window.tones = [];
     window.AudioContext = class { currentTime = 0; destination = {}; resume() {} };
-    window.OscillatorNode = class { constructor(_, told) { window.tones.push(told.type); } connect() {} start() {} stop() {} };"""
+    window.OscillatorNode = class {
+        constructor(_, told) { window.tones.push(told.type); }
+        connect() {} start() {} stop() {}
+    };"""
 
 
 class Bench:
@@ -109,7 +116,7 @@ class Screen(unittest.TestCase):
     def show(self, sockets, display=Display(), ended=True):
         bench = Bench(sockets, display)
         for place in range(1, sockets + 1 if ended else 1):
-            bench.end(place, *ENDINGS[place - 1])
+            bench.end(place, *STAYS[place - 1])
         page = Page(bench, 0)
         self.addCleanup(page.close)
         page.start()
@@ -152,15 +159,16 @@ class Screen(unittest.TestCase):
                     change()
                     with self.subTest(what, screen=(width, height, inches), sockets=sockets):
                         self.assert_fits(self.drawn(bench), mm, sockets, what)
-            self.picture(f"{width}")
+                if (width, sockets) == (1280, 8) and inches and os.environ.get("PICTURES"):
+                    self.browser.picture(ROOT / "docs" / "pictures" / "bench-panel.png")
 
     def test_banners_without_their_words(self):
         """Each has a shape and a ground of its own, and another brightness."""
         self.browser.size(1280, 800)
         bench = self.show(2)
         looks = """(() => {
-            const banner = getComputedStyle(document.getElementById('banner')), shape = document.querySelector('#banner i');
-            return [getComputedStyle(shape).clipPath, banner.backgroundImage, banner.backgroundColor + banner.color];
+            const [shape, ground] = ['#banner i', '#banner'].map((it) => getComputedStyle(document.querySelector(it)));
+            return [shape.clipPath, ground.backgroundImage, ground.backgroundColor + ground.color];
         })()"""
         found, speed = [], {"latency": 0, "downloadThroughput": -1, "uploadThroughput": -1}
         for kind, change in (
@@ -211,7 +219,8 @@ class Screen(unittest.TestCase):
         self.assert_fits(self.drawn(bench), math.hypot(1024, 600) / 254, 8, "panel")
         self.click("#scrap")
         self.assertEqual(self.done(bench, 1), ["scrap 240ac4000002"])
-        self.assertEqual(self.browser.value(shown), ["Begin all", "Stop the line", "New shift", "Scrap a chip", "Sound: on"])
+        own = ["Begin all", "Stop the line", "New shift", "Scrap a chip", "Sound: on"]
+        self.assertEqual(self.browser.value(shown), own)
         self.click("[data-place='0'] .word")
         self.click("#begin")
         self.assertEqual(self.done(bench, 2)[1:], ["socket1"])
@@ -243,7 +252,7 @@ class Screen(unittest.TestCase):
         self.assertEqual((style, self.text(".told")), (["rgb(107, 107, 107)", "none"], "waiting"))
 
     def test_sounds(self):
-        """PASS and FAIL sound once each, and not alike; what ended before the page was opened, and what is off, don't."""
+        """PASS and FAIL sound once each, and not alike; what ended before the page was opened, or is off, doesn't."""
         self.browser.size(1280, 720)
         bench = self.show(2)
         self.drawn(bench)
@@ -262,20 +271,28 @@ class Screen(unittest.TestCase):
         self.show(1, Display(sound=False))
         self.assertEqual(self.text("#sound"), "Sound: off")
 
-    def picture(self, width):
-        if os.environ.get("PICTURES") and width == "1280":
-            self.browser.picture(ROOT / "docs" / "pictures" / "bench-panel.png", 800)
+    def test_another_language(self):
+        """Its words are as large, in the smallest panels too."""
+        self.browser.size(1024, 600)
+        with mock.patch.dict(ENDINGS), mock.patch.dict(words.SAID, copy.deepcopy(words.SAID)):
+            words.take(words.FOLDER / "de.toml")
+            bench = self.show(8, Display(inches=10))
+            told = "3 Chips schlecht hintereinander, alle beim Schritt 'ausliefern': erst nachsehen, dann weiter."
+            bench.board.stop(told)
+            bench.board.ask(words.said("shift_asked", passed=41), ["yes", "no"])
+            seen = self.drawn(bench)
+        self.assertEqual((self.text("#banner-word"), self.text("#go")), ("HALT", "Weiter"))
+        self.assert_words(seen, math.hypot(1024, 600) / 254)
+        told = ["PASS", "FAIL", "FAIL", "FAIL", "LABEL", "FAIL", "PASS", "FAIL"]
+        self.assertEqual([it["text"] for it in seen["words"]][1::2], told)
+        told = ["GRÜNE", "ROTE", "ERNEUT", "RUFEN", "ERNEUT", "FRAGEN", "GRÜNE", "ROTE"]
+        self.assertEqual([it["text"] for it in seen["words"]][2::2], told)
 
     def assert_fits(self, seen, mm, sockets, what):
-        whole = [0, 0, seen["width"], seen["height"]]
         self.assertEqual(len(seen["panels"]), sockets)
         self.assertEqual(len(seen["words"]), 2 * sockets + (what in ("away", "stopped", "asked")))
-        for it in seen["words"]:
-            self.assertEqual(it["lines"], 1, it)
-            self.assertGreaterEqual(it["capital"] / mm, CAPITALS, it)
-            self.assertGreaterEqual(it["wide"], 0.5 * it["capital"], it)
-            self.assert_within(it["box"], it["within"], it)
-            self.assert_within(it["within"], whole, it)
+        self.assert_words(seen, mm)
+        whole = [0, 0, seen["width"], seen["height"]]
         for it in seen["texts"]:
             self.assert_within(it["box"], whole, it)
             self.assertLessEqual(it["cut"], 1, it)
@@ -295,6 +312,15 @@ class Screen(unittest.TestCase):
                 self.assertGreaterEqual(apart(it["box"], other["box"]) / mm, least, (it, other))
         names = [it["text"] for it in seen["controls"]]
         self.assertEqual(["Go on" in names, "Yes" in names], [is_stopped, is_asked])
+
+    def assert_words(self, seen, mm):
+        """Each word from afar is in one line, large and wide enough, and in its panel, which is in the window."""
+        for it in seen["words"]:
+            self.assertEqual(it["lines"], 1, it)
+            self.assertGreaterEqual(it["capital"] / mm, CAPITALS, it)
+            self.assertGreaterEqual(it["wide"], 0.5 * it["capital"], it)
+            self.assert_within(it["box"], it["within"], it)
+            self.assert_within(it["within"], [0, 0, seen["width"], seen["height"]], it)
 
     def assert_within(self, inner, outer, told):
         for place, sign in enumerate((1, 1, -1, -1)):

@@ -143,7 +143,7 @@
     return parts.join(", ");
   };
 
-  const toldOf = (socket) => socket.state === "working" ? socket.step : socket.sentence || (socket.state === "waiting" ? words.words.waiting : "");
+  const toldOf = (socket) => socket.state === "working" ? socket.step : socket.sentence || (socket.was ? say("waiting") : "");
 
   // What a panel shows large: a result, also the last one while it waits.
   const resultOf = (socket) => socket.state === "waiting" ? socket.was : socket.state;

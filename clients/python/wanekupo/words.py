@@ -25,8 +25,8 @@ ENGLISH = tomllib.loads((FOLDER / "en.toml").read_text(encoding="utf-8"))
 SAID: dict[str, dict[str, str]] = {table: dict(ENGLISH[table]) for table in TABLES}
 
 
-# What is typed or scanned and is no traveller. The first of them pass a question over, and do their own work: a line can
-# always be stopped.
+# What is typed or scanned and is no traveller. The first of them pass a question over, and do their own work: a line
+# can always be stopped.
 OTHERS = ("stop", "go", "shift", "scrap", "forget", "help", "?")
 TYPED = (*OTHERS, "yes", "no")
 
