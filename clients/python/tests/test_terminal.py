@@ -148,7 +148,7 @@ class Begun(BenchCase):
             bench.until(lambda board, before=before: board["shift"] != before)
         shift = bench.board()["shift"]
         self.assertEqual((shift["passed"], shift["first"], shift["failed"]), (2, 1, {"hook_failed": 1}))
-        for answer, passed in (("no", 2), ("left", 2), ("yes", 0)):
+        for answer, passed in (("no", 2), ("left", 2), ("operator:Eve", 2), ("yes", 0)):
             bench.said("shift")
             self.assertTrue(bench.board()["question"]["text"].startswith("Begin a new shift?"))
             bench.said(answer)

@@ -20,7 +20,8 @@ RESULTS = (PASSED, FAILED, UNLABELLED)
 
 # Where a chip goes, by the effect of its ending, and by its name where that says more; else somebody is called.
 BOXES = {PASS: "green", RED: "red", AGAIN: "again"}
-OWN_BOXES = {"no_serial": "red", **dict.fromkeys(("shipped_before", "other_order", "no_dump"), "ask")}
+OWN_BOXES = {"no_label": "again", **dict.fromkeys(("no_serial", "gave_way"), "red")}
+OWN_BOXES |= dict.fromkeys(("shipped_before", "other_order", "no_dump"), "ask")
 
 # How many of the last chips are shown.
 MOST_LAST = 10
