@@ -24,9 +24,9 @@ PAGE = ROOT / "docs" / "how-to" / "run-a-bench.md"
 LANGUAGES = [it.stem for it in words.FOLDER.glob("*.toml") if it.stem != "en"]
 ROW = re.compile(r"^\| `(\w+)` \| .* \| .* \| (.*) \|$", re.MULTILINE)
 # Where the page's last column sends a chip, by its first words.
-SENT = [("take it out, green box", "green"), ("take it out, red box", "red"), ("put it in once more", "again"),
-        ("put the first one back", "again"), ("press it in", "again"), ("look at the printer", "again"), ("keep it apart", "again"),
-        ("take it out, and", "ask"), ("take the", "again"), ("", "call")]  # fmt: skip
+AGAIN = ("put it in once more", "put the first one back", "press it in", "look at the printer", "keep it apart", "take the")
+SENT = [("take it out, green box", "green"), ("take it out, red box", "red"), *((it, "again") for it in AGAIN),
+        ("take it out, and", "ask"), ("", "call")]  # fmt: skip
 RECIPE = """name = "thermostat"
 order = "o1"
 map = "esp32.toml"

@@ -135,6 +135,25 @@ class Begun(BenchCase):
         bench.said("P-0815")
         self.assertEqual(bench.board()["operator"], "0815")
 
+    def test_another_language(self):
+        """The recipe's file of words, on the board and in the log; one that can't be said is refused at the start."""
+        self.order()
+        bench = self.run_bench(self.recipe(top={"screen": {"words": "de.toml"}}))
+        self.put("left", MAC)
+        bench.said("left")
+        told = "Der Chip ist ausgeliefert als A001: herausnehmen, grüne Kiste."
+        self.assertEqual(bench.ended("left"), ("PASS", "passed", told))
+        self.assertEqual([it["sentence"] for it in self.logged() if "result" in it], [told])
+        self.assertEqual(json.loads(bench.asked("GET", "/words")[2])["words"]["go_on"], "Weiter")
+        self.assertEqual(bench.end(), 0)
+        (self.folder / "our.toml").write_text('[words]\nleft = "{rest}"\n', encoding="ascii")
+        bench = self.run_bench(self.recipe(top={"screen": {"words": "our.toml"}}))
+        self.assertEqual(bench.process.wait(10), 2)
+        bench.reader.join()
+        told = "our.toml has in [words] the word left, which has rest in braces, and nothing to fill in there. "
+        told += "Mend that line, or take it away: what is missing is English.\n"
+        self.assertEqual(bench.lines, [f"{self.folder}/{told}"])
+
     def test_a_new_shift(self):
         """It is asked for; a chip that failed at first isn't a first pass; the last chips are there behind a start."""
         once = script(self.folder / "once", f"[ -e {self.folder}/seen ] || {{ touch {self.folder}/seen; exit 3; }}\n")
