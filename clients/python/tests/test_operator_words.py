@@ -24,7 +24,8 @@ PAGE = ROOT / "docs" / "how-to" / "run-a-bench.md"
 LANGUAGES = [it.stem for it in words.FOLDER.glob("*.toml") if it.stem != "en"]
 ROW = re.compile(r"^\| `(\w+)` \| .* \| .* \| (.*) \|$", re.MULTILINE)
 # Where the page's last column sends a chip, by its first words.
-AGAIN = ("put it in once more", "put the first one back", "press it in", "look at the printer", "keep it apart", "take the")
+AGAIN = ("put it in once more", "put the first one back", "press it in", "look at the printer", "keep it apart")
+AGAIN += ("take the",)
 SENT = [("take it out, green box", "green"), ("take it out, red box", "red"), *((it, "again") for it in AGAIN),
         ("take it out, and", "ask"), ("", "call")]  # fmt: skip
 RECIPE = """name = "thermostat"

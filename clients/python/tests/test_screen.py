@@ -41,6 +41,7 @@ ASKED = ("Scrap the chip 240ac4000001 for good? It is identified. Its serial num
 # What is seen of the page, in its pixels: each word from afar with the height of its capitals and how it was narrowed,
 # the texts and the controls.
 SEEN = """(() => {
+    scrollTo(0, 0);
     const box = (it) => ['left', 'top', 'right', 'bottom'].map((side) => it.getBoundingClientRect()[side]);
     const isSeen = (it) => it.getClientRects().length > 0 && getComputedStyle(it).visibility === 'visible';
     const all = (names) => [...document.querySelectorAll(names)].filter(isSeen);

@@ -292,7 +292,7 @@
   at("sound").addEventListener("click", () => { localStorage.setItem("sound", String(!isLoud())); play(SOUNDS.PASS); draw(); });
   for (const id of ["begin", "scrap", "back", "all"]) at(id).addEventListener("click", () => { chosen = -1; draw(); });
   // Enter is the field's, whatever was touched before it; and a scanner types wherever the focus is.
-  document.addEventListener("click", () => { at("text").focus(); });
+  document.addEventListener("click", () => { at("text").focus({ preventScroll: true }); });
   document.addEventListener("keydown", (event) => {
     const isTyped = event.key.length === 1 && event.key !== " " && !event.ctrlKey && !event.altKey && !event.metaKey;
     const isLost = event.key === "Enter" && document.activeElement === document.body;
