@@ -481,7 +481,7 @@ CLOCKS = [
     ),
     Forged(  # store: it was raised for some registrations, and put back
         "more devices than an order may have",
-        (f"UPDATE device SET ord = 'gate-40' WHERE customer = 'acme' AND ord = 'gate-41'",),
+        ("UPDATE device SET ord = 'gate-40' WHERE customer = 'acme' AND ord = 'gate-41'",),
         seal=("order was gate-41, and is gate-40",),
         audit=("order", "the order gate-40 has 9 devices that weren't given up, and its quantity is 8"),
     ),

@@ -20,7 +20,7 @@ class Browser:
     """One page, of one size. `more` are further words of the program's command line."""
 
     def __init__(self, width=1200, height=760, more=()):
-        self.folder = tempfile.TemporaryDirectory()
+        self.folder = tempfile.TemporaryDirectory(ignore_cleanup_errors=True)  # its processes end a little later
         ours, theirs = os.pipe(), os.pipe()
         words = [PROGRAM, "--headless=new", "--no-sandbox", "--disable-gpu", "--hide-scrollbars", "--no-first-run"]
         words += [f"--window-size={width},{height}", f"--user-data-dir={self.folder.name}", "--remote-debugging-pipe"]
@@ -36,8 +36,13 @@ class Browser:
         self.session = self.call("Target.attachToTarget", targetId=target, flatten=True)["sessionId"]
         for domain in ("Page", "Runtime", "Log", "Network"):
             self.call(f"{domain}.enable")
+        self.size(width, height)
+
+    def size(self, width, height):
+        """The size of the window, which is the screen's."""
+        self.width = width
         size = {"width": width, "height": height, "deviceScaleFactor": 1, "mobile": False}
-        self.call("Emulation.setDeviceMetricsOverride", **size)
+        self.call("Emulation.setDeviceMetricsOverride", **size, screenWidth=width, screenHeight=height)
 
     def call(self, method, **words):
         self.last += 1
@@ -98,7 +103,7 @@ class Browser:
         self.value("window.scrollTo(0, 0)")
         height = self.value("Math.ceil(document.documentElement.getBoundingClientRect().height)")
         height = min(most, height)
-        clip = {"x": 0, "y": 0, "width": 1200, "height": height, "scale": 1}
+        clip = {"x": 0, "y": 0, "width": self.width, "height": height, "scale": 1}
         png = self.call("Page.captureScreenshot", format="png", clip=clip, captureBeyondViewport=True)
         file.write_bytes(base64.b64decode(png["data"]))
 

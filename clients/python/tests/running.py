@@ -29,11 +29,12 @@ from wanekupo.journal import issued, requests_of
 MAP_FILE = ROOT / "maps" / "esp32.toml"
 PYTHONPATH = str(ROOT / "clients" / "python")
 SECONDS = 60
+# The states of a socket whose chip has ended.
+ENDED = ("PASS", "FAIL", "LABEL")
 # How long a robot may take for a chip, on a machine that has other work.
 A_CHIP = 60
 PAGE = ROOT / "docs" / "how-to" / "run-a-bench.md"
 FACTS = 'echo "$CHIP $ORDER $SERIAL $MAC $MACS $KEY_SHA256"\n'
-ENDS = ("PASS", "FAIL", "LABEL")
 GREEN, RED, ASK_WHERE = (f"take it out, {it}" for it in ("green box", "red box", "and ask where it comes from"))
 
 # The key pair of each chip, and a request for its certificate.
@@ -148,7 +149,7 @@ class Running:
     def ended(self, name):
         """How the chip in a socket ended: its word and its sentence."""
         board = self.until(
-            lambda it: next(one for one in it["sockets"] if one["name"] == name)["state"] in ENDS, "ended"
+            lambda it: next(one for one in it["sockets"] if one["name"] == name)["state"] in ENDED, "ended"
         )
         found = next(one for one in board["sockets"] if one["name"] == name)
         return found["state"], found["reason"], found["sentence"]
@@ -185,9 +186,9 @@ class Running:
 class Terminal:
     """A bench on a terminal of its own."""
 
-    def __init__(self, recipe, environment):
+    def __init__(self, recipe, environment, rows=40, columns=100):
         self.master, slave = pty.openpty()
-        fcntl.ioctl(slave, termios.TIOCSWINSZ, struct.pack("HHHH", 40, 100, 0, 0))
+        fcntl.ioctl(slave, termios.TIOCSWINSZ, struct.pack("HHHH", rows, columns, 0, 0))
         command = [sys.executable, "-B", "-m", "wanekupo", "run", str(recipe), "--no-page"]
         own = {name: it for name, it in os.environ.items() if name != "NO_COLOR"}
         environment = {**own, "PYTHONPATH": PYTHONPATH, "HOME": str(recipe.parent), **environment}
@@ -357,7 +358,7 @@ class Robot:
             raise AssertionError(board["stopped"])
         for it in board["sockets"]:
             name, mac = it["name"], self.placed.get(it["name"])
-            if it["state"] in ENDS and mac and it["chip"] in (mac, ""):
+            if it["state"] in ENDED and mac and it["chip"] in (mac, ""):
                 self.results.setdefault(mac, []).append(it["reason"])
                 if it["state"] == "PASS":
                     self.case.take(name, mac)

@@ -26,7 +26,7 @@ class Page(BenchCase):
 
     @classmethod
     def setUpClass(cls):
-        cls.browser = Browser()
+        cls.browser = Browser(1280, 720)
         cls.addClassCleanup(cls.browser.close)
 
     def setUp(self):
@@ -51,8 +51,9 @@ class Page(BenchCase):
         """What a socket's card shows, and what a person sees of it who sees no colours."""
         return self.browser.value(f"""(() => {{
             const card = document.querySelector('[data-place="{place}"]'), style = getComputedStyle(card);
-            return {{ name: card.children[0].textContent, word: card.children[1].textContent,
-                told: card.children[2].textContent, colour: style.backgroundColor, image: style.backgroundImage,
+            return {{ name: card.children[0].textContent, word: card.children[1].innerText.trim(),
+                box: card.children[2].innerText.trim(), told: card.children[3].textContent,
+                colour: style.backgroundColor, image: style.backgroundImage,
                 line: style.borderTopStyle, size: parseFloat(getComputedStyle(card.children[1]).fontSize) }};
         }})()""")
 
@@ -61,7 +62,8 @@ class Page(BenchCase):
         return self.card(place)
 
     def banner(self):
-        return self.browser.value("document.getElementById('banner').innerText")
+        told = "['word', 'text'].map((it) => document.getElementById(`banner-${it}`).textContent).join(' ')"
+        return self.browser.value(told)
 
     def aloud(self):
         return self.browser.value("document.getElementById('said').textContent")
@@ -79,6 +81,7 @@ class Page(BenchCase):
         card = self.word(0, "PASS")
         told = "The chip is shipped as A001: take it out, green box."
         self.assertEqual((card["name"], card["word"], card["told"]), ("1 left", "\u2714 PASS", told))
+        self.assertEqual(card["box"], "GREEN BOX")
         self.assertEqual((card["colour"], card["image"], card["line"]), (GREEN, "none", "solid"))
         self.assertGreater(card["size"], 60)
         self.assertEqual(self.aloud(), f"left: PASS. {told}")
@@ -96,10 +99,12 @@ class Page(BenchCase):
         card = self.word(0, "FAIL")
         told = "A bit reads 1 that nobody planned, and the chip is lost (ABS_DONE_1): take it out, red box."
         self.assertEqual((card["word"], card["told"], card["line"]), ("\u2718 FAIL", told, "double"))
+        self.assertEqual(card["box"], "RED BOX")
         self.assertIn(STRIPES, card["image"])
         self.assertEqual(self.word(1, "PASS")["line"], "solid")
         rows = self.browser.value("[...document.querySelectorAll('#counts tr')].map((row) => row.innerText.trim())")
-        self.assertEqual([row.split() for row in rows], [["passed", "1"], ["failed", "1"], ["stray", "1"]])
+        told = [["passed", "1"], ["first", "pass", "1"], ["failed", "1"], ["stray", "1"]]
+        self.assertEqual([row.split() for row in rows], told)
         self.assertIsNone(bench.board()["away"])
         self.picture("red")
         self.browser.call("Emulation.setEmulatedVisionDeficiency", type="achromatopsia")
@@ -120,7 +125,7 @@ class Page(BenchCase):
         self.picture("away")
         self.program.start()
         self.word(0, "PASS")
-        self.assertEqual(self.banner().strip(), "")
+        self.browser.until("document.getElementById('banner').hidden")
         bench.kill()
         self.browser.until("!document.getElementById('banner').hidden")
         self.assertIn("NO BENCH", self.banner())
@@ -177,30 +182,31 @@ class Page(BenchCase):
             self.browser.until(f"document.getElementById('{word}').hidden")
 
     def test_a_chip_is_scrapped(self):
-        """By the keyboard and a scanner: the button, the chip's name, a question, and its answer by a button."""
+        """By the button of its own panel, a question, and its answer by a button: its socket says so then."""
         broken = script(self.folder / "broken", "echo 'the flash is write protected'; exit 3\n")
         bench = self.show(hooks={"before_ship": {"command": [broken]}})
         self.put("left", MACS[0])
         self.browser.type("left")
         self.word(0, "FAIL")
         for answer, state, notice in (("no", "identified", "isn't scrapped"), ("yes", "scrapped", "is scrapped")):
-            self.browser.value("document.getElementById('scrap').focus()")
-            self.browser.press("Enter")
-            self.browser.until("!document.getElementById('question').hidden")
-            shown = "[...document.querySelectorAll('#question button')].filter((it) => !it.hidden).map((it) => it.id)"
-            self.assertEqual(self.browser.value(shown), ["no"])
-            self.browser.type(MACS[0])
+            self.browser.value("document.querySelector('[data-place=\"0\"] .keys button + button').click()")
             self.browser.until("!document.getElementById('yes').hidden")
-            told = self.browser.value("document.getElementById('question-text').textContent")
-            self.assertRegex(told, f"^Scrap the chip {MACS[0]} for good[?] It is identified.*flash is write protected")
+            shown = "[...document.querySelectorAll('#line button')].filter((it) => !it.hidden).map((it) => it.id)"
+            self.assertEqual(self.browser.value(shown), ["yes", "stop", "no"])
+            told = self.browser.value("document.getElementById('question').textContent")
+            self.assertRegex(told, f"^Scrap the chip {MACS[0]} for good[?] It is identified. Its serial number A001 is "
+                                   "used up for good. .*flash is write protected")  # fmt: skip
             if answer == "yes":
                 self.picture("scrap")
-            self.browser.value(f"document.getElementById('{answer}').focus()")
-            self.browser.press("Enter")
+            self.browser.value(f"document.getElementById('{answer}').click()")
             self.browser.until(f"document.getElementById('notice').textContent.includes(\"{notice}\")")
             self.browser.until("document.getElementById('question').hidden")
             self.assertEqual(self.asked("GET", f"/v1/device?chip={MACS[0]}")[1]["state"], state)
         self.assertEqual(bench.board()["notice"], f"The chip {MACS[0]} is scrapped (hook_failed): it is done with.")
+        card = self.card(0)
+        told = "The chip is scrapped, for good: take it out, red box."
+        self.assertEqual((card["box"], card["told"]), ("RED BOX", told))
+        self.assertTrue(self.browser.value("document.querySelector('.keys button + button').hidden"))
 
     def test_others_pages(self):
         """What another page, or another name of this machine, asks for is refused, and each reply has the policy."""
@@ -219,7 +225,7 @@ class Page(BenchCase):
             self.assertEqual(bool(bench.board()["stopped"]), status == 200, fields)
             bench.said("go")
         self.assertEqual(bench.asked("GET", "/board?after=0", None, {"Host": "evil.example"})[0], 403)
-        for path in ("/", "/page.js", "/page.css", "/board?after=0", "/none"):
+        for path in ("/", "/page.js", "/page.css", "/words", "/board?after=0", "/none"):
             _, fields, body = bench.asked("GET", path)
             self.assertTrue(fields["Content-Security-Policy"].startswith("default-src 'none';"), path)
             self.assertNotIn(b"abc", body if path.startswith("/board") else b"")

@@ -18,6 +18,7 @@ from support import HOST
 
 from wanekupo.board import Board, Shift, Socket
 from wanekupo.page import MOST_CONNECTIONS, Page
+from wanekupo.recipe import Display
 
 TYPED = {"text": "stop"}
 
@@ -26,7 +27,7 @@ class Bench:
     """What a page has of its bench: it keeps what was said."""
 
     class recipe:
-        sockets = {"left": ["espefuse"]}
+        sockets, display = {"left": ["espefuse"]}, Display()
 
     def __init__(self):
         self.board = Board("product", "o1", [Socket("left")], "key", Shift("2026-11-29T00:00:00Z"))
@@ -98,6 +99,8 @@ class Words(unittest.TestCase):
             ("digits without end", self.get(f"/board?after={'9' * 5000}"), 200, []),
             ("digits of another script", self.get("/board?after=\xb2"), 200, []),
             ("no address", self.get("//["), 404, []),
+            ("the words", self.get("/words?x=1"), 200, []),
+            ("the words of another host", self.get("/words").replace(b"127.0.0.1", b"evil.example"), 403, []),
             ("no file", self.get("/../../../../etc/passwd"), 404, []),
         ):
             with self.subTest(what), contextlib.redirect_stderr(io.StringIO()) as told:

@@ -94,7 +94,8 @@ class Scrapping(BenchCase):
         bench = self.failed(hooks={"before_ship": {"command": [broken]}})
         for answer in ("no", "", "left", "o1 left", MAC, "yes yes", "scrapped"):
             bench.said(f"scrap {MAC}")
-            self.assertIn("used up for good. The bench said: The command before_ship failed", self.asked_about(bench))
+            told = "It is identified. Its serial number A001 is used up for good. The bench said: The command"
+            self.assertIn(told, self.asked_about(bench))
             bench.said(answer)
             self.assertEqual(bench.board()["notice"], f"The chip {MAC} isn't scrapped.")
         for word, is_stopped in (("stop", True), ("go", False)):
@@ -109,9 +110,11 @@ class Scrapping(BenchCase):
         self.asked_about(bench)
         bench.said("Yes")
         self.told(bench, f"The chip {MAC} is scrapped (hook_failed)")
-        self.assertEqual(bench.socket("left")["state"], "waiting")
         self.assertEqual(bench.until(lambda board: not board["under_way"])["under_way"], [])
         self.assertEqual((self.state()[0], self.lost()), ("scrapped", [(MAC, "o1", "hook_failed")]))
+        socket = bench.socket("left")
+        told = ("FAIL", "red", "The chip is scrapped, for good: take it out, red box.")
+        self.assertEqual((socket["state"], socket["box"], socket["sentence"]), told)
 
     def test_what_is_not_scrapped(self):
         """No name, no chip, one of another order, one that is shipped or scrapped, and one that is worked on."""

@@ -13,22 +13,22 @@ import os
 import re
 import signal
 import threading
-import time
 from dataclasses import replace
 from pathlib import Path
 from typing import Callable, Iterator, Mapping, Optional, TypeVar
 
-from wanekupo.board import PASSED, WORKING, Board, Shift, Socket, ended_socket, in_common
+from wanekupo.board import MOST_LAST, PASSED, WORKING, Board, Shift, Socket, ended_socket, in_common
 from wanekupo.clearing import clear_old
 from wanekupo.config import Settings, changed, looking_station_of, station_of
 from wanekupo.endings import STOP, Ended, ended_by
 from wanekupo.errors import BadSettings
 from wanekupo.espefuse import KeyFile
 from wanekupo.keeping import Kept, now_text
-from wanekupo.life import Life
+from wanekupo.life import Life, steps_of
 from wanekupo.page import Page
 from wanekupo.parts import part_of
 from wanekupo.printing import warn
+from wanekupo.questions import Questions
 from wanekupo.recipe import Recipe, recipe_of
 from wanekupo.recipe_checks import faults_of
 from wanekupo.replies import Identity, Order
@@ -38,6 +38,7 @@ from wanekupo.sentences import sentence_of
 from wanekupo.station import Station
 from wanekupo.supply import Supply
 from wanekupo.turns import Leaving, Turns
+from wanekupo.words import OTHERS, said, step_said, take
 
 Made = TypeVar("Made")
 
@@ -54,11 +55,8 @@ INTERRUPTED = 130
 # The status of a bench that doesn't start.
 NOT_STARTED = 2
 
-# What may be said beside a socket's name or number, or a traveller.
-WORDS = (
-    "The words are: stop, go, shift (the counts begin anew), scrap (gives up a chip of the red box), "
-    "forget CHIP (it won't come back), help."
-)
+# How long the name on a badge may be.
+LONGEST_NAME = 64
 
 # What parts the words of a traveller's code.
 APART = re.compile(r"[\s,;|/]+")
@@ -69,13 +67,16 @@ class Bench:
 
     def __init__(self, recipe: Recipe, station: Station, kept: Kept, url: str, spool: Optional[Path]):
         self.recipe, self.kept, self.spool, self._url = recipe, kept, spool, url
-        sockets = [Socket(name, sentence=_found_in(name, kept), since=time.time()) for name in recipe.sockets]
-        self.board = Board(recipe.name, recipe.order, sockets, recipe.start, kept.shift())
+        last = {name: kept.last().get(name, Socket(name)) for name in recipe.sockets}
+        sockets = [it.emptied(_found_in(name, kept)) for name, it in last.items()]
+        words = recipe.name, recipe.order, sockets, recipe.start, kept.shift(), steps_of(recipe)
+        self.board = Board(*words, station.operator(), kept.last_chips(MOST_LAST))
         self.board.under_way(kept.under_way())
         self.leaving = threading.Event()
         self._turns = Turns(station, self.board, self.leaving)
         self.supply = Supply(self.ask, recipe.order, self.board.left, self.leaving)
-        self._counting, self._scrapping = threading.Lock(), Scrapping(self)
+        self._station, self._counting = station, threading.Lock()
+        self.questions, self._scrapping = Questions(self.board), Scrapping(self)
         self._begin = {name: threading.Event() for name in recipe.sockets}
         self._seen = dict.fromkeys(recipe.sockets, "")
         self._order: Optional[Order] = None
@@ -181,7 +182,8 @@ class Bench:
         if ended.ending.effect == STOP:
             self._stop_by(ended)
         if ended.ending.name != OTHER_KIND:
-            self.board.waiting(name, ended.ending.sentence(**ended.facts))
+            is_empty = ended.ending.name == "no_chip"
+            self.board.waiting(name, "" if is_empty else ended.ending.sentence(**ended.facts))
             self._seen[name] = ""
         elif self._seen[name] != OTHER_KIND:
             self._seen[name] = OTHER_KIND
@@ -189,8 +191,9 @@ class Bench:
 
     def _record(self, name: str, life: Life, ended: Ended) -> None:
         """Keeps and shows how a chip ended. A disk that takes nothing more stops the line."""
-        last = ended_socket(name, ended, life.step, life.chip, life.serial, self.recipe.order)
-        told = {"socket": name, "chip": life.chip, "serial": life.serial, "step": life.step}
+        took = self.board.seconds(name)
+        last = ended_socket(name, ended, life.step, life.chip, life.serial, self.recipe.order, took)
+        told = {"socket": name, "chip": life.chip, "serial": life.serial, "step": life.step, "seconds": last.took}
         try:
             output = {"output": ended.facts["output"]} if ended.facts.get("output") else {}
             self.kept.log({**told, "result": last.reason, "sentence": last.sentence, **output})
@@ -200,7 +203,7 @@ class Bench:
             ended = ended_by(error, life.step)
             last = ended_socket(name, ended, life.step, life.chip, life.serial, self.recipe.order)
         if ended.ending.effect == STOP:
-            self.board.stop(f"{last.sentence} Step: {life.step}.")
+            self.board.stop(said("stopped_at", sentence=last.sentence, step=step_said(life.step)))
         self.tell_begun(name)
         self.board.ended(last)
 
@@ -213,7 +216,7 @@ class Bench:
             most = self.recipe.lost_in_a_row
             if ended.ending.counts() and len(shift.row) >= most:
                 row = shift.row[-most:]
-                self.board.stop(f"{most} chips failed in a row, {in_common(row)}: look why before you go on.")
+                self.board.stop(said("in_a_row", count=most, common=in_common(row)))
 
     def _stop_by(self, ended: Ended) -> None:
         self.board.stop(ended.ending.sentence(order=self.recipe.order, **ended.facts))
@@ -221,21 +224,28 @@ class Bench:
     # What a person does.
 
     def said(self, text: str) -> None:
-        """What was scanned or typed: a traveller, a socket, a word of the bench, or nothing, which begins all."""
+        """What was scanned or typed: a badge, a traveller, a socket, a word of the bench, or nothing, which begins
+        all."""
         text = text.strip()
         words = [it for it in APART.split(text) if it]
-        if self._scrapping.said(words):
+        is_badge = text.startswith(self.recipe.display.badge)
+        if self.questions.said(words, is_badge or bool(words) and words[0] in OTHERS):
             return
-        if words[:1] == ["stop"]:
-            self.board.stop("You stopped the line: those that are begun go on.")
+        if is_badge:
+            self._works(text.removeprefix(self.recipe.display.badge).strip())
+        elif words[:1] == ["stop"]:
+            self.board.stop(said("you_stopped"))
+        elif words[:1] == ["scrap"]:
+            self._scrapping.begin(words[1:])
         elif words == ["go"]:
             self.go_on()
         elif words == ["shift"]:
-            self.new_shift()
+            asked = said("shift_asked", passed=self.kept.shift().passed)
+            self.questions.ask_for(asked, self.new_shift, said("shift_left"))
         elif words[:1] == ["forget"] and len(words) == 2:
             self._forget(words[1])
         elif words in (["help"], ["?"]):
-            self.board.notice(WORDS)
+            self.board.notice(said("words"))
         else:
             self._begin_by(text, words)
 
@@ -244,18 +254,18 @@ class Bench:
         named, is_traveller = self._named(text, words), self.recipe.order in words
         is_key = self.recipe.start == "key" and (bool(named) or not words)
         if self.board.is_stopped():
-            self.board.notice("The line stands: have it go on first.")
+            self.board.notice(said("stands"))
         elif self.recipe.start == "chip":
-            self.board.notice("A chip begins by itself, once it answers.")
+            self.board.notice(said("by_itself"))
         elif is_traveller or is_key:
             self.board.notice("")
             for name in named or self.recipe.sockets:
                 self._begin[name].set()
         elif self.recipe.start == "key":
-            self.board.notice(f"{text!r} is no word of this bench. {WORDS}")
+            self.board.notice(f"{said('no_word', text=text)} {said('words')}")
         else:
             ended = Ended("bad_traveller", order=self.recipe.order)
-            self.board.notice(ended.ending.sentence(**ended.facts) if words else "Scan the traveller first.")
+            self.board.notice(ended.ending.sentence(**ended.facts) if words else said("scan_first"))
 
     def _named(self, text: str, words: list[str]) -> list[str]:
         """The sockets that a text names and nothing else, or those that a traveller of this order names beside it."""
@@ -270,6 +280,17 @@ class Bench:
     def pressed(self, name: str) -> None:
         """A socket's own button."""
         self._begin_by(name, [name])
+
+    def _works(self, operator: str) -> None:
+        """A badge was scanned: who works here stands in the journal from now on."""
+        if not operator.isprintable() or not 0 < len(operator) <= LONGEST_NAME:
+            self.board.notice(said("no_name", badge=self.recipe.display.badge))
+            return
+        with self._on_disk():
+            self.kept.log({"operator": operator})
+            self._station.operated_by(operator)
+            self.board.works(operator)
+            self.board.notice(said("named", name=operator))
 
     def go_on(self) -> None:
         """A person looked, and has the line go on; the failed ones in a row are counted anew."""
@@ -286,6 +307,7 @@ class Bench:
             self.kept.log({"shift": shift.since})
             self.kept.counted(shift)
             self.board.counted(shift)
+            self.board.notice(said("shift_new"))
 
     def clear(self) -> None:
         """Removes the folders of chips that are done with. Where that fails it is told, and tried again."""
@@ -301,7 +323,7 @@ class Bench:
             is_there = self.kept.forget(chip, is_shipped and not self.recipe.keep_folder)
             self.clear()
             self.tell_begun()
-            self.board.notice(f"The bench forgot the chip {chip}." if is_there else f"No chip {chip} is under way.")
+            self.board.notice(said("forgot" if is_there else "not_begun", chip=chip))
 
     def tell(self, text: str) -> None:
         """What the seat tells, as of a late copy."""
@@ -322,10 +344,9 @@ def _found_in(name: str, kept: Kept) -> str:
     """What is said of a socket at a start. Nobody knows what is in it by now, so none is green before it is read."""
     begun = [chip for chip, it in kept.under_way().items() if it["socket"] == name]
     if begun:
-        return f"The chip {begun[-1]} was begun here: begin again, and it goes on."
+        return said("begun_here", chip=begun[-1])
     last = kept.last().get(name)
-    told = f"The last chip here, {last.chip}, is shipped as {last.serial}" if last and last.state == PASSED else ""
-    return f"{told}: begin again, where it is still in." if told else ""
+    return said("shipped_here", chip=last.chip, serial=last.serial) if last and last.state == PASSED else ""
 
 
 # The command.
@@ -354,6 +375,7 @@ def main(settings: Settings, arguments: argparse.Namespace) -> int:
     the next start."""
     recipe = recipe_of(arguments.recipe)
     settings = settings_for(recipe, settings, vars(arguments))
+    take(recipe.display.words)
     os.chdir(recipe.file.parent)  # from where the commands of sockets and hooks count
     faults = faults_of(recipe, settings.spool)
     if faults:

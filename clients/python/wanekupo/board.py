@@ -8,20 +8,29 @@ from __future__ import annotations
 import threading
 import time
 from collections import Counter
-from dataclasses import dataclass, field
+from dataclasses import dataclass, field, replace
 from typing import Any, Mapping, Optional, Sequence
 
-from wanekupo.endings import NO_LABEL, Ended
+from wanekupo.endings import AGAIN, NO_LABEL, PASS, RED, Ended, Ending
+from wanekupo.words import reason_said, said, step_said
 
-WAITING, WORKING, PASSED, FAILED = "waiting", "working", "PASS", "FAIL"
+# The states of a socket. A chip that is shipped and has no label is neither green nor red.
+WAITING, WORKING, PASSED, FAILED, LABEL = "waiting", "working", "PASS", "FAIL", "LABEL"
+RESULTS = (PASSED, FAILED, LABEL)
 
-# A chip that is shipped, and whose label is missing.
-LABEL = "LABEL"
+# Where a chip goes, by the effect of its ending, and by its name where that says more; else somebody is called.
+BOXES = {PASS: "green", RED: "red", AGAIN: "again"}
+OWN_BOXES = {NO_LABEL: "again", **dict.fromkeys(("no_serial", "gave_way"), "red")}
+OWN_BOXES |= dict.fromkeys(("shipped_before", "other_order", "no_dump"), "ask")
+
+# How many of the last chips are shown.
+MOST_LAST = 10
 
 
 @dataclass(frozen=True)
 class Socket:
-    """A socket's state, with the step of a chip that is worked on, and the sentence of one that ended."""
+    """A socket's state, with the step of a chip that is worked on, and the sentence of one that ended: where it goes,
+    and how many seconds it took. One that waits has its last result in `was`."""
 
     name: str
     state: str = WAITING
@@ -31,6 +40,14 @@ class Socket:
     sentence: str = ""
     reason: str = ""
     since: float = 0.0
+    box: str = ""
+    took: float = 0.0
+    was: str = ""
+
+    def emptied(self, told: str) -> Socket:
+        """It waits for the next chip, and still shows how the last one ended."""
+        was = self.state if self.state in RESULTS else self.was
+        return replace(self, state=WAITING, step="", sentence=told, since=time.time(), was=was)
 
 
 @dataclass(frozen=True)
@@ -80,27 +97,50 @@ class Shift:
         return Shift(self.since, self.passed + is_new, dict(+failed), row, first)
 
 
-def ended_socket(name: str, ended: Ended, step: str, chip: str, serial: str, order: str) -> Socket:
+def state_of(ending: Ending) -> str:
+    """What a socket shows of an ending."""
+    return PASSED if ending.is_pass() else LABEL if ending.name == NO_LABEL else FAILED
+
+
+def box_of(ending: Ending) -> str:
+    """Where the chip goes, as the words' table of boxes has it."""
+    return OWN_BOXES.get(ending.name) or BOXES.get(ending.effect, "call")
+
+
+def ended_socket(name: str, ended: Ended, step: str, chip: str, serial: str, order: str, took: float = 0) -> Socket:
     """A socket whose chip has ended so."""
-    sentence = ended.ending.sentence(**{"order": order, "step": step, **ended.facts})
-    state = PASSED if ended.ending.is_pass() else LABEL if ended.ending.name == NO_LABEL else FAILED
-    return Socket(name, state, step, chip, serial, sentence, ended.ending.name, time.time())
+    ending = ended.ending
+    sentence = ending.sentence(**{"order": order, "step": step, **ended.facts})
+    box = box_of(ending)
+    return Socket(name, state_of(ending), step, chip, serial, sentence, ending.name, time.time(), box, round(took, 1))
 
 
 def in_common(row: Sequence[Failure]) -> str:
     """What chips that failed in a row have in common: their step, their reason, their socket."""
     steps, reasons, sockets = ({getattr(it, name) for it in row} for name in ("step", "reason", "socket"))
-    told = f"all at the step {steps.pop()!r}" if len(steps) == 1 else "at no step in common"
-    told += f", each as {reasons.pop()!r}" if len(reasons) == 1 else ""
-    return told + (f", each in the socket {sockets.pop()!r}" if len(sockets) == 1 else "")
+    told = [said("one_step", step=step_said(steps.pop())) if len(steps) == 1 else said("no_step")]
+    told += [said("one_reason", reason=reason_said(reasons.pop()))] if len(reasons) == 1 else []
+    return ", ".join(told + ([said("one_socket", socket=sockets.pop())] if len(sockets) == 1 else []))
 
 
 class Board:
-    """`rest` is how many serial numbers of the order are left, None where that isn't known yet."""
+    """`rest` is how many serial numbers of the order are left, None where that isn't known yet. `steps` are those of a
+    chip's life in their order, `last` the chips that ended last, the newest first."""
 
-    def __init__(self, product: str, order: str, sockets: Sequence[Socket], start: str, shift: Shift):
+    def __init__(
+        self,
+        product: str,
+        order: str,
+        sockets: Sequence[Socket],
+        start: str,
+        shift: Shift,
+        steps: Sequence[str] = (),
+        operator: str = "",
+        last: Sequence[Socket] = (),
+    ):
         self._changed = threading.Condition()
         self._product, self._order, self._start = product, order, start
+        self._steps, self._operator, self._last = list(steps), operator, list(last)[:MOST_LAST]
         self._sockets = {it.name: it for it in sockets}
         self._shift, self._rest = shift, None  # type: tuple[Shift, Optional[int]]
         self._away: Optional[tuple[float, str]] = None
@@ -125,14 +165,36 @@ class Board:
         """The socket has room for a chip; `told` is what is to be said beside."""
         found = self.socket(name)
         if (found.state, found.sentence) != (WAITING, told):
-            self._set_socket(Socket(name, WAITING, sentence=told, since=time.time()))
+            self._set_socket(found.emptied(told))
 
     def working(self, name: str, step: str, chip: str, serial: str) -> None:
-        self._set_socket(Socket(name, WORKING, step, chip, serial, since=time.time()))
+        """A chip is at a step, since it was begun."""
+        found = self.socket(name)
+        since = found.since if found.state == WORKING else time.time()
+        self._set_socket(Socket(name, WORKING, step, chip, serial, since=since))
+
+    def seconds(self, name: str) -> float:
+        """How long the chip in a socket has been worked on."""
+        found = self.socket(name)
+        return max(0.0, time.time() - found.since) if found.state == WORKING else 0.0
 
     def ended(self, last: Socket) -> None:
         """A chip's stay in a socket is at its end."""
-        self._set_socket(last)
+        with self._changed:
+            if last.chip:
+                self._last = [last, *self._last][:MOST_LAST]
+            self._set_socket(last)
+
+    def scrapped(self, chip: str) -> None:
+        """A chip of the red box is given up: the socket that shows it says so."""
+        with self._changed:
+            for it in self._sockets.values():
+                if it.chip == chip and it.state in (FAILED, WAITING):
+                    self._set_socket(replace(it, sentence=said("scrap_here"), reason="scrapped", box="red"))
+
+    def works(self, operator: str) -> None:
+        """Who works here from now on."""
+        self._set(operator=operator)
 
     def counted(self, shift: Shift) -> None:
         self._set(shift=shift)
@@ -193,19 +255,30 @@ class Board:
     def shown(self) -> dict[str, Any]:
         """All of it, as JSON has it."""
         with self._changed:
-            away = self._away
+            away, shift = self._away, self._shift
+            counts = {"passed": shift.passed, "first": shift.first, "failed": dict(shift.failed)}
             return {
                 "version": self._version,
                 "now": time.time(),
                 "product": self._product,
                 "order": self._order,
                 "start": self._start,
+                "operator": self._operator,
                 "rest": self._rest,
-                "sockets": [dict(vars(it)) for it in self._sockets.values()],
-                "shift": {name: getattr(self._shift, name) for name in ("since", "passed", "first", "failed")},
+                "steps": len(self._steps),
+                "sockets": [self._shown(it) for it in self._sockets.values()],
+                "last": [vars(it) for it in self._last],
+                "shift": {"since": shift.since, **counts},
                 "away": {"since": away[0], "why": away[1]} if away else None,
                 "stopped": self._stopped,
                 "notice": self._notice,
                 "question": self._question,
-                "under_way": [{"chip": chip, **more} for chip, more in self._under_way.items()],
+                "under_way": [
+                    {"chip": chip, **more, "step": step_said(more["step"])} for chip, more in self._under_way.items()
+                ],
             }
+
+    def _shown(self, socket: Socket) -> dict[str, Any]:
+        """A socket, with the place of its step among all."""
+        place = self._steps.index(socket.step) + 1 if socket.step in self._steps else 0
+        return {**vars(socket), "step": step_said(socket.step), "place": place}

@@ -10,6 +10,7 @@ The folder is one user's and one bench's. The station's own journal, which a res
 
 from __future__ import annotations
 
+import calendar
 import contextlib
 import json
 import os
@@ -18,10 +19,10 @@ import threading
 import time
 from dataclasses import asdict
 from pathlib import Path
-from typing import Any, Mapping, Optional
+from typing import Any, Iterator, Mapping, Optional
 
-from wanekupo.board import PASSED, Before, Failure, Shift, Socket
-from wanekupo.endings import NO_LABEL, Ended
+from wanekupo.board import FAILED, PASSED, Before, Failure, Shift, Socket, state_of
+from wanekupo.endings import ENDINGS, NO_LABEL, Ended
 from wanekupo.errors import BadStateFile
 from wanekupo.files import locked, opened_lock, opened_own, removed_folder, replace_file, synced_folder, tested_folder
 from wanekupo.texts import compact_json
@@ -212,12 +213,26 @@ class Kept:
 
     def last_word(self, chip: str) -> Optional[tuple[str, str]]:
         """The name and the sentence of a chip's last ending on this bench, by the newest log that has one."""
+        for found in self._endings():
+            own = [it for it in found if it["chip"] == chip]
+            if own:
+                return own[-1]["result"], own[-1]["sentence"]
+        return None
+
+    def last_chips(self, most: int) -> list[Socket]:
+        """The last chips that ended, the newest first."""
+        last: list[Socket] = []
+        for found in self._endings():
+            last += [_ended_as(it) for it in reversed(found) if it["chip"]]
+            if len(last) >= most:
+                break
+        return last[:most]
+
+    def _endings(self) -> Iterator[list[dict[str, Any]]]:
+        """Each log's lines on chips that ended, the newest log first."""
         for file in sorted(self._folder.glob("log-*.jsonl"), reverse=True):
             with open(opened_own(file, os.O_RDONLY), "rb") as source:
-                found = [it for it in map(_ending_in, source) if it and it["chip"] == chip]
-            if found:
-                return found[-1]["result"], found[-1]["sentence"]
-        return None
+                yield [it for it in map(_ending_in, source) if it]
 
     def log(self, line: Mapping[str, Any]) -> None:
         """Adds a line to the day's log, or nothing of it, and syncs it."""
@@ -237,6 +252,13 @@ def _ending_in(line: bytes) -> Optional[dict[str, Any]]:
         return None
     found: dict[str, Any] = json.loads(line)
     return found
+
+
+def _ended_as(line: Mapping[str, Any]) -> Socket:
+    """How a socket showed the ending that a line of the log has."""
+    ending, at = ENDINGS.get(line["result"]), calendar.timegm(time.strptime(line["at"], "%Y-%m-%dT%H:%M:%SZ"))
+    state, chip, took = state_of(ending) if ending else FAILED, line["chip"], float(line.get("seconds", 0))
+    return Socket(line["socket"], state, "", chip, line["serial"], reason=line["result"], since=at, took=took)
 
 
 def _add_line(out: int, data: bytes) -> None:

@@ -52,6 +52,15 @@ def _shown(names: Sequence[str]) -> str:
     return ", ".join(names[:SHOWN_NAMES]) + (" .." if len(names) > SHOWN_NAMES else "")
 
 
+def steps_of(recipe: Recipe) -> list[str]:
+    """The steps of a chip's life in their order, of which a chip may pass over those that it doesn't need."""
+    keys = [it.command.name for it in recipe.wishes if it.command]
+    burning = [f"{it} {batch}" for batch in (1, 2) for it in ("burn", "read back")] if recipe.wishes else []
+    before, label = (["before ship"] if "before_ship" in recipe.hooks else []), ["label"] * ("label" in recipe.hooks)
+    identity = ["before identity", "identity"]
+    return ["read", "look", "register", *keys, "plan", *burning, *identity, *before, "ship", *label]
+
+
 class Line(Protocol):
     """What a life has of its bench."""
 

@@ -18,6 +18,7 @@ from typing import TYPE_CHECKING, Any
 from urllib.parse import parse_qs
 
 from wanekupo.errors import BadSettings
+from wanekupo.words import SAID
 
 if TYPE_CHECKING:
     from wanekupo.bench import Bench
@@ -63,6 +64,10 @@ class Handler(http.server.BaseHTTPRequestHandler):
             board = self.server.bench.board
             board.changed_since(int(after) if COUNT.fullmatch(after) else -1, LONGEST_LOOK)
             self._send(200, json.dumps(board.shown()).encode(), "application/json")
+        elif path == "/words":
+            display = self.server.bench.recipe.display
+            told = {**SAID, "inches": display.inches, "sound": display.sound}
+            self._send(200, json.dumps(told).encode(), "application/json")
         elif path in FILES:
             name, kind = FILES[path]
             self._send(200, (Path(__file__).parent / name).read_bytes(), kind)

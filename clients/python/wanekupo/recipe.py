@@ -16,6 +16,8 @@ from typing import Any, Callable, Mapping, Optional, Sequence
 from wanekupo.chips import bit, rlock, value, wlock
 from wanekupo.errors import StationError
 from wanekupo.families import names
+from wanekupo.words import FOLDER as WORDS
+from wanekupo.words import TYPED
 
 # Where maps are beside the recipe's own folder: as the package has them, and as the repository has them.
 MAPS = (Path("/usr/share/wanekupo/maps"), Path(__file__).resolve().parents[3] / "maps")
@@ -27,7 +29,7 @@ LONGEST_HOOK, LONGEST_TOOL = 60.0, 120.0
 
 # Names of the recipe, and of each of its tables.
 TOP = ("name", "order", "map", "family", "start", "page", "folder", "keep_folder")
-TABLES = ("server", "wish", "sockets", "hooks", "stop")
+TABLES = ("server", "wish", "sockets", "hooks", "stop", "screen")
 WISHES = {
     "bit": ("index",),
     "value": ("value",),
@@ -74,6 +76,17 @@ class Wish:
 
 
 @dataclass(frozen=True)
+class Display:
+    """What the operator sees and hears: `words` is the file with the words, `inches` the diagonal of the screen, 0
+    where it has 96 pixels an inch, and `badge` how a scan begins that names who works there."""
+
+    words: Path = WORDS / "en.toml"
+    inches: float = 0
+    sound: bool = True
+    badge: str = "operator:"
+
+
+@dataclass(frozen=True)
 class Recipe:
     """`start` is what begins a chip: a `key`, a `scan` of its traveller, or the `chip` itself once it answers. `page`
     is the port of the page on this machine, 0 for none; `server` are settings that win over the configuration's. With
@@ -93,6 +106,7 @@ class Recipe:
     page: int = 8091
     folder: Optional[Path] = None
     keep_folder: bool = False
+    display: Display = Display()
 
     def digest(self) -> str:
         """What the server knows the map by."""
@@ -137,6 +151,7 @@ def _recipe(file: Path, table: Mapping[str, Any]) -> Recipe:
         _whole(table, "page", 8091, 0),
         here / _text(table, "folder", "the recipe") if "folder" in table else None,
         _truth(table, "keep_folder"),
+        _display(_table(table, "screen"), here, [str(table["order"]), *_table(table, "sockets")]),
     )
 
 
@@ -234,6 +249,26 @@ def _map(name: str, here: Path) -> str:
     if not found:
         raise ValueError(f"there is no map {name} in {' or '.join(map(str, places))}")
     return found.read_text(encoding="utf-8")
+
+
+def _display(table: Mapping[str, Any], here: Path, scanned: Sequence[str]) -> Display:
+    """`scanned` is what a scan may begin with that is no badge."""
+    _known(table, ("words", "inches", "sound", "badge"), "[screen]")
+    usual = Display()
+    name = _text({"words": usual.words.name, **table}, "words", "[screen]")
+    words = next((it / name for it in (here, WORDS) if (it / name).is_file()), None)
+    if not words:
+        raise ValueError(f"there is no file of words {name} in {here} or {WORDS}")
+    inches, sound = table.get("inches", usual.inches), table.get("sound", usual.sound)
+    if isinstance(inches, bool) or not isinstance(inches, (int, float)) or not (inches == 0 or 4 <= inches <= 120):
+        raise ValueError("inches of [screen] is no diagonal of 4 to 120, nor 0")
+    if not isinstance(sound, bool):
+        raise ValueError("sound of [screen] is neither true nor false")
+    badge = _text({"badge": usual.badge, **table}, "badge", "[screen]").strip()
+    taken = [it for it in (*scanned, *TYPED) if it.startswith(badge)]
+    if taken:
+        raise ValueError(f"the badge {badge!r} of [screen] begins as {taken[0]!r} does")
+    return Display(words, float(inches), sound, badge)
 
 
 def _wish(table: Mapping[str, Any], where: str, here: Path) -> Wish:

@@ -1,6 +1,7 @@
 """The bench on a terminal: PASS and FAIL in large letters, and what is scanned or typed there.
 
-A terminal is drawn anew at each change. Where there is none, each change of a socket is a line.
+A terminal is drawn anew at each change. Where the large letters of all sockets don't fit, each has a line. Where there
+is no terminal, each change of a socket is a line.
 """
 
 from __future__ import annotations
@@ -13,13 +14,14 @@ import threading
 import time
 from typing import TYPE_CHECKING, Any, Iterator, Mapping
 
-from wanekupo.board import FAILED, PASSED, WORKING
+from wanekupo.board import FAILED, LABEL, PASSED, RESULTS, WORKING
 from wanekupo.texts import shown
+from wanekupo.words import SAID, said
 
 if TYPE_CHECKING:
     from wanekupo.bench import Bench
 
-# The letters of both words, five rows each.
+# The letters of the words, five rows each.
 LETTERS = {
     "P": ("####", "#  #", "####", "#   ", "#   "),
     "A": (" ## ", "#  #", "####", "#  #", "#  #"),
@@ -27,72 +29,127 @@ LETTERS = {
     "F": ("####", "#   ", "### ", "#   ", "#   "),
     "I": ("###", " # ", " # ", " # ", "###"),
     "L": ("#   ", "#   ", "#   ", "#   ", "####"),
+    "B": ("### ", "#  #", "### ", "#  #", "### "),
+    "E": ("####", "#   ", "### ", "#   ", "####"),
 }
 
-# White on green and white on red, on terminals that have colours.
-COLOURS, PLAIN = {PASSED: "\x1b[1;97;42m", FAILED: "\x1b[1;97;41m"}, "\x1b[0m"
+# White on green, on red and on violet, black on yellow and white on blue, on terminals that have colours.
+COLOURS = {
+    PASSED: "\x1b[1;97;42m",
+    FAILED: "\x1b[1;97;41m",
+    LABEL: "\x1b[1;97;45m",
+    "STOPPED": "\x1b[1;30;43m",
+    "AWAY": "\x1b[1;97;44m",
+}
+PLAIN = "\x1b[0m"
+
+# What stands around the banners, so that they differ without their words and colours.
+SIGNS = {"STOPPED": "#####", "AWAY": ". . ."}
 
 # A terminal's first line is for typing, and isn't drawn again while somebody types: the cursor is kept, and the rest is
 # cleared and drawn below.
 FRESH, BELOW, BACK = "\x1b[H\x1b[2J> ", "\x1b7\x1b[2;1H\x1b[J", "\x1b8"
-
-# What a person is asked for, by what begins a chip.
-ASKED = {
-    "key": "Put a chip into a socket, and press Enter, or type its name or number.",
-    "scan": "Put a chip into a socket, and scan its traveller.",
-    "chip": "Put a chip into a socket: it begins by itself.",
-}
-HELP = "Type help for the words, and Ctrl-C to end."
 
 # How often what has no change of its own, as a step's seconds, is drawn again.
 AGAIN = 1.0
 
 
 def large(word: str) -> list[str]:
-    """A word in large letters, a row a line."""
+    """A word in large letters, a row a line; as it is where it has others."""
+    word = word.split(" ")[0]
+    if not set(word) <= set(LETTERS):
+        return [word]
     return ["  ".join(LETTERS[letter][row] for letter in word) for row in range(5)]
 
 
-def socket_lines(socket: Mapping[str, Any], width: int, has_colours: bool) -> Iterator[str]:
-    """What a terminal shows of a socket."""
-    state, seconds = socket["state"], max(0, int(time.time() - socket["since"]))
-    told = [f"chip {socket['chip']}"] if socket["chip"] else []
-    told += [f"serial number {socket['serial']}"] if socket["serial"] else []
-    yield shown(f"[{socket['name']}] {', '.join(told)}")
-    if state == WORKING:
-        yield shown(f"    {socket['step']}, {seconds} s")
-    elif state in COLOURS:
-        begin, end = (COLOURS[state], PLAIN) if has_colours else ("", "")
-        for line in large(state):
-            yield f"    {begin} {line:22} {end}"
-        for line in textwrap.wrap(shown(socket["sentence"]), max(20, width - 6)):
-            yield f"    {line}"
-    else:
-        yield shown(f"    waiting  {socket['sentence']}")
+def coloured(text: str, kind: str, has_colours: bool) -> str:
+    return f"{COLOURS[kind]}{text}{PLAIN}" if has_colours else text
 
 
-def board_lines(board: Mapping[str, Any], width: int, has_colours: bool) -> Iterator[str]:
-    """What a terminal shows of a board."""
-    rest = "not known yet" if board["rest"] is None else board["rest"]
-    yield shown(f"{board['product']}, order {board['order']}, serial numbers left: {rest}")
-    failed = ", ".join(f"{name} {count}" for name, count in sorted(board["shift"]["failed"].items()))
-    yield shown(f"this shift: {board['shift']['passed']} passed; failed: {failed or 'none'}")
-    if board["away"]:
-        since = time.strftime("%H:%M:%S", time.localtime(board["away"]["since"]))
-        told = f"AWAY since {since}, {board['away']['why']}: leave the chips, the bench goes on by itself."
-        yield from textwrap.wrap(shown(told), width)
-    if board["stopped"]:
-        yield from textwrap.wrap(shown(f"STOPPED: {board['stopped']} Type go to go on."), width)
-    for it in board["under_way"]:
-        yield shown(f"begun, and not at its end: chip {it['chip']}, at the step {it['step']} in {it['socket']}")
-    yield ""
-    for socket in board["sockets"]:
-        yield from socket_lines(socket, width, has_colours)
-    yield ""
-    yield from textwrap.wrap(f"{ASKED[board['start']]} {HELP}", width)
-    yield from textwrap.wrap(shown(board["notice"]), width)
+def facts_of(board: Mapping[str, Any], socket: Mapping[str, Any]) -> str:
+    """A socket's chip, its step, and the seconds that it took or has taken."""
+    is_working = socket["state"] == WORKING
+    seconds = time.time() - socket["since"] if is_working else socket["took"]
+    place = f" {socket['place']}/{board['steps']}" if socket["place"] else ""
+    told = [said("chip_named", chip=socket["chip"])] if socket["chip"] else []
+    told += [said("serial_named", serial=socket["serial"])] if socket["serial"] else []
+    told += [f"{socket['step']}{place}"] if is_working else []
+    return ", ".join(told + ([f"{max(0, int(seconds))} s"] if is_working or seconds else []))
+
+
+def result_of(socket: Mapping[str, Any]) -> str:
+    """What is said of a socket in one line: how its chip ended and where it goes, in brackets once it has gone."""
+    state = socket["was"] or socket["state"]
+    box = SAID["boxes"].get(socket["box"], "") if state in RESULTS else ""
+    word = f"{said(state)} {box}".strip()
+    return f"{said('waiting')} ({word})" if socket["was"] else word
+
+
+def large_lines(board: Mapping[str, Any], socket: Mapping[str, Any], width: int, has_colours: bool) -> Iterator[str]:
+    """A socket with large letters."""
+    state = socket["state"]
+    yield shown(f"[{socket['name']}] {facts_of(board, socket)}")
+    if state not in RESULTS:
+        yield shown(f"    {result_of(socket)}  {socket['sentence']}")
+        return
+    for line in large(said(state)):
+        yield "    " + coloured(f" {line:22} ", state, has_colours)
+    box = SAID["boxes"].get(socket["box"], "")
+    for line in textwrap.wrap(shown(f"{box}. {socket['sentence']}"), max(20, width - 6)):
+        yield f"    {line}"
+
+
+def short_line(board: Mapping[str, Any], number: int, width: int, has_colours: bool) -> str:
+    """A socket in one line."""
+    socket = board["sockets"][number - 1]
+    word = f"{number} {socket['name']:.9} {result_of(socket)}"
+    line = shown(f"{word:28} {socket['sentence'] or facts_of(board, socket)}")[: width - 1]
+    return coloured(line, socket["state"], has_colours) if socket["state"] in COLOURS else line
+
+
+def banner_lines(kind: str, text: str, width: int, has_colours: bool) -> Iterator[str]:
+    for line in textwrap.wrap(shown(f"{said(kind)} {SIGNS[kind]} {text}"), max(20, width - 8)):
+        yield coloured(f"{SIGNS[kind]} {line:{max(20, width - 8)}}", kind, has_colours)
+
+
+def asked_lines(board: Mapping[str, Any], width: int, has_colours: bool) -> Iterator[str]:
+    """What a person has to know first: a question, what was said to the last word, and why nothing goes on."""
     if board["question"]:
-        yield from textwrap.wrap(shown(f"QUESTION: {board['question']['text']}"), width)
+        yield from textwrap.wrap(shown(f"{said('question')}: {board['question']['text']}"), width)
+    yield from textwrap.wrap(shown(board["notice"]), width)
+    if board["stopped"]:
+        yield from banner_lines("STOPPED", f"{board['stopped']} {said('go_typed')}", width, has_colours)
+    if board["away"]:
+        yield from banner_lines("AWAY", away_told(board["away"]), width, has_colours)
+
+
+def away_told(away: Mapping[str, Any]) -> str:
+    return said("away_since", time=time.strftime("%H:%M:%S", time.localtime(away["since"])), why=away["why"])
+
+
+def head_lines(board: Mapping[str, Any], width: int) -> Iterator[str]:
+    """The order and the shift."""
+    rest = said("left_unknown") if board["rest"] is None else said("left", count=board["rest"])
+    who = said("operator", name=board["operator"]) if board["operator"] else said("nobody")
+    yield shown(f"{board['product']}, {said('order', order=board['order'])}, {rest}")[:width]
+    shift = board["shift"]
+    failed = ", ".join(f"{SAID['reasons'].get(name, name)} {count}" for name, count in sorted(shift["failed"].items()))
+    counts = f"{said('passed')} {shift['passed']}, {said('first')} {shift['first']}, {said('failed')}: {failed or 0}"
+    yield shown(f"{who}. {counts}")[:width]
+
+
+def board_lines(board: Mapping[str, Any], width: int, height: int, has_colours: bool) -> list[str]:
+    """What a terminal of this size shows of a board."""
+    first = [*asked_lines(board, width, has_colours), *head_lines(board, width)]
+    sockets = [line for it in board["sockets"] for line in large_lines(board, it, width, has_colours)]
+    if len(first) + len(sockets) > height:
+        places = range(1, len(board["sockets"]) + 1)
+        sockets = [short_line(board, place, width, has_colours) for place in places]
+    last = [
+        shown(f"{said('begun')}: {said('chip_named', chip=it['chip'])}, {said('begun_where', **it)}")[:width]
+        for it in board["under_way"]
+    ]
+    return [*first, *sockets, *textwrap.wrap(f"{said(board['start'])} {said('help')}", width), *last][:height]
 
 
 class Screen:
@@ -134,7 +191,7 @@ class Screen:
     def _draw_terminal(self, board: Mapping[str, Any]) -> None:
         size = shutil.get_terminal_size()
         head = [f"page: {self._url}"] if self._url else []
-        lines = [*head, *board_lines(board, size.columns, self._has_colours)][: size.lines - 2]
+        lines = [*head, *board_lines(board, size.columns, size.lines - 2 - len(head), self._has_colours)]
         fresh = FRESH if self._is_fresh.is_set() else ""
         self._is_fresh.clear()
         self._rows = len(lines)
@@ -145,7 +202,7 @@ class Screen:
         now = {f"{it['name']}": f"{it['state']} {it['step']} {it['chip']} {it['sentence']}" for it in board["sockets"]}
         now["server"] = f"away, {board['away']['why']}" if board["away"] else "there"
         now["line"] = f"STOPPED: {board['stopped']}" if board["stopped"] else "goes on"
-        now["bench"] = f"{ASKED[board['start']]} {HELP}"
+        now["bench"] = f"{said(board['start'])} {said('help')}"
         now["notice"] = board["notice"]
         now["question"] = board["question"]["text"] if board["question"] else ""
         for name, told in now.items():

@@ -283,6 +283,15 @@ class Seat:
             raise
         raise NotTheServer(f"number {FAR} was accepted")
 
+    def operator(self) -> str:
+        """Who works there, as the journal's lines have it."""
+        return self._journal.operator() if self._journal else ""
+
+    def operated_by(self, name: str) -> None:
+        """Who works there from the next line of the journal on."""
+        if self._journal:
+            self._journal.operated_by(name)
+
     def own_number(self) -> Optional[int]:
         """The number of the request under way, or of the next one; None without a state file."""
         return self._state.next

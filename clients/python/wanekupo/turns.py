@@ -11,6 +11,7 @@ from typing import Callable, TypeVar
 from wanekupo.board import Board
 from wanekupo.errors import NoReply, NotTheServer, Refused, UnderWay
 from wanekupo.station import OTHER_BODY, Station
+from wanekupo.words import said
 
 Made = TypeVar("Made")
 
@@ -59,10 +60,9 @@ class Turns:
             self._wait(fault)
 
     def _wait(self, fault: Exception) -> None:
-        told = "something else answers in its place" if isinstance(fault, NotTheServer) else "no reply comes"
-        if isinstance(fault, NotTheServer) and fault.status in BEHIND:
-            told = "nginx answers, and the server behind it doesn't"
-        self._board.away(told)
+        told = "other_reply" if isinstance(fault, NotTheServer) else "no_reply"
+        is_proxy = isinstance(fault, NotTheServer) and fault.status in BEHIND
+        self._board.away(said("proxy_reply" if is_proxy else told))
         self._leaving.wait(PAUSE)
 
 
