@@ -188,17 +188,19 @@ def lines_of(folder):
 
 
 def test_what_is_kept_of_a_line_takes_no_more_memory_than_its_bytes(tmp_path):
-    """60,000 lists in a list are 240 KB in the file, and 4 MB in memory."""
+    """60,000 lists in a list are 240 KB in the file, and 4 MB in memory. Of a refusal nothing is kept."""
     many = {"chip": "240ac4000001", "nr": 1, "x": [[]] * 60_000}
     text = json.dumps(many, sort_keys=True, separators=(",", ":"))
     digest = hashlib.sha256(f"/v1/ship\n{text}".encode()).hexdigest()
     reply = {"at": AT, "nr": 1, "status": 200, "reply": {"state": "shipped", "mac": None, "rest": [{}] * 60_000}}
     long = asked(2, notes=[[]] * 60_000)
-    put(tmp_path / "pc7/a1.journal", asked(1, asked=many, digest=digest), reply, long)
+    refused = {"at": AT, "nr": 2, "status": 409, "reply": {"no": 17, "error": "wrong_state"}}
+    put(tmp_path / "pc7/a1.journal", asked(1, asked=many, digest=digest), reply, long, refused)
     assert lines_of(tmp_path) == [
-        {"at": AT, "path": "/v1/ship", "asked": {"chip": "240ac4000001", "nr": 1, "x": []}, "digest": digest},
-        {"at": AT, "nr": 1, "status": 200, "reply": {"state": "shipped", "mac": None, "rest": []}},
+        {"at": AT, "path": "/v1/ship", "asked": {"chip": "240ac4000001", "nr": 1}, "digest": digest},
+        {"at": AT, "nr": 1, "status": 200, "reply": {"state": "shipped", "mac": None}},
         {name: it for name, it in asked(2).items() if name != "seat"},
+        {"at": AT, "nr": 2, "status": 409, "reply": {}},
     ]
 
 
