@@ -37,6 +37,7 @@ KEPT = ("at", "path", "asked", "digest", "nr", "status", "reply", "resynchronize
 ORDER = ("name", "issuer", "prefix", "width", "first", "quantity", "macs", "not_before")
 KEPT_INNER = frozenset(("nr", "chip", "public_key", "text", "csv", *ORDER, "mac", "serial", "key_sha256", "state"))
 MOST_MEMBERS = 64
+NOTHING: dict[str, Any] = {}
 
 @dataclass(frozen=True)
 class Source:
@@ -124,7 +125,7 @@ def _slim(line: dict[str, Any]) -> dict[str, Any]:
         kept[name] = sys.intern(kept[name])
     for name in kept.keys() & {"asked", "reply"}:
         pairs = kept[name].items() if line.get("status", 200) == 200 else ()
-        kept[name] = {sys.intern(key): it for key, it in pairs if key in KEPT_INNER}
+        kept[name] = {sys.intern(key): it for key, it in pairs if key in KEPT_INNER} or NOTHING
     return kept
 
 

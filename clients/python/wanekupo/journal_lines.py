@@ -183,7 +183,7 @@ def journals_below(folder: Path) -> list[Path]:
                     raise BadJournal(f"{shown(str(folder))} has more than {MOST_FILES} files", LOOK)
                 if it.is_dir(follow_symlinks=False):
                     if depth == DEEPEST:
-                        raise BadJournal(f"{shown(str(place))} has a folder, and journals lie in front of it", LOOK)
+                        raise BadJournal(f"{shown(str(place))} has a folder in it, and no journal lies so deep", LOOK)
                     folders.append((Path(it.path), depth + 1))
                 elif it.name.endswith(SUFFIX):
                     found.append(Path(it.path))
