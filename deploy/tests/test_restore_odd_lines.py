@@ -55,7 +55,8 @@ OF_A_REFUSAL = ("no", "expected", "error", "outcome", "state")
 # Members as JSON has them: the last one is there twice.
 VALUES = ("5", "-1", str(2**53), "1" * 4000, "1" * 5000, "1.5", "1e999", "NaN", "true", "null", '""', r'"\ud800"',
           r'"\u001b[2J"', json.dumps("x" * 70_000), json.dumps("x" * 300_000), "[]", "{}", "[[]]", '{"a":[]}', '["a"]',
-          '[{"kind":"value","field":"W","value":[]}]', '"2026-13-13T00:00:00Z"', "[" * 990 + "]" * 990,
+          '[{"kind":"value","field":"W","value":[]}]', '[{"kind":"bit","field":"W","index":9007199254740991}]',
+          '"2026-13-13T00:00:00Z"', "[" * 990 + "]" * 990,
           '5,"nr":1')  # fmt: skip
 
 
@@ -98,19 +99,22 @@ def lost(tmp_path):
     """A store in which the seat has these numbers, and the chip all its entries."""
     events = ("registered", ""), ("planned", ""), ("read", "match"), ("identified", "P01"), ("shipped", "")
     with closing(sqlite3.connect(tmp_path / "books.db")) as base:
-        base.executescript("".join(f"CREATE TABLE {name} ({', '.join(columns.split())});" for name, columns in TABLES.items()))
+        for name, columns in TABLES.items():
+            base.execute(f"CREATE TABLE {name} ({', '.join(columns.split())})")
         add = {name: f"INSERT INTO {name} VALUES ({', '.join('?' * len(it.split()))})" for name, it in TABLES.items()}
         base.execute(add["meta"], (1, 3, b""))
         base.execute(add["seat"], ("b1", "bolt", 9, b"", "{}"))
         base.execute(add["map"], (1, MAP, bytes.fromhex(DIGEST)))
         base.execute(add["link"], ("bolt", bytes.fromhex(DIGEST), 1))
         base.execute(add["orders"], ("bolt", "o", "bolt-ca", "P", 2, 1, 3, 0, None, 0))
-        base.execute(add["device"], ("bolt", "c1", "o", bytes.fromhex(DIGEST), "shipped", None, bytes(4), b"", bytes(8), "P01"))
+        fuses = bytes(4), b"", bytes(8)
+        base.execute(add["device"], ("bolt", "c1", "o", bytes.fromhex(DIGEST), "shipped", None, *fuses, "P01"))
         base.execute(add["given"], ("bolt-ca", "P01", "bolt", bytes.fromhex(KEY), "c1", None, "99991231235959Z"))
         for number, (event, note) in enumerate(events, 1):
             base.execute(add["ledger"], (number, "bolt", "c1", number, event, note, "b1", bytes(4), b""))
         base.commit()
-    return tmp_path / "books.db"
+    with Store(tmp_path / "books.db") as store:
+        yield Books(store)
 
 
 PERIOD = period_of(moment_of("2000-01-01T00:00Z"), moment_of("2099-01-01T00:00Z"))
@@ -126,13 +130,12 @@ def restored(all_of_them, file, lost):
         requests = requests_of_seats([bolt])
     restore_look.number_gaps([bolt], requests, {}, set())
     restore_look.steps_of(requests, {})
-    list(restore_look.contradictions([bolt], requests, lost, {}))
+    list(restore_look.contradictions([bolt], requests, Path(), {}))
     states_of(bolt.asked), records_of(bolt.asked)
 
 
 def audited(all_of_them, file, lost):
-    with Store(lost) as store:
-        audit = audit_of(Books(store), [book_of([file], frozenset(["b1"])), *books_of([file])], PERIOD, AT)
+    audit = audit_of(lost, [book_of([file], frozenset(["b1"])), *books_of([file])], PERIOD, AT)
     (as_text(audit) + as_html(audit, []) + found_table(audit).as_csv()).encode()
 
 
