@@ -125,6 +125,17 @@ class Audits(BooksCase):
         out = self.found(self.folder / "later" / "books.db", journal)
         self.assertRegex(out, "no_journal +bolt +b1 +no journal of this seat was given: its 1 requests are of no")
 
+    def test_folders(self):
+        """Root's file says whose a folder's lines are; without a folder in it nothing is read."""
+        store, table = self.lived(), self.folder / "journals.toml"
+        (self.folder / "all" / "pc7").mkdir(parents=True)
+        shutil.copy(self.folder / "a1.journal", self.folder / "all" / "pc7")
+        cases = ("a1", 0, "Nothing found."), ("b1", 1, "is of the seat a1, and"), ("", 2, "names no folder")
+        for seat, status, words in cases:
+            table.write_text(f'[folders]\npc7 = ["{seat}", "b2"]\n' if seat else "[folders]\n")
+            done, out, told = ran("audit", store, self.folder / "all", "--folders", table, *ALWAYS)
+            self.assertEqual((done, words in out + told), (status, True), out + told)
+
     def test_years(self):
         """Each year compares as it should, and a moment that can't be told is an error in words."""
         store, journal = self.lived(), self.folder / "a1.journal"

@@ -82,9 +82,8 @@ def counted(audit: Audit) -> str:
         whose = ", ".join(audit.parts)
         told = f"{told}. Orders, maps and imports of {whose} are held to no line, as these journals lack number 1"
     if audit.repeated:
-        first = audit.repeated[0].place()
-        told = f"{told}. {len(audit.repeated)} of their lines ask for a map or an import again, and changed nothing"
-        told = f"{told}: look what was done then (the first is {first})"
+        said = f"{len(audit.repeated)} maps and imports were asked for again, which changes nothing"
+        told = f"{told}. {said} (the first: {audit.repeated[0].place()})"
     return f"{told}."
 
 
