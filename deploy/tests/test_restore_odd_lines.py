@@ -178,8 +178,9 @@ def test_no_line_moves_another(path, tmp_path, lost, monkeypatch):
                 try:
                     read(tmp_path / "all", file, lost)
                 except (StationError, RestoreError) as error:
-                    is_named = str(file) in str(error) and (read is not restored or str(error).startswith("bolt: line "))
-                    faults += [] if is_named else [f"{what} is {value[:30]}: {read.__name__} names nobody: {error}"]
+                    begin = "bolt: line " if read is restored else ""
+                    if str(file) not in str(error) or not str(error).startswith(begin):
+                        faults.append(f"{what} {value[:30]}: {read.__name__} names nobody: {error}")
                 except Exception as error:
-                    faults.append(f"{what} is {value[:30]}: {read.__name__}: {type(error).__name__} {str(error)[:90]}")
+                    faults.append(f"{what} {value[:30]}: {read.__name__}: {type(error).__name__} {str(error)[:90]}")
     assert faults == [], f"{len(faults)}"

@@ -129,8 +129,8 @@ INNER: Forms = {
 }
 
 # The members by which the three kinds of lines are told apart: each line has those of one kind, and no other's.
-ASKED, REPLY, TOLD_ON = frozenset(("path", "asked")), frozenset(("nr", "reply", "status")), frozenset(("resynchronized",))
-OF_KINDS = ASKED | REPLY | TOLD_ON
+ASKED, REPLY, GOES_ON = {"path", "asked"}, {"nr", "reply", "status"}, {"resynchronized"}
+OF_KINDS = ASKED | REPLY | GOES_ON
 
 
 def form_fault(line: Any) -> str:
@@ -145,7 +145,7 @@ def form_fault(line: Any) -> str:
     if kind == REPLY:
         is_one = _is_number(line["nr"]) and _is_number(line["status"]) and isinstance(line["reply"], dict)
         return _members_fault(line, line["reply"]) if is_one else "is no reply of a journal"
-    return _members_fault(line, {}) if kind == TOLD_ON and _is_number(line["resynchronized"]) else NO_LINE
+    return _members_fault(line, {}) if kind == GOES_ON and _is_number(line["resynchronized"]) else NO_LINE
 
 
 def _members_fault(line: dict[str, Any], inner: dict[str, Any]) -> str:
