@@ -241,10 +241,12 @@ def test_folders_in_each_other_and_many_files_are_the_customers_too(tmp_path, mo
         place = [os.open("d", os.O_RDONLY, dir_fd=place), os.close(place)][0]
     os.close(place)
     told = "^acme: .*/pc7/d/d has a folder in it, and no journal lies so deep.*The others go on by --leave-out acme$"
-    with pytest.raises(RestoreError, match=told):
-        taken([tmp_path])
-    assert taken([tmp_path], left_out=["acme"]) == {("bolt", "b1"): [1]}
-    subprocess.run(["rm", "-r", tmp_path / "pc7/d"], check=True)
+    try:
+        with pytest.raises(RestoreError, match=told):
+            taken([tmp_path])
+        assert taken([tmp_path], left_out=["acme"]) == {("bolt", "b1"): [1]}
+    finally:
+        subprocess.run(["rm", "-r", tmp_path / "pc7/d"], check=True)  # pytest removes by recursion
     monkeypatch.setattr(journal_lines, "MOST_FILES", 3)  # of pc7 two folders and a file
     assert taken([tmp_path]) == {("acme", "a1"): [1], ("bolt", "b1"): [1]}
     (tmp_path / "pc7/more").touch()

@@ -31,16 +31,19 @@ def test_each_folder_is_kept_by_itself(tmp_path, keep):
     for name, size in (("pc7/1", 4), ("pc8/2", 2), ("pc9/3", 3)):
         (tmp_path / "all" / name).mkdir(parents=True)
         (tmp_path / "all" / name / "a.journal").write_bytes(bytes(size << 14))
-    with open(tmp_path / "all/pc7/zeros", "wb") as file:
-        file.truncate(200 << 20)
-    assert "zeros is over max-size" in keep()
+    for name in ("pc7/seven", "pc8/eight"):
+        (tmp_path / "all" / name).touch()
+        os.truncate(tmp_path / "all" / name, 200 << 20)
+    said = keep()
+    assert -1 < said.find("eight is over max-size") < said.find("seven is over max-size")
     (day,) = (tmp_path / "kept").iterdir()
     assert sorted(str(it.relative_to(day)) for it in day.rglob("*.journal")) == [
         "pc7/1/a.journal", "pc8/2/a.journal", "pc9/3/a.journal"
     ]  # fmt: skip
-    assert not (day / "pc7/zeros").exists()
+    assert not (day / "pc7/seven").exists()
     before = day.rename(day.with_name("2020-01-01"))
-    (tmp_path / "all/pc7/zeros").unlink()
+    for name in ("pc7/seven", "pc8/eight"):
+        (tmp_path / "all" / name).unlink()
     assert keep() == ""
     assert os.path.samefile(before / "pc7/1/a.journal", day / "pc7/1/a.journal")
     shutil.rmtree(day / "pc8")
