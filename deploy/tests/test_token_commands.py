@@ -324,6 +324,15 @@ def test_revoke(file, name, ended):
         done(file, "revoke", "a1:")
 
 
+def test_a_token_whose_time_is_past_stays_ended(file, monkeypatch):
+    """Each change writes it so: nginx goes by the machine's clock, which may be set back."""
+    with_outers(file, outer(1, until="2026-06-15T11:59"), outer(2, until=NOW), outer(3, "b1"))
+    done(file, "list")
+    assert not any(it.ended for it in tokens_of(read(file), file).outers), "a look changes nothing"
+    found = done(file, "add", "b1").outers
+    assert [(it.ended, bool(it.text)) for it in found] == [("2026-06-15T11:59", False)] + [("", True)] * 3
+
+
 def test_list(file, capsys):
     with_outers(file, outer(1, looks=True, holder="line 5"), outer(2, until="2026-06-14T23:59"),
         outer(3, until="2026-06-15T12:00"),
