@@ -463,7 +463,8 @@ def port(place, tried):
     rule = ROOT / "deploy/station.nft"
     words = ["unshare", "-n", "sh", "-c", ASKS, "sh", place.program, rule, HOLDS, BEGUN]
     said = ran(words, place.folder).stdout.splitlines()
-    tried.same("nobody before the rules; root and nginx with them", said[:3], [f"{it} 401" for it in ("nobody", "root", "www-data")])
+    wanted = ["nobody 401", "root 401", "www-data 401"]
+    tried.same("nobody before the rules; root and nginx with them", said[:3], wanted)
     # What has no user, as a packet of AF_SMC, is refused; the last packets of root's and nginx's have none either.
     refused = "ip daddr 127.0.0.0/8 tcp dport 880-899 counter{} reject with tcp reset"
     told = [refused.format(" packets 0 bytes 0"), refused.format("")]

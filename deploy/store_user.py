@@ -8,8 +8,8 @@ there, and hold each process of that user's. So nothing that he writes, names, p
   A file in it is opened by the folder's descriptor, and is a plain one of that user's.
 - Root reads, writes and removes nothing there by a name: a process of that user's does it (`StoreUser.run`, `call`).
 - That process has a session of its own and no terminal, no descriptor of root's but its pipes, none of root's words in
-  its environment, and can't get rights again. It ends with root's, and root waits for nobody who has its pipe behind its
-  end. What it prints is bounded, is a form or is nothing, and reaches a terminal without control characters (`shown`).
+  its environment, and can't get rights again. It ends with root's. Behind its end root waits for nobody who has its
+  pipe. What it prints is bounded, is a form or is nothing, and reaches a terminal without control characters (`shown`).
 - A copy that is tried lies in a room: a folder of the user's in one of root's, which only root can name or remove.
 """
 
@@ -42,8 +42,8 @@ PLAIN = os.O_RDONLY | os.O_NOFOLLOW | os.O_NONBLOCK | os.O_NOCTTY
 ROOMS, ROOM, BESIDE = Path("/var/tmp"), "wanekupo-room.", 1 << 20
 # The most bytes that are taken of what a process prints, of an error's words, and of a small file.
 PRINTED, SAID, SMALL = 16 << 20, 4000, 1 << 20
-# How many seconds a process has that was asked to end, how long root reads behind its end, as another one of that user's
-# may have its pipe, and how long one may take to which nothing else was said: a copy of a large store takes that.
+# How many seconds a process has that was asked to end, how long root reads behind its end, as another one of that
+# user's may have its pipe, and how long one may take of which nothing else is said: a copy of a large store takes that.
 PATIENCE, LINGER, LONGEST = 10, 3, 3600
 # Of prctl(2).
 PDEATHSIG, DUMPABLE, NO_NEW_PRIVS = 1, 4, 38
@@ -317,8 +317,8 @@ def _readable(text: str) -> Iterator[int]:
 
 
 def _parts(pipes: Sequence[int], child: int, end: float = math.inf) -> Iterator[tuple[int, bytes]]:
-    """What comes out of a child's pipes, a part at a time, until it has ended and each is closed, or some seconds behind
-    its end."""
+    """What comes out of a child's pipes, a part at a time, until it has ended and each is closed, or some seconds
+    behind its end."""
     over = os.pidfd_open(child)
     try:
         with selectors.DefaultSelector() as waiting:

@@ -255,17 +255,17 @@ def outer_token(place: Place, wish: Wish) -> str:
 
 
 def own_text(path: Path) -> str | None:
-    """What a file has, or nothing where it isn't there: a plain one of this user's own, whoever may write its folder."""
+    """What a file has, and None where there is none: a plain one of this user's own, whoever writes its folder."""
     try:
         handle = os.open(path, PLAIN)
     except FileNotFoundError:
         return None
     except OSError as error:
-        raise TokenError(5, f"{path} can't be read: {error.strerror}. Look who put it there, and move it away") from None
+        raise TokenError(5, f"{path} can't be read: {error.strerror}. Look who made it, and move it away") from None
     with open(handle, encoding="ascii", errors="replace") as file:
         found = os.fstat(handle)
         if not stat.S_ISREG(found.st_mode) or found.st_uid != os.geteuid() or found.st_mode & 0o022:
-            raise TokenError(5, f"{path} is no plain file of this user's own: look who put it there, and move it away")
+            raise TokenError(5, f"{path} is no plain file of this user's own: look who made it, and move it away")
         return file.read(SMALL).strip()
 
 

@@ -416,7 +416,7 @@ def test_a_file_of_something_else_stays(place, tmp_path):
     ("written by others", "no plain file"),
 ])  # fmt: skip
 def test_what_another_put_there_is_no_seats_token(place, tmp_path, kind, told):
-    """`--to` may be in a folder that others write, as /tmp: another seat's live token would go to this one's station."""
+    """`--to` may be in a folder that others write, as /tmp: another seat's token would go to this one's station."""
     others = Outer("b1:1", 2, "b1", False, "m", "2026-01-01T00:00", text=PREFIX + "55" * 32)
     with_tokens(place, outer(), others, seats=(WITHIN, Seat("b1", "bolt", "33" * 32)))
     path, real = tmp_path / "a1.token", tmp_path / "real"

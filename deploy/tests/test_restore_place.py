@@ -300,7 +300,7 @@ def test_a_store_that_is_there_again_is_not_touched(place, backup):
 def test_check_folders(tmp_path, backup, monkeypatch):
     check_folders(backup, tmp_path)
     (tmp_path / "file").write_text("")
-    bare = "is encrypted: decrypt it first.*unshare -r tar -x --no-same-owner --no-same-permissions"  # no rights of a foreign tar
+    bare = "is encrypted: decrypt it first.*unshare -r tar -x --no-same-owner --no-same-permissions"
     for path, told in ((tmp_path / "x.tar.age", bare), (tmp_path / "file", "is no folder")):
         with pytest.raises(RestoreError, match=told):
             check_folders(path, tmp_path)
