@@ -410,6 +410,26 @@ for address, count in [("127.0.0.1", 74), ("127.0.0.2", 10)]:
     print(address, len(held))
 """
 
+# A connection that nobody began before the rules were there, over which the server speaks first behind them.
+BEGUN = """
+import os, socket, subprocess, sys
+listener = socket.create_server(("127.0.0.1", 881))
+os.seteuid(65534)
+own = socket.socket()
+own.connect(("127.0.0.1", 881))
+os.seteuid(0)
+server = listener.accept()[0]
+subprocess.run(["nft", "-f", sys.argv[1]], check=True)
+server.sendall(b"x")
+own.settimeout(5)
+own.recv(1)
+try:
+    own.sendall(b"x")
+    own.recv(1)
+except OSError as error:
+    print("begun before:", type(error).__name__)
+"""
+
 # In a network of its own: who connects to port 880 without deploy/station.nft and with it, and who can be the server.
 ASKS = """
 ip link set lo up
@@ -419,7 +439,14 @@ asked() { setpriv --reuid "$1" --clear-groups curl -s -o /dev/null -m 3 -w "$1 %
 asked nobody
 nft -f "$2"
 nft -f "$2"
-for user in root www-data nobody; do asked $user; done
+for user in root www-data; do asked $user; done
+sleep 0.2
+chain() { nft "$@" list chain inet station to_the_server | grep -E 'skuid|reject' | sed 's/^[ \t]*//'; }
+chain | tail -n 1
+chain -s | tail -n 1
+asked nobody
+nft delete table inet station
+/usr/bin/python3 -c "$4" "$2"
 kill $!; wait $! 2> /dev/null
 bound='import socket; socket.socket().bind(("127.0.0.1", 880))'
 setpriv --reuid nobody --clear-groups /usr/bin/python3 -c "$bound" 2>&1 | tail -n 1
@@ -434,10 +461,17 @@ def port(place, tried):
         tried.lines.append(f"left out: {missing or 'no network of its own'}")
         return
     rule = ROOT / "deploy/station.nft"
-    said = ran(["unshare", "-n", "sh", "-c", ASKS, "sh", place.program, rule, HOLDS], place.folder).stdout.splitlines()
-    wanted = ["nobody 401", "root 401", "www-data 401", "nobody 000", "PermissionError: [Errno 13] Permission denied"]
-    tried.same("nobody before the rule; root, nginx and nobody with it; nobody as the server", said[:5], wanted)
-    tried.same("74 connections of one address, and 10 of another", said[5:], ["127.0.0.1 64", "127.0.0.2 74"])
+    words = ["unshare", "-n", "sh", "-c", ASKS, "sh", place.program, rule, HOLDS, BEGUN]
+    said = ran(words, place.folder).stdout.splitlines()
+    wanted = ["nobody 401", "root 401", "www-data 401"]
+    tried.same("nobody before the rules; root and nginx with them", said[:3], wanted)
+    # What has no user, as a packet of AF_SMC, is refused; the last packets of root's and nginx's have none either.
+    refused = "ip daddr 127.0.0.0/8 tcp dport 880-899 counter{} reject with tcp reset"
+    told = [refused.format(" packets 0 bytes 0"), refused.format("")]
+    tried.same("none of theirs is refused; the last rule asks for no user", said[3:5], told)
+    wanted = ["nobody 000", "begun before: ConnectionResetError", "PermissionError: [Errno 13] Permission denied"]
+    tried.same("nobody with the rules, and over a connection of before; nobody as the server", said[5:8], wanted)
+    tried.same("74 connections of one address, and 10 of another", said[8:], ["127.0.0.1 64", "127.0.0.2 74"])
 
 
 EDGES = [certificates, shares, customers, strangers, rates, odd, health, health_seat, encryption, handshakes]

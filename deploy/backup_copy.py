@@ -74,10 +74,20 @@ def name_of_user(user: int) -> str:
         return str(user)
 
 
+def ended(*words: str) -> subprocess.CompletedProcess[str]:
+    """A command that has ended, with what it printed: into files, as another process of this user's may take its pipe,
+    and whoever reads that waits for both."""
+    with open(os.memfd_create("out"), "w+b") as out, open(os.memfd_create("err"), "w+b") as err:
+        status = subprocess.run(words, stdin=subprocess.DEVNULL, stdout=out, stderr=err, check=False).returncode
+        for file in (out, err):
+            file.seek(0)
+        texts = [file.read().decode(errors="replace") for file in (out, err)]
+    return subprocess.CompletedProcess(words, status, *texts)
+
+
 def safely(*words: str) -> subprocess.CompletedProcess[str]:
     """sqlite3 in its safe mode."""
-    command = ["sqlite3", "-safe", "-readonly", *words]
-    return subprocess.run(command, stdin=subprocess.DEVNULL, capture_output=True, text=True, check=False)
+    return ended("sqlite3", "-safe", "-readonly", *words)
 
 
 def is_served(db: Path) -> bool:
@@ -142,7 +152,7 @@ def _tried(program: str, site: str, folder: Path, store: str) -> list[str]:
 
 def about_of(program: str, folder: Path, counts: list[str], taken: str) -> str:
     """What a backup says of itself."""
-    said = subprocess.run([program, "--version"], stdin=subprocess.DEVNULL, capture_output=True, text=True, check=False)
+    said = ended(program, "--version")
     names = [*FILES, "site.toml"]
     told = {
         "at": now(),

@@ -123,7 +123,9 @@ def copy_off(command: str, path: Path) -> None:
     words = [word.replace("{}", str(path)) for word in shlex.split(command)]
     words += [] if "{}" in command else [str(path)]
     try:
-        done = subprocess.run(words, stdin=subprocess.DEVNULL, capture_output=True, text=True, check=False)
+        done = subprocess.run(
+            words, stdin=subprocess.DEVNULL, capture_output=True, text=True, errors="replace", check=False
+        )  # fmt: skip
     except OSError as error:
         raise BackupError(f"{path} is here, and wasn't copied off: {words[0]}: {error.strerror}") from error
     if done.returncode:

@@ -46,7 +46,8 @@ def called(*words: str) -> subprocess.CompletedProcess[str]:
     try:
         with whole():
             return subprocess.run(
-                words, stdin=subprocess.DEVNULL, capture_output=True, text=True, check=False, env=quiet
+                words, stdin=subprocess.DEVNULL, capture_output=True, text=True, errors="replace", check=False,
+                env=quiet,
             )  # fmt: skip
     except OSError as error:
         raise BackupError(f"{words[0]}: {error.strerror}") from error

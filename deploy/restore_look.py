@@ -5,12 +5,11 @@ reads what it can in its safe mode, and the journals aren't held against it.
 """
 
 import json
-import subprocess
 from collections.abc import Collection, Iterable, Iterator
 from pathlib import Path
 from typing import Any
 
-from backup_copy import FILES, opened_by, safely
+from backup_copy import FILES, ended, opened_by, safely
 from restore_plan import OWN, Customer, Requests, RestoreError
 from wanekupo.journal import Asked, records_of
 from wanekupo.texts import brief, shown
@@ -47,7 +46,7 @@ def lost_copy(program: str, site: Path, lost: Path, folder: Path) -> tuple[Path,
     the process that has it closes that file."""
     folder.mkdir()
     for source, name in zip((lost, Path(f"{lost}-wal")), FILES):
-        done = subprocess.run(["cp", "--", source, folder / name], capture_output=True, text=True, check=False)
+        done = ended("cp", "--", str(source), str(folder / name))
         if done.returncode:
             raise RestoreError(f"{lost} can't be copied: {done.stderr.strip()}")
     return folder / FILES[0], opened_by(program, site, folder / FILES[0])

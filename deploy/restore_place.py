@@ -17,6 +17,7 @@ import json
 import os
 import shutil
 import socket
+import stat
 import subprocess
 import time
 from collections.abc import Iterator
@@ -208,7 +209,7 @@ def check_folders(backup: Path, backups: Path) -> None:
     """Refuses what is no backup's folder, and a folder that takes no backup of the restored store at the end."""
     if backup.name.endswith(".age"):
         told = f"{backup} is encrypted: decrypt it first, where its key is"
-        words = "age -d -i KEY FILE | tar -x --no-same-owner --no-same-permissions"
+        words = "age -d -i KEY FILE | unshare -r tar -x --no-same-owner --no-same-permissions"
         raise RestoreError(f"{told} ({words}), and give the folder that comes of it")
     if backup.is_file():
         raise RestoreError(f"{backup} is no folder: give the folder of a backup")
@@ -233,6 +234,10 @@ def said_in(backup: Path) -> dict[str, Any]:
 
 def check_backup(backup: Path) -> dict[str, Any]:
     """What a backup says of itself, where its files are those that it names."""
+    for name in (*FILES, ABOUT, "site.toml"):
+        path = backup / name
+        if os.path.lexists(path) and not stat.S_ISREG(os.lstat(path).st_mode):
+            raise RestoreError(f"{path} is no plain file: look who made it, and take another backup")
     for name in FILES:
         if not (backup / name).is_file() or not (backup / name).stat().st_size:
             raise RestoreError(f"{backup} has no {name}, or an empty one: it is no backup")

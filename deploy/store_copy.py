@@ -15,9 +15,8 @@ from store_user import StoreUser, UserError, shown
 FILES = ("books.db", "books.db-wal")
 WHOLE = {*FILES, "site.toml"}  # what a backup has once its copy is whole; `trial` is there while it is tried
 ENCRYPTED = ".tar.age"
-# What is listed of each file and folder: its kind, bytes, time and name. How long a copy may take, in seconds.
+# What is listed of each file and folder: its kind, bytes, time and name.
 LISTED, ROW = r"%y %s %T@ %P\0", re.compile(r"([a-z]) (\d{1,18}) (\d{1,12})[.]\d+ ([^/]+)(?:/([^/]+))?")
-LONGEST = 3600
 
 
 class NoCopyError(UserError):
@@ -60,14 +59,14 @@ def is_backup(name: str, there: set[str]) -> bool:
 
 def newest_backup(user: StoreUser, folder: Path) -> Backup | None:
     """The newest backup, as the store's user sees it."""
-    done = user.run("find", f"{folder}/", "-mindepth", "1", "-maxdepth", "2", "-printf", LISTED, seconds=LONGEST)
+    done = user.run("find", f"{folder}/", "-mindepth", "1", "-maxdepth", "2", "-printf", LISTED)
     return newest_in(done.stdout, folder)
 
 
 def copy_files(user: StoreUser, db: Path, made: Path) -> Path:
     """A copy of a store's two files in a new folder, as the store's user makes it. Gives that of the store's file."""
     for words in (("mkdir", str(made)), ("cp", "--", str(db), f"{db}-wal", f"{made}/")):
-        done = user.run(*words, seconds=LONGEST)
+        done = user.run(*words)
         if done.returncode:
             raise NoCopyError(f"{db.parent} can't be copied: {shown(done.stderr).strip()}")
     return made / db.name

@@ -8,8 +8,8 @@ there, and hold each process of that user's. So nothing that he writes, names, p
   A file in it is opened by the folder's descriptor, and is a plain one of that user's.
 - Root reads, writes and removes nothing there by a name: a process of that user's does it (`StoreUser.run`, `call`).
 - That process has a session of its own and no terminal, no descriptor of root's but its pipes, none of root's words in
-  its environment, and can't get rights again. It ends with root's. What it prints is bounded, is a form or is nothing,
-  and reaches a terminal without control characters (`shown`).
+  its environment, and can't get rights again. It ends with root's. Behind its end root waits for nobody who has its
+  pipe. What it prints is bounded, is a form or is nothing, and reaches a terminal without control characters (`shown`).
 - A copy that is tried lies in a room: a folder of the user's in one of root's, which only root can name or remove.
 """
 
@@ -18,6 +18,7 @@ import contextlib
 import ctypes
 import errno
 import fcntl
+import math
 import os
 import pwd
 import selectors
@@ -41,8 +42,9 @@ PLAIN = os.O_RDONLY | os.O_NOFOLLOW | os.O_NONBLOCK | os.O_NOCTTY
 ROOMS, ROOM, BESIDE = Path("/var/tmp"), "wanekupo-room.", 1 << 20
 # The most bytes that are taken of what a process prints, of an error's words, and of a small file.
 PRINTED, SAID, SMALL = 16 << 20, 4000, 1 << 20
-# How many seconds a process has that was asked to end.
-PATIENCE = 10
+# How many seconds a process has that was asked to end, how long root reads behind its end, as another one of that
+# user's may have its pipe, and how long one may take of which nothing else is said: a copy of a large store takes that.
+PATIENCE, LINGER, LONGEST = 10, 3, 3600
 # Of prctl(2).
 PDEATHSIG, DUMPABLE, NO_NEW_PRIVS = 1, 4, 38
 
@@ -197,8 +199,8 @@ class StoreUser:
         path = "/usr/local/sbin:/usr/local/bin:/usr/sbin:/usr/bin:/sbin:/bin"
         return {"PATH": path, "HOME": self.home, "USER": self.name, "LOGNAME": self.name, "LC_ALL": "C.UTF-8"}
 
-    def run(self, *words: str, given: str = "", fds: Sequence[int] = (), cwd: str | Path = "/", seconds: float = 0.0,
-            most: int = PRINTED) -> "subprocess.CompletedProcess[str]":  # fmt: skip
+    def run(self, *words: str, given: str = "", fds: Sequence[int] = (), cwd: str | Path = "/",
+            seconds: float = LONGEST, most: int = PRINTED) -> "subprocess.CompletedProcess[str]":  # fmt: skip
         """A command as the user, with what it printed, of which root believes nothing but its form. `given` is what it
         reads. A name of `fds` is /proc/self/fd/N. Who takes longer, or prints more than `most`, is ended: an error."""
         with _readable(given) as stdin:
@@ -211,7 +213,7 @@ class StoreUser:
                 raise UserError(f"{words[0]}: {error.strerror}") from None
         with child:
             try:
-                printed = _gathered(child, most, time.monotonic() + seconds if seconds else None)
+                printed = _gathered(child, most, time.monotonic() + seconds)
                 status = child.wait()
             except BaseException:
                 _ended(child)
@@ -314,39 +316,49 @@ def _readable(text: str) -> Iterator[int]:
         os.close(handle)
 
 
-def _parts(pipes: Sequence[int], end: float | None = None) -> Iterator[tuple[int, bytes]]:
-    """What comes out of pipes, a part at a time, until each is closed."""
-    with selectors.DefaultSelector() as waiting:
-        for pipe in pipes:
-            waiting.register(pipe, selectors.EVENT_READ)
-        while waiting.get_map():
-            left = None if end is None else end - time.monotonic()
-            if left is not None and left <= 0:
-                raise UserError("a process of the store's user took too long, and was ended")
-            for key, _ in waiting.select(left):
-                data = os.read(key.fd, 1 << 16)
-                yield key.fd, data
-                if not data:
-                    waiting.unregister(key.fd)
+def _parts(pipes: Sequence[int], child: int, end: float = math.inf) -> Iterator[tuple[int, bytes]]:
+    """What comes out of a child's pipes, a part at a time, until it has ended and each is closed, or some seconds
+    behind its end."""
+    over = os.pidfd_open(child)
+    try:
+        with selectors.DefaultSelector() as waiting:
+            for pipe in (*pipes, over):
+                waiting.register(pipe, selectors.EVENT_READ)
+            while waiting.get_map():
+                left = end - time.monotonic()
+                if left <= 0 and over in waiting.get_map():
+                    raise UserError("a process of the store's user took too long, and was ended")
+                if left <= 0:
+                    return
+                for key, _ in waiting.select(min(left, LONGEST)):
+                    data = os.read(key.fd, 1 << 16) if key.fd != over else b""
+                    if key.fd != over:
+                        yield key.fd, data
+                    else:
+                        end = min(end, time.monotonic() + LINGER)
+                    if not data:
+                        waiting.unregister(key.fd)
+    finally:
+        os.close(over)
 
 
-def _gathered(child: "subprocess.Popen[bytes]", most: int, end: float | None) -> list[bytes]:
+def _gathered(child: "subprocess.Popen[bytes]", most: int, end: float) -> list[bytes]:
     """What a process prints on its two pipes."""
     assert child.stdout and child.stderr
     pipes = [child.stdout.fileno(), child.stderr.fileno()]
     found = {it: bytearray() for it in pipes}
-    for pipe, data in _parts(pipes, end):
+    for pipe, data in _parts(pipes, child.pid, end):
         found[pipe] += data
         if len(found[pipe]) > most:
             raise UserError("a process of the store's user printed too much, and was ended")
     return [bytes(found[it]) for it in pipes]
 
 
-def _relayed(reads: list[int], end: float | None = None) -> str:
+def _relayed(reads: list[int], child: int, end: float = math.inf) -> str:
     """Prints what a child prints, made harmless; gives the words of its error."""
     outs, said = {reads[0]: sys.stdout, reads[1]: sys.stderr}, bytearray()
     texts = {it: codecs.getincrementaldecoder("utf-8")("replace") for it in outs}
-    for pipe, data in _parts(reads, end):
+    for pipe, data in _parts(reads, child, end):
         if pipe in outs:
             with contextlib.suppress(BrokenPipeError):  # who reads it may have enough, and the work goes on
                 outs[pipe].write(shown(texts[pipe].decode(data)))
@@ -364,11 +376,11 @@ def _waited(child: int, pipes: list[tuple[int, int]], mask: set[signal.Signals])
     reads = [read for read, _ in pipes]
     try:
         signal.pthread_sigmask(signal.SIG_SETMASK, mask)
-        said = _relayed(reads)
+        said = _relayed(reads, child)
     except BaseException:
         os.kill(child, signal.SIGTERM)
         with contextlib.suppress(BaseException):
-            _relayed(reads, time.monotonic() + PATIENCE)
+            _relayed(reads, child, time.monotonic() + PATIENCE)
         for kill in (os.killpg, os.kill):  # it may have no group of its own yet
             with contextlib.suppress(ProcessLookupError):
                 kill(child, signal.SIGKILL)

@@ -15,7 +15,7 @@ import urllib.request
 from pathlib import Path
 
 from store_copy import Backup
-from store_user import UserError, shown
+from store_user import LONGEST, PLAIN, SMALL, UserError, shown
 from token_file import HEALTH, PREFIX, TokenError, alone, read, tokens_of
 from whole_file import sync
 
@@ -84,7 +84,7 @@ def stop_and_back_up(place: Place, plan: Plan) -> None:
             raise TokenError(1, f"the server wasn't stopped: {said}")
         say("the server is stopped")
         words = ["--program", place.program, "--site", str(place.site), "--db", str(place.db), plan.backup]
-        done = user.run(str(place.parts / "backup"), *words)
+        done = user.run(str(place.parts / "backup"), *words, seconds=4 * LONGEST)  # it copies, starts and compares
         if done.returncode:
             raise TokenError(1, f"no backup, so nothing was changed: {shown(done.stderr).strip()}")
         say(shown(done.stdout).strip())
@@ -242,15 +242,31 @@ def outer_token(place: Place, wish: Wish) -> str:
     cut before the token was anybody's: it goes, and another one is made."""
     path = Path(wish.to)
     with alone(place.tokens, place.args.patience):
-        known = {it.text for it in tokens_of(read(place.tokens) or "", place.tokens).open_ones()}
-        is_there = path.exists()
-        if is_there and (text := path.read_text(encoding="ascii").strip()) not in known:
-            if text and not text.startswith(PREFIX):
-                raise TokenError(5, f"{path} is there, and is no file of a token: move it away")
+        outers = tokens_of(read(place.tokens) or "", place.tokens).open_ones()
+        seat_of = {it.text: it.seat for it in outers if it.text}
+        text = own_text(path)
+        if text and not (text.startswith(PREFIX) and seat_of.get(text, wish.seat) == wish.seat):
+            raise TokenError(5, f"{path} is there, and is no file of a token of {wish.seat}: move it away")
+        is_there = text in seat_of
+        if text is not None and not is_there:
             path.unlink()
-            is_there = False
     token_run(place, wish, *(["write"] if is_there else ["add", wish.seat, "--holder", wish.holder, "--to", wish.to]))
-    return path.read_text(encoding="ascii").strip()
+    return own_text(path) or ""
+
+
+def own_text(path: Path) -> str | None:
+    """What a file has, and None where there is none: a plain one of this user's own, whoever writes its folder."""
+    try:
+        handle = os.open(path, PLAIN)
+    except FileNotFoundError:
+        return None
+    except OSError as error:
+        raise TokenError(5, f"{path} can't be read: {error.strerror}. Look who made it, and move it away") from None
+    with open(handle, encoding="ascii", errors="replace") as file:
+        found = os.fstat(handle)
+        if not stat.S_ISREG(found.st_mode) or found.st_uid != os.geteuid() or found.st_mode & 0o022:
+            raise TokenError(5, f"{path} is no plain file of this user's own: look who made it, and move it away")
+        return file.read(SMALL).strip()
 
 
 def token_run(place: Place, wish: Wish, *words: str) -> None:

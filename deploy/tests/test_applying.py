@@ -411,6 +411,35 @@ def test_a_file_of_something_else_stays(place, tmp_path):
     assert error.value.status == 5 and path.read_text() == "my notes" and place.calls == []
 
 
+@pytest.mark.parametrize("kind, told", [
+    ("other seat", "no file of a token of a1"), ("link", "can't be read"), ("pipe", "no plain file"),
+    ("written by others", "no plain file"),
+])  # fmt: skip
+def test_what_another_put_there_is_no_seats_token(place, tmp_path, kind, told):
+    """`--to` may be in a folder that others write, as /tmp: another seat's token would go to this one's station."""
+    others = Outer("b1:1", 2, "b1", False, "m", "2026-01-01T00:00", text=PREFIX + "55" * 32)
+    with_tokens(place, outer(), others, seats=(WITHIN, Seat("b1", "bolt", "33" * 32)))
+    path, real = tmp_path / "a1.token", tmp_path / "real"
+    real.write_text(others.text if kind == "other seat" else TEXT)
+    if kind == "pipe":
+        os.mkfifo(path)
+    else:
+        path.symlink_to(real) if kind == "link" else real.rename(path)
+    if kind == "written by others":
+        path.chmod(0o666)
+    with pytest.raises(TokenError, match=told) as error:
+        applying.outer_token(place, Wish("a1", "acme", str(path)))
+    assert error.value.status == 5 and os.path.lexists(path) and place.calls == []
+
+
+def test_another_users_file_is_no_seats_token(tmp_path, monkeypatch):
+    (tmp_path / "a1.token").write_text(TEXT)
+    assert applying.own_text(tmp_path / "a1.token") == TEXT and applying.own_text(tmp_path / "none") is None
+    monkeypatch.setattr(applying.os, "geteuid", lambda: os.getuid() + 1)
+    with pytest.raises(TokenError, match="no plain file of this user's own"):
+        applying.own_text(tmp_path / "a1.token")
+
+
 def test_what_station_token_refuses_is_told(place):
     place.fails = {"token"}
     with pytest.raises(TokenError, match="^a1: told$") as error:

@@ -8,6 +8,7 @@ import pwd
 import shutil
 import stat
 import subprocess
+import time
 from pathlib import Path
 from types import SimpleNamespace
 
@@ -39,9 +40,13 @@ class Machine:
             raise subprocess.CalledProcessError(1, words)
         if words[0] == "sqlite3":
             said = self.prints.get(Path(words[-2]).parent.name, self.prints.get("", COUNTS))
-            return subprocess.CompletedProcess(words, self.status, said, "Error: why\n" if self.status else "")
+            more["stdout"].write(said.encode())
+            more["stderr"].write(b"Error: why\n" if self.status else b"")
+            return subprocess.CompletedProcess(words, self.status)
         self.meanwhile()
-        return subprocess.CompletedProcess(words, 0 if "--version" in words else self.opens, "station 1.2.3\n", "")
+        if "--version" in words:
+            more["stdout"].write(b"station 1.2.3\n")
+        return subprocess.CompletedProcess(words, 0 if "--version" in words else self.opens)
 
 
 @pytest.fixture
@@ -131,6 +136,12 @@ def test_sqlite3_runs_in_its_safe_mode_and_reads_alone(machine):
     backup_copy.safely("a", "b")
     ((words, more),) = machine.calls
     assert words == ["sqlite3", "-safe", "-readonly", "a", "b"] and more["stdin"] == subprocess.DEVNULL
+
+
+def test_who_has_what_a_command_prints_to_holds_nobody():
+    begun = time.monotonic()
+    done = backup_copy.ended("sh", "-c", "printf 'a\\377'; echo b >&2; sleep 5 & exit 3")
+    assert (done.returncode, done.stdout, done.stderr) == (3, "a\ufffd", "b\n") and time.monotonic() - begun < 4
 
 
 @pytest.mark.parametrize("out, err, is_served", [

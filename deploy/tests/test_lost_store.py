@@ -63,7 +63,7 @@ def test_rows_that_cannot_be_read(tmp_path):
 @pytest.mark.parametrize("fails, is_opened", [(False, True), (False, False), (True, False)])
 def test_the_copy(tmp_path, monkeypatch, fails, is_opened):
     calls = []
-    monkeypatch.setattr(restore_look.subprocess, "run", lambda words, **more: calls.append([str(it) for it in words]) or
+    monkeypatch.setattr(restore_look, "ended", lambda *words: calls.append(list(words)) or
                         subprocess.CompletedProcess(words, int(fails), "", "full\n"))  # fmt: skip
     monkeypatch.setattr(restore_look, "opened_by", lambda program, site,
         db: calls.append((program, site, db)) or is_opened)

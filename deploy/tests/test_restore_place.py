@@ -5,8 +5,10 @@ import fcntl
 import hashlib
 import json
 import os
+import re
 import subprocess
-from io import StringIO
+import tarfile
+from io import BytesIO, StringIO
 from types import SimpleNamespace
 
 import pytest
@@ -298,7 +300,7 @@ def test_a_store_that_is_there_again_is_not_touched(place, backup):
 def test_check_folders(tmp_path, backup, monkeypatch):
     check_folders(backup, tmp_path)
     (tmp_path / "file").write_text("")
-    bare = "is encrypted: decrypt it first.*tar -x --no-same-owner --no-same-permissions"  # no rights of a foreign tar
+    bare = "is encrypted: decrypt it first.*unshare -r tar -x --no-same-owner --no-same-permissions"
     for path, told in ((tmp_path / "x.tar.age", bare), (tmp_path / "file", "is no folder")):
         with pytest.raises(RestoreError, match=told):
             check_folders(path, tmp_path)
@@ -321,6 +323,32 @@ def about(backup, **changes):
 def test_check_backup(backup):
     assert check_backup(backup) == {}, "a backup of an earlier program says nothing of itself"
     assert check_backup(backup) != about(backup) == check_backup(backup)
+
+
+@pytest.mark.parametrize("name", ["books.db", "books.db-wal", "about.json", "site.toml"])
+@pytest.mark.parametrize("make", [os.mkfifo, lambda it: it.symlink_to("/dev/zero"), lambda it: it.mkdir()])
+def test_what_a_restore_reads_is_a_plain_file(backup, name, make):
+    about(backup)
+    (backup / name).unlink()
+    make(backup / name)
+    with pytest.raises(RestoreError, match=f"{name} is no plain file"):
+        check_backup(backup)
+
+
+def test_what_opens_an_encrypted_backup_makes_no_device(tmp_path):
+    """Who has the public key makes one, and root may open it; without root's rights no device is made anyway."""
+    with pytest.raises(RestoreError) as error:
+        check_folders(tmp_path / "x.tar.age", tmp_path)
+    words = re.search(r"\| (.*)\)", str(error.value))[1].split()
+    with tarfile.open(tmp_path / "x.tar", "w") as made:
+        for name, kind in (("zero", tarfile.CHRTYPE), ("books.db", tarfile.REGTYPE)):
+            entry = tarfile.TarInfo(name)
+            entry.type, entry.devmajor, entry.devminor, entry.mode = kind, 1, 5, 0o4777
+            made.addfile(entry, BytesIO())
+    with open(tmp_path / "x.tar", "rb") as file:
+        (tmp_path / "in").mkdir()
+        subprocess.run(words, stdin=file, cwd=tmp_path / "in", capture_output=True, check=False)
+    assert os.listdir(tmp_path / "in") == ["books.db"] and not (tmp_path / "in/books.db").stat().st_mode & 0o7022
 
 
 @pytest.mark.parametrize("name", ["books.db", "books.db-wal"])

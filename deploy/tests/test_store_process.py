@@ -2,6 +2,7 @@
 needs root is tried by bench/roads."""
 
 import contextlib
+import math
 import os
 import signal
 import stat
@@ -139,7 +140,7 @@ def test_a_program_that_is_missing(monkeypatch):
         USER.run("find")
 
 
-def gathered(parts, most=100, end=None):
+def gathered(parts, most=100, end=math.inf):
     """What is gathered of two pipes that have these parts."""
     reads = []
     for data in parts:
@@ -147,12 +148,52 @@ def gathered(parts, most=100, end=None):
         os.write(write, data)
         os.close(write)
         reads.append(os.fdopen(read, "rb"))
-    child = SimpleNamespace(stdout=reads[0], stderr=reads[1])
+    ended = subprocess.Popen("true")
+    child = SimpleNamespace(stdout=reads[0], stderr=reads[1], pid=ended.pid)
     try:
         return store_user._gathered(child, most, end)
     finally:
+        ended.wait()
         for it in reads:
             it.close()
+
+
+@pytest.fixture
+def hurry(monkeypatch):
+    """A test that waits for ever fails."""
+    monkeypatch.setattr(store_user, "LINGER", 0.5)
+    signal.signal(signal.SIGALRM, lambda *_: pytest.fail("waited for ever"))
+    signal.alarm(20)
+    yield
+    signal.alarm(0)
+
+
+def test_who_has_a_pipe_behind_the_childs_end_holds_nobody(hurry):
+    """As another process of the store's user gets it, by pidfd_getfd(2): here the child's own child has it."""
+    own = store_user.StoreUser("me", os.geteuid(), os.getegid())
+    begun = time.monotonic()
+    done = own.run("sh", "-c", "echo here; sleep 15 & exit 3")
+    assert (done.returncode, done.stdout) == (3, "here\n") and 0.4 < time.monotonic() - begun < 10
+    with subprocess.Popen(["sh", "-c", "sleep 15 & exit 3"], stdout=subprocess.PIPE, stderr=subprocess.PIPE) as child:
+        assert store_user._relayed([child.stdout.fileno(), child.stderr.fileno()], child.pid) == ""
+
+
+def test_a_child_that_closed_its_pipes_is_ended_too(hurry):
+    own = store_user.StoreUser("me", os.geteuid(), os.getegid())
+    begun = time.monotonic()
+    with pytest.raises(UserError, match="took too long"):
+        own.run("sh", "-c", "exec >&- 2>&-; exec sleep 15", seconds=0.3)
+    assert time.monotonic() - begun < 10
+
+
+def test_each_run_has_a_bound(monkeypatch):
+    monkeypatch.setattr(store_user.subprocess, "Popen", FakeChild)
+    for more, bound in (({}, 3600), ({"seconds": 5}, 5)):
+        ends = []
+        monkeypatch.setattr(store_user, "_gathered", lambda child, most, end: ends.append(end) or [b"", b""])
+        begun = time.monotonic()
+        USER.run("find", **more)
+        assert bound <= ends[0] - begun < bound + 5
 
 
 def test_what_a_process_prints_is_bounded():

@@ -92,7 +92,7 @@ def test_revoke_ends_one_or_all_of_a_seat():
         assert done.is_change and all(f"{it} has ended" in done.told for it in gone)
 
 
-@pytest.mark.parametrize("name", ["a1:9", "b1:4", "c1", "", "a1:"])
+@pytest.mark.parametrize("name", ["a1:9", "b1:5", "c1", "", "a1:"])
 def test_nothing_to_revoke(name):
     tokens = tokens_with(outer(1), outer(4, "b1", text="", ended="2026-11-01T00:00"))
     with pytest.raises(TokenError, match="there is no outer token"):
@@ -187,8 +187,9 @@ def test_a_site_file_is_written_whole_with_its_mode(tmp_path, monkeypatch):
         replace(source, to)
 
     monkeypatch.setattr(os, "replace", full)
-    with pytest.raises(OSError, match="No space left"):
+    with pytest.raises(TokenError, match="No space left") as error:
         token.run(args_of("--file", str(path), "--no-reload", "seat", "a2", "--customer", "acme", "--into", str(site)))
+    assert error.value.status == 7, "of station-token(8): the tokens' file is changed"
     assert site.read_bytes() == before and sorted(it.name for it in tmp_path.iterdir()) == [
         "new.toml", "tokens.conf", "tokens.conf.lock"]  # fmt: skip
 

@@ -104,6 +104,55 @@ def test_commit(file, monkeypatch, wrong, status):
     assert token.commit(words(file, "list"), seats(), None) is None and len(calls) == 2, "--no-reload"
 
 
+@pytest.mark.parametrize("fails, error", [
+    ("ran", PermissionError(13, "why")), ("told", UnicodeDecodeError("utf-8", b"\xff", 0, 1, "why")),
+    ("told", ValueError("why")), ("put", OSError(28, "why")),
+])  # fmt: skip
+def test_whatever_fails_behind_the_write_is_no_refusal(file, monkeypatch, fails, error):
+    """The statuses of station-token(8): with 1 nothing was changed, and 5 has an operator look at nginx."""
+    def fail(*_):
+        raise error
+
+    monkeypatch.setattr(token, "ran", lambda command: (fails != "put", "emerg"))
+    monkeypatch.setattr(token, "told", lambda *_: "")
+    real, calls = token.put, []
+    monkeypatch.setattr(token, "put", lambda *it: fail() if fails == "put" and calls else calls.append(real(*it)))
+    if fails != "put":
+        monkeypatch.setattr(token, fails, fail)
+    late = token.commit(token.parser().parse_args(["--file", str(file), "list"]), seats(), "old")
+    assert late.status == 5 and "why" in str(late) and read(file) == text_of(seats())
+
+
+@pytest.mark.parametrize("command", ["nginx 'x", "/nowhere/nginx -t"])
+def test_a_command_that_can_not_be_begun(command):
+    assert token.ran(command)[0] is False
+
+
+def test_a_second_revoke_has_nginx_read_the_file_again(file, monkeypatch, capsys):
+    with_outers(file, outer(1, text="", ended=NOW), outer(2, text="", ended=NOW))
+    calls = []
+    monkeypatch.setattr(token, "ran", lambda command: calls.append(command) or (True, ""))
+    monkeypatch.setattr(token, "told", lambda command, pid: calls.append(command) or "")
+    for name in ("a1:1", "a1"):
+        token.run(token.parser().parse_args(["--file", str(file), "revoke", name]))
+        assert calls[-2:] == ["nginx -t -q", "nginx -s reload"] and "had ended before" in capsys.readouterr().err
+    with pytest.raises(TokenError, match="no outer token"):
+        token.run(words(file, "revoke", "a1:3"))
+
+
+def test_where_nothing_is_printed_a_change_is_none_that_was_refused(file, monkeypatch):
+    def fail(*_, **__):
+        raise OSError(32, "nobody reads")
+
+    put(file, text_of(seats()))
+    monkeypatch.setattr("builtins.print", fail)
+    with pytest.raises(TokenError, match="nobody reads") as error:
+        token.run(words(file, "add", "a1"))
+    assert error.value.status == 7
+    with pytest.raises(OSError, match="nobody reads"):
+        token.run(words(file, "list"))
+
+
 # ---- seats
 
 
@@ -271,10 +320,17 @@ def test_revoke(file, name, ended):
     found = done(file, "revoke", name)
     assert [it.number for it in found.outers if it.ended and it.number != 12] == ended
     assert all(bool(it.text) != bool(it.ended) for it in found.outers), "one that has ended keeps no text"
-    with pytest.raises(TokenError, match="no outer token|has ended"):
-        done(file, "revoke", "a1:12")
     with pytest.raises(TokenError):
         done(file, "revoke", "a1:")
+
+
+def test_a_token_whose_time_is_past_stays_ended(file, monkeypatch):
+    """Each change writes it so: nginx goes by the machine's clock, which may be set back."""
+    with_outers(file, outer(1, until="2026-06-15T11:59"), outer(2, until=NOW), outer(3, "b1"))
+    done(file, "list")
+    assert not any(it.ended for it in tokens_of(read(file), file).outers), "a look changes nothing"
+    found = done(file, "add", "b1").outers
+    assert [(it.ended, bool(it.text)) for it in found] == [("2026-06-15T11:59", False)] + [("", True)] * 3
 
 
 def test_list(file, capsys):

@@ -49,6 +49,8 @@ def test_workers(tmp_path, monkeypatch):
     process(proc, 14, b"nginx: cache manager process\0", 7)
     process(proc, 15, b"sh\0-c\0nginx: worker process\0", 7)
     (proc / "16").mkdir()
+    process(proc, 17, b"sleep\0009\0", 1)  # another user's, named by prctl(PR_SET_NAME)
+    (proc / "17/status").write_bytes(b"Name:\t\xff\xfe\nPid:\t17\nPPid:\t1\n")
     (tmp_path / "pid").write_text("7\n")
     real = token.Path
     monkeypatch.setattr(token, "Path",
