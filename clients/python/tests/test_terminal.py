@@ -155,7 +155,7 @@ class Begun(BenchCase):
         self.assertEqual(bench.lines, [f"{self.folder}/{told}"])
 
     def test_a_new_shift(self):
-        """It is asked for; a chip that failed and then passed is no first pass, and has passed; the last chips are there behind a start."""
+        """It is asked for. A chip that failed and then passed has passed, and is no first pass. The last chips stay."""
         once = script(self.folder / "once", f"[ -e {self.folder}/seen ] || {{ touch {self.folder}/seen; exit 3; }}\n")
         self.order()
         bench = self.run_bench(self.recipe(hooks={"before_ship": {"command": [once]}}))
