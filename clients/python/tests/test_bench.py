@@ -60,13 +60,15 @@ class Lives(BenchCase):
         self.assertEqual(sorted(it.stem for it in (self.folder / "spool").glob("[!.]*.csr")), serials)
 
     def test_what_a_chip_costs(self):
-        """Eight requests at the most, five starts of espefuse, and one import of the map however often it is begun."""
+        """Eight requests at the most, seven starts of espefuse (two of them look whether the chip is still there), and
+        one import of the map however often it is begun."""
         self.order()
         count = self.folder / "count"
         words = f'echo >> {count}\nexec {sys.executable} {self.socket_of("a")[2]} "$@"\n'
         command = tool(self.folder / "tool", words)
         proxy = self.proxy()
-        recipe = self.recipe(proxy.url, sockets={"a": [command, *self.socket_of("a")[3:]]})
+        hooks = {"before_ship": {"command": ["true"]}}
+        recipe = self.recipe(proxy.url, hooks=hooks, sockets={"a": [command, *self.socket_of("a")[3:]]})
         for place, mac in enumerate(macs_of(3), 1):
             bench, before = self.run_bench(recipe), len(proxy.seen)
             self.put("a", mac)
@@ -76,7 +78,7 @@ class Lives(BenchCase):
             own = [request for _, request in proxy.seen[before:] if mac.encode() in request]
             self.assertLessEqual(len(own), 8)
             self.assertEqual(bench.end(), 0)
-        self.assertEqual(len(count.read_text().splitlines()), 3 * 5)
+        self.assertEqual(len(count.read_text().splitlines()), 3 * 7)
         self.assertEqual(sum(b"/v1/map" in request for _, request in proxy.seen), 1)
 
 

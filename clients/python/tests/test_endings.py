@@ -177,6 +177,28 @@ class Endings(BenchCase):
             self.take("left", mac)
             bench.end()
 
+    def test_a_chip_that_is_changed_while_a_command_runs(self):
+        """Behind before_identity, or before_ship, another chip is in the socket: nothing is recorded by what that one
+        showed or took. The first one, put back, goes on."""
+        self.order()
+        place, other = self.folder / "places" / "left", macs_of(9)[8]
+        change = f"mv {place} {self.folder}/chip-$CHIP && mv {self.folder}/chip-{other} {place}"
+        for mac, hook, state in zip(macs_of(2), ("before_identity", "before_ship"), ("settled", "identified")):
+            self.make(other, self.folder / f"chip-{other}")
+            own = "" if hook == "before_ship" else f'"{self.csr}"\n'
+            command = script(self.folder / hook, f"{own}[ ! -e {self.folder}/chip-{other} ] || {{ {change}; }}\n")
+            bench = self.run_bench(self.recipe(hooks={hook: {"command": [command]}}))
+            self.put("left", mac)
+            for reason, behind in (("other_chip", state), ("passed", "shipped")):
+                bench.said("left")
+                bench.until(lambda board, reason=reason: board["sockets"][0]["reason"] == reason, reason)
+                self.assertEqual(self.asked("GET", f"/v1/device?chip={mac}")[1]["state"], behind)
+                if reason == "other_chip":
+                    place.unlink()
+                    self.put("left", mac)
+            self.take("left", mac)
+            bench.end()
+
     def test_chips_that_come_again(self):
         """One of another order, one that was scrapped, one that is shipped."""
         self.order()

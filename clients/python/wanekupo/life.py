@@ -1,7 +1,8 @@
 """A chip's life in a socket: read, register, plan, burn, read back, key pair, identity, ship, label.
 
 It goes on wherever the chip was stopped, by what the server knows of it. A chip with two batches costs seven requests,
-with reports at its order's end (`supply`), and five starts of espefuse: one to read it, and two a batch.
+with reports at its order's end (`supply`), and seven starts of espefuse: one to read it, two a batch, and one behind
+each command that may take minutes, as another chip may be there.
 """
 
 from __future__ import annotations
@@ -141,7 +142,8 @@ class Life:
         self._keep_csr(record)
         self.line.identified(record)
         if state != "shipped":
-            self._hook("before_ship", record)
+            if self._hook("before_ship", record):
+                self._see()
             self._at("ship")
             before = self.line.kept.before(self.chip)
             self._ask(Station.ship, before.reason if before else "")
@@ -309,6 +311,7 @@ class Life:
         for kind in LEFT:
             (folder / f"identity.{kind}").unlink(missing_ok=True)
         self._hook("before_identity", None)
+        self._see()
         synced_files(folder)
         public_key = self._public_key(folder)
         self._at("identity")
@@ -332,11 +335,18 @@ class Life:
 
     # Hooks.
 
-    def _hook(self, name: str, record: Optional[Identity]) -> None:
+    def _hook(self, name: str, record: Optional[Identity]) -> bool:
+        """Runs a command of the recipe; whether there is such a one."""
         command = self.line.recipe.hooks.get(name)
         if command:
             self._at(name.replace("_", " "))
             self._run(command, self._facts(record))
+        return command is not None
+
+    def _see(self) -> None:
+        """Looks whether the chip is still there, behind a command in whose minutes another one may have come."""
+        if self.part.read().chip != self.chip:
+            raise Ended("other_chip")
 
     def _facts(self, record: Optional[Identity]) -> dict[str, str]:
         if not record:
