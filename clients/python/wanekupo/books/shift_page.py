@@ -36,7 +36,7 @@ def tables(shift: Shift, rests: Optional[Sequence[Rest]]) -> list[Table]:
         Table("orders", "Orders", ORDERS, list(_order_rows(shift)), NUMBERS, "No journal has an order's chip."),
         Table("stations", "Stations", STATIONS, list(_station_rows(shift)), NUMBERS),
         Table("lost", "Chips given up", GIVEN_UP, lost),
-        Table("stopped", "Stations that stopped", STOPPED, stopped),
+        Table("stopped", "Stations out of step, or without a reply", STOPPED, stopped),
         Table("rest", "What the next shift runs out of", RESTS, _rest_rows(rests), NUMBERS, _no_rest(rests)),
         Table("under_way", "Under way", UNDER_WAY, under_way),
     ]
@@ -65,7 +65,7 @@ def _station_rows(shift: Shift) -> Iterator[list[object]]:
         slowest, chip = it.slowest()
         seconds, start, _ = it.stand
         times = [_seconds(it.median()), _seconds(slowest), chip, _seconds(seconds), start]
-        yield [customer, station, " ".join(it.operators), *_counts(it.counts), *times]
+        yield [customer, station, ", ".join(it.operators), *_counts(it.counts), *times]
 
 
 def _seconds(count: Optional[float]) -> str:
