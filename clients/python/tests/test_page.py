@@ -131,6 +131,36 @@ class Page(BenchCase):
         self.assertIn("NO BENCH", self.banner())
         self.assertTrue(self.browser.value("document.getElementById('sockets').hidden"))
 
+    def test_a_chip_that_was_begun(self):
+        """Behind a kill its socket has the word AGAIN and its name, and no old result, until it goes on elsewhere."""
+        hold = self.folder / "hold"
+        wait = script(self.folder / "wait", f"while [ -e {hold} ]; do sleep 0.05; done\n")
+        recipe = {"hooks": {"before_ship": {"command": [wait]}}}
+        bench = self.show(**recipe)
+        self.put("left", MACS[0])
+        self.browser.type("left")
+        self.word(0, "PASS")
+        self.take("left", MACS[0])
+        hold.touch()
+        self.put("left", MACS[1])
+        self.browser.type("left")
+        self.browser.until("document.querySelector('.told').textContent === 'before ship'")
+        bench.kill()
+        hold.unlink()
+        self.show(**recipe)
+        card = self.word(0, "AGAIN")
+        told = f"The chip {MACS[1]} was begun here: begin again, and it goes on."
+        self.assertEqual((card["word"], card["told"]), ("\u25cb AGAIN", told))
+        shown = self.browser.value("document.querySelector('[data-place=\"0\"]').innerText")
+        self.assertEqual([shown.count(it) for it in ("AGAIN", f"chip {MACS[1]}")], [1, 2], shown)
+        for old in ("PASS", "GREEN", "A001", MACS[0]):
+            self.assertNotIn(old, shown)
+        self.take("left", MACS[1])
+        self.put("right", MACS[1])
+        self.browser.type("right")
+        self.word(1, "PASS")
+        self.assertEqual(self.word(0, "waiting")["told"], "")
+
     def test_stopped(self):
         broken = script(self.folder / "broken", "echo 'the flash is write protected'; exit 3\n")
         bench = self.show(hooks={"before_ship": {"command": [broken]}}, stop=2)

@@ -17,7 +17,7 @@ from dataclasses import replace
 from pathlib import Path
 from typing import Callable, Iterator, Mapping, Optional, TypeVar
 
-from wanekupo.board import MOST_LAST, PASSED, WORKING, Board, Shift, Socket, ended_socket, in_common
+from wanekupo.board import MOST_LAST, PASSED, WORKING, Board, Shift, Socket, begun_socket, ended_socket, in_common
 from wanekupo.clearing import clear_old
 from wanekupo.config import Settings, changed, looking_station_of, station_of
 from wanekupo.endings import STOP, Ended, ended_by
@@ -67,8 +67,7 @@ class Bench:
 
     def __init__(self, recipe: Recipe, station: Station, kept: Kept, url: str, spool: Optional[Path]):
         self.recipe, self.kept, self.spool, self._url = recipe, kept, spool, url
-        last = {name: kept.last().get(name, Socket(name)) for name in recipe.sockets}
-        sockets = [it.emptied(_found_in(name, kept)) for name, it in last.items()]
+        sockets = [_found_in(name, kept) for name in recipe.sockets]
         words = recipe.name, recipe.order, sockets, recipe.start, kept.shift(), steps_of(recipe)
         self.board = Board(*words, station.operator(), kept.last_chips(MOST_LAST))
         self.board.under_way(kept.under_way())
@@ -340,13 +339,14 @@ class Bench:
             self.board.notice(ended.ending.sentence(**ended.facts))
 
 
-def _found_in(name: str, kept: Kept) -> str:
-    """What is said of a socket at a start. Nobody knows what is in it by now, so none is green before it is read."""
+def _found_in(name: str, kept: Kept) -> Socket:
+    """What a socket shows at a start. Nobody knows what is in it by now, so none is green before it is read."""
     begun = [chip for chip, it in kept.under_way().items() if it["socket"] == name]
     if begun:
-        return said("begun_here", chip=begun[-1])
-    last = kept.last().get(name)
-    return said("shipped_here", chip=last.chip, serial=last.serial) if last and last.state == PASSED else ""
+        return begun_socket(name, begun[-1])
+    last = kept.last().get(name, Socket(name))
+    is_green = last.state == PASSED
+    return last.emptied(said("shipped_here", chip=last.chip, serial=last.serial) if is_green else "")
 
 
 # The command.

@@ -145,12 +145,14 @@
 
   const toldOf = (socket) => socket.state === "working" ? socket.step : socket.sentence || (socket.was ? say("waiting") : "");
 
-  // What a panel shows large: a result, also the last one while it waits.
+  // What a panel shows large: a result, also the last one while it waits; else the word of a chip that was begun there.
   const resultOf = (socket) => socket.state === "waiting" ? socket.was : socket.state;
+  const isBegun = (socket) => socket.state === "waiting" && !socket.was && Boolean(socket.box);
+  const wordOf = (socket) => isBegun(socket) ? words.boxes[socket.box] : say(resultOf(socket) || "waiting");
 
   const drawSocket = (socket, place) => {
     const card = cardOf(place), [name, , box, told, more, keys] = card.children, result = resultOf(socket);
-    card.className = `socket ${socket.state}${result ? "" : " new"}${chosen === place ? " chosen" : ""}`;
+    card.className = `socket ${socket.state}${isBegun(socket) ? " begun" : result ? "" : " new"}${chosen === place ? " chosen" : ""}`;
     put(name, `${place + 1} ${socket.name}`);
     box.hidden = !RESULTS.includes(result);
     put(told, toldOf(socket));
@@ -166,7 +168,7 @@
   // Once all panels are there, each has its size, and its words are fitted into it.
   const fitSocket = (socket, place) => {
     const [, word, box, told] = cardOf(place).children, isWorking = socket.state === "working" && socket.place;
-    fit(word, place + 1, SIGNS[socket.state], isWorking ? `${socket.place}/${board.steps}` : say(resultOf(socket) || "waiting"));
+    fit(word, place + 1, SIGNS[socket.state], isWorking ? `${socket.place}/${board.steps}` : wordOf(socket));
     fit(box, "", "", words.boxes[socket.box] ?? "");
     shrink(told);
   };

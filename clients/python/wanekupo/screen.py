@@ -79,9 +79,8 @@ def facts_of(board: Mapping[str, Any], socket: Mapping[str, Any]) -> str:
 
 def result_of(socket: Mapping[str, Any]) -> str:
     """What is said of a socket in one line: how its chip ended and where it goes, in brackets once it has gone."""
-    state = socket["was"] or socket["state"]
-    box = SAID["boxes"].get(socket["box"], "") if state in RESULTS else ""
-    word = f"{said(state)} {box}".strip()
+    state, box = socket["was"] or socket["state"], SAID["boxes"].get(socket["box"], "")
+    word = f"{said(state)} {box}".strip() if state in RESULTS else box or said(state)
     return f"{said('waiting')} ({word})" if socket["was"] else word
 
 
