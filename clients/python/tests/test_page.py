@@ -222,7 +222,7 @@ class Page(BenchCase):
             self.browser.value("document.querySelector('[data-place=\"0\"] .keys button + button').click()")
             self.browser.until("!document.getElementById('yes').hidden")
             shown = "[...document.querySelectorAll('#line button')].filter((it) => !it.hidden).map((it) => it.id)"
-            self.assertEqual(self.browser.value(shown), ["yes", "stop", "no"])
+            self.assertEqual(self.browser.value(shown), ["yes", "no", "stop"])
             told = self.browser.value("document.getElementById('question').textContent")
             self.assertRegex(told, f"^Scrap the chip {MACS[0]} for good[?] It is identified. Its serial number A001 is "
                                    "used up for good. .*flash is write protected")  # fmt: skip

@@ -208,6 +208,34 @@ class Screen(unittest.TestCase):
         self.browser.type("")
         self.assertEqual(self.done(bench, done + 1)[done:], [""])
 
+    def test_a_double_press(self):
+        """Two presses of a glove, 250 ms apart, are one; an answer is taken a second behind its question, and its
+        button stands where none was."""
+        asked = {"shift": ("Begin a new shift?", ["yes", "no"]), "scrap": ("Scan the chip's name.", ["no"])}
+        boxes = "[...document.querySelectorAll('button')].filter((it) => it.getClientRects().length)" \
+                ".map((it) => [it.id, ...['left', 'top', 'right', 'bottom'].map((side) => it.getBoundingClientRect()[side])])"
+        wait = "new Promise((done) => setTimeout(done, {}))"
+        for width, height, inches, _ in SCREENS:
+            self.browser.size(width, height)
+            for word, question in asked.items():
+                bench = self.show(2, Display(inches=inches))
+                self.drawn(bench)
+                bench.said = lambda text: (bench.done.append(text), bench.board.ask(*asked.get(text, ("", []))))
+                before, place = self.browser.value(boxes), self.browser.place(f"#{word}")
+                self.browser.touch(*place)
+                self.browser.until("!document.getElementById('question').hidden")
+                self.browser.value(wait.format(250))
+                self.browser.touch(*place)
+                answer = question[1][0]
+                self.browser.touch(*self.browser.place(f"#{answer}"))
+                self.assertLess(float(self.browser.value("getComputedStyle(document.getElementById('no')).opacity")), 0.5)
+                self.assertEqual(self.done(bench, 1), [word])
+                yes = [it[1:] for it in self.browser.value(boxes) if it[0] == "yes"]
+                self.assertTrue(all(apart(one, it[1:]) > 0 for one in yes for it in before), (yes, before))
+                self.browser.until("!document.getElementById('line').classList.contains('held')")
+                self.browser.touch(*self.browser.place(f"#{answer}"))
+                self.assertEqual(self.done(bench, 2), [word, answer])
+
     def test_a_small_panel(self):
         """A touch shows its sentence and its buttons in the bar."""
         self.browser.size(1024, 600)
@@ -220,7 +248,7 @@ class Screen(unittest.TestCase):
         self.assert_fits(self.drawn(bench), math.hypot(1024, 600) / 254, 8, "panel")
         self.click("#scrap")
         self.assertEqual(self.done(bench, 1), ["scrap 240ac4000002"])
-        own = ["Begin all", "Stop the line", "New shift", "Scrap a chip", "Sound: on"]
+        own = ["Begin all", "New shift", "Scrap a chip", "Sound: on", "Stop the line"]
         self.assertEqual(self.browser.value(shown), own)
         self.click("[data-place='0'] .word")
         self.click("#begin")

@@ -173,6 +173,8 @@ class Begun(BenchCase):
             bench.said(answer)
             self.assertEqual((bench.board()["shift"]["passed"], bench.board()["question"]), (passed, None), answer)
         self.assertEqual(bench.socket("left")["state"], "PASS")
+        ended = [it["ended"] for it in self.logged() if "shift" in it]
+        self.assertEqual(ended, [{"since": shift["since"], "passed": 2, "first": 1, "failed": {}}])
         self.assertEqual(bench.end(), 0)
         board = self.run_bench(self.recipe()).board()
         last = [(it["state"], it["reason"], it["chip"], it["took"] > 0) for it in board["last"]]

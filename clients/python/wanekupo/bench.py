@@ -302,8 +302,9 @@ class Bench:
 
     def new_shift(self) -> None:
         with self._counting, self._on_disk():
-            shift = Shift(now_text())
-            self.kept.log({"shift": shift.since})
+            shift, last = Shift(now_text()), self.kept.shift()
+            counts = {"passed": last.passed, "first": last.first, "failed": dict(last.failed)}
+            self.kept.log({"shift": shift.since, "ended": {"since": last.since, **counts}})
             self.kept.counted(shift)
             self.board.counted(shift)
             self.board.notice(said("shift_new"))

@@ -12,6 +12,9 @@
   const WIDE = 50, HIGH = 66, NEEDED = 84, OTHERS = 62, ASIDE = 95, BAR = 215;
   // How narrow a word may become before its first part stands alone: letters half as wide as high are read well.
   const NARROWEST = 0.55;
+  // How long the bar takes no press behind a change, in milliseconds: the second press of a glove is meant for the first.
+  const HELD = 1000;
+  let bar = "", held = 0;
   let board = null, words = null, version = -1, skew = 0, chosen = -1, results = {}, sound = null;
 
   // An element with attributes and children; a text is always a text and never markup.
@@ -219,6 +222,19 @@
     put(at("scrap"), say(socket ? "scrap_this" : "scrap_chip"));
   };
 
+  // A bar that has other buttons or another question takes no press for a while, and is pale meanwhile. Only a press:
+  // behind each of them the keyboard is the field's.
+  const hold = () => {
+    const line = at("line"), now = [...line.querySelectorAll("button, #question")].filter((it) => !it.hidden).map((it) => it.id);
+    const shown = JSON.stringify([now, at("question").textContent]);
+    if (bar && bar !== shown) {
+      line.classList.add("held");
+      clearTimeout(held);
+      held = setTimeout(() => { line.classList.remove("held"); }, HELD);
+    }
+    bar = shown;
+  };
+
   const row = (name, ...texts) => made("tr", {}, made("th", { scope: "row" }, name), ...texts.map((it) => made("td", {}, String(it))));
 
   const drawCounts = () => {
@@ -253,6 +269,7 @@
     drawBar();
     tighten(rows);
     drawBar();
+    hold();
     board.sockets.forEach(drawSocket);
     board.sockets.forEach(fitSocket);
     shrink(at("banner-text"));
