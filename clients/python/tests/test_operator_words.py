@@ -16,7 +16,7 @@ from unittest import mock
 from support import ROOT
 
 from wanekupo import words
-from wanekupo.board import box_of, in_common, state_of
+from wanekupo.board import Board, Shift, Socket, box_of, ended_socket, in_common, state_of
 from wanekupo.endings import ENDINGS, Ended
 from wanekupo.recipe import BadRecipe, recipe_of
 
@@ -121,6 +121,20 @@ class Words(unittest.TestCase):
             box = next(box for begin, box in SENT if todo.startswith(begin))
             self.assertIn(box_of(ENDINGS[name]), (box, "call" if name == "order_full" else box), name)
         self.assertEqual([state_of(ENDINGS[it]) for it in ("passed", "lost", "no_label")], ["PASS", "FAIL", "LABEL"])
+
+    def test_which_panels_have_scrap(self):
+        """Those of chips that are begun here, are the ones in their sockets, and failed by themselves."""
+        scraps = {"lost", "stray", "key", "short", "lost_before", "other_map", "other_wishes", "not_blank", "changed",
+                  "lost_key", "gave_way", "no_serial", "no_burn", "no_read", "hook_failed", "hook_late"}  # fmt: skip
+        self.assertLessEqual(scraps, set(ENDINGS))
+        for name in ENDINGS:
+            for chip in ("240ac4000001", ""):
+                board = Board("thermostat", "o1", [Socket("left")], "key", Shift("2026-11-29T06:00:00Z"))
+                board.ended(ended_socket("left", Ended(name), "look", chip, "", "o1"))
+                found = board.shown()["sockets"][0]["scraps"]
+                self.assertEqual(found, name in scraps and bool(chip), (name, chip))
+                board.scrapped(chip)
+                self.assertFalse(chip and board.shown()["sockets"][0]["scraps"], name)
 
     def test_the_recipes_table(self):
         """[screen], and what of it is refused."""

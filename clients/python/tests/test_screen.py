@@ -236,6 +236,14 @@ class Screen(unittest.TestCase):
                 self.browser.touch(*self.browser.place(f"#{answer}"))
                 self.assertEqual(self.done(bench, 2), [word, answer])
 
+    def test_the_panels_that_have_scrap(self):
+        """Of STAYS the stray and the lost one, and the one whose command failed."""
+        self.browser.size(1920, 1080)
+        self.drawn(self.show(8))
+        seen = "[...document.querySelectorAll('.socket')].filter((it) => it.querySelector('button + button')" \
+               ".getClientRects().length).map((it) => it.dataset.place)"
+        self.assertEqual(self.browser.value(seen), ["1", "2", "7"])
+
     def test_a_small_panel(self):
         """A touch shows its sentence and its buttons in the bar."""
         self.browser.size(1024, 600)

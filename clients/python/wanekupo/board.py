@@ -11,7 +11,7 @@ from collections import Counter
 from dataclasses import dataclass, field, replace
 from typing import Any, Mapping, Optional, Sequence
 
-from wanekupo.endings import AGAIN, NO_LABEL, PASS, RED, Ended, Ending
+from wanekupo.endings import AGAIN, ENDINGS, NO_LABEL, PASS, RED, Ended, Ending
 from wanekupo.words import reason_said, said, step_said
 
 # The states of a socket. A chip that is shipped and has no label is neither green nor red.
@@ -296,4 +296,6 @@ class Board:
     def _shown(self, socket: Socket) -> dict[str, Any]:
         """A socket, with the place of its step among all."""
         place = self._steps.index(socket.step) + 1 if socket.step in self._steps else 0
-        return {**vars(socket), "step": step_said(socket.step), "place": place}
+        ending = ENDINGS.get(socket.reason) if socket.state == FAILED and socket.chip else None
+        scraps = ending is not None and ending.may_be_scrapped()
+        return {**vars(socket), "step": step_said(socket.step), "place": place, "scraps": scraps}

@@ -65,6 +65,10 @@ class Ending:
         """Whether the shift counts the chip as passed: also one that only lacks its label."""
         return self.name == "passed" or self.effect == UNLABELLED
 
+    def may_be_scrapped(self) -> bool:
+        """Whether the chip is begun in this order, surely the one in the socket, and at fault: its panel has Scrap."""
+        return self.effect == RED and self.name not in UNSCRAPPED or self.name in (*NUMBERLESS, *TRIED)
+
     def is_gone(self) -> bool:
         """Whether the server has the chip as shipped or scrapped, and no hook runs for it any more."""
         return self.effect == PASS or self.name in ("shipped_before", "scrapped_before")
@@ -83,6 +87,10 @@ SENT_AWAY = ("order_full", "used_up", *NUMBERLESS)
 # No chip was there, or nothing was done to it now.
 BEFORE = ("lost_before", "scrapped_before", "shipped_before")
 UNCOUNTED = ("no_chip", "bad_traveller", "other_order", *BEFORE)
+
+# Of the red box: what isn't registered here, or is done with. Of the others: what failed at a chip of this order.
+UNSCRAPPED = ("scrapped_before", "shipped_before", "other_order", "coding", "bad_words")
+TRIED = ("no_burn", "no_read", "hook_failed", "hook_late")
 
 TABLE = [
     Ending("passed", PASS, "The chip is shipped as {serial}", GREEN_BOX),

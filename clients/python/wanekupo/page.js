@@ -3,8 +3,6 @@
   const at = (id) => document.getElementById(id);
   const SIGNS = { PASS: "\u2714", FAIL: "\u2718", LABEL: "\u2261", waiting: "\u25cb", working: "\u25b6" };
   const RESULTS = ["PASS", "FAIL", "LABEL"];
-  // Chips that somebody else has, or that are done with, can't be scrapped here.
-  const NOT_SCRAPPED = ["scrapped", "scrapped_before", "shipped_before", "other_order"];
   // Pitches and seconds, and the form of the wave.
   const SOUNDS = { PASS: ["sine", [880, .12], [1320, .25]], FAIL: ["square", [220, .25], [150, .6]], LABEL: ["sine", [660, .15], [440, .15], [660, .2]] };
   // Millimetres of a panel: the least width, the height that is looked for, and the one with its sentence and its buttons.
@@ -119,7 +117,6 @@
   // Sockets.
 
   const begins = (socket) => board.start === "key" && socket.state !== "working" && !board.stopped;
-  const scraps = (socket) => socket.state === "FAIL" && Boolean(socket.chip) && !NOT_SCRAPPED.includes(socket.reason);
   const begin = (socket) => post("/begin", { socket: socket.name });
   const scrap = (socket) => post("/said", { text: `scrap ${socket.chip}` });
 
@@ -163,8 +160,8 @@
     put(keys.children[0], say("begin", { socket: socket.name }));
     put(keys.children[1], say("scrap_this"));
     keys.children[0].hidden = !begins(socket);
-    keys.children[1].hidden = !scraps(socket);
-    keys.hidden = !begins(socket) && !scraps(socket);
+    keys.children[1].hidden = !socket.scraps;
+    keys.hidden = !begins(socket) && !socket.scraps;
     announce(socket, place);
   };
 
@@ -216,7 +213,7 @@
     put(at("all"), say(asked ? "answer" : "begin_all"));
     put(at("begin"), socket ? say("begin", { socket: socket.name }) : "");
     const shown = { all: own && board.start !== "chip" && !board.stopped, stop: !board.stopped && !socket, shift: own, sound: own, back: socket,
-      scrap: own || socket && scraps(socket), begin: socket && begins(socket), yes: asked?.answers.includes("yes"), no: asked?.answers.includes("no") };
+      scrap: own || socket?.scraps, begin: socket && begins(socket), yes: asked?.answers.includes("yes"), no: asked?.answers.includes("no") };
     for (const [id, is] of Object.entries(shown)) at(id).hidden = !is;
     put(at("sound"), say(isLoud() ? "sound_on" : "sound_off"));
     put(at("scrap"), say(socket ? "scrap_this" : "scrap_chip"));
