@@ -212,8 +212,9 @@ class Screen(unittest.TestCase):
         """Two presses of a glove, 250 ms apart, are one; an answer is taken a second behind its question, and its
         button stands where none was."""
         asked = {"shift": ("Begin a new shift?", ["yes", "no"]), "scrap": ("Scan the chip's name.", ["no"])}
-        boxes = "[...document.querySelectorAll('button')].filter((it) => it.getClientRects().length)" \
-                ".map((it) => [it.id, ...['left', 'top', 'right', 'bottom'].map((side) => it.getBoundingClientRect()[side])])"
+        boxes = """[...document.querySelectorAll('button')].filter((it) => it.getClientRects().length).map((it) =>
+            [it.id, ...['left', 'top', 'right', 'bottom'].map((side) => it.getBoundingClientRect()[side])])"""
+        pale = "parseFloat(getComputedStyle(document.getElementById('no')).opacity)"
         wait = "new Promise((done) => setTimeout(done, {}))"
         for width, height, inches, _ in SCREENS:
             self.browser.size(width, height)
@@ -228,7 +229,7 @@ class Screen(unittest.TestCase):
                 self.browser.touch(*place)
                 answer = question[1][0]
                 self.browser.touch(*self.browser.place(f"#{answer}"))
-                self.assertLess(float(self.browser.value("getComputedStyle(document.getElementById('no')).opacity")), 0.5)
+                self.assertLess(self.browser.value(pale), 0.5)
                 self.assertEqual(self.done(bench, 1), [word])
                 yes = [it[1:] for it in self.browser.value(boxes) if it[0] == "yes"]
                 self.assertTrue(all(apart(one, it[1:]) > 0 for one in yes for it in before), (yes, before))

@@ -116,8 +116,9 @@ class Begun(BenchCase):
         bench = self.run_bench(self.recipe(server={"operator": "Anna"}))
         self.assertEqual(bench.until(lambda board: board["rest"])["operator"], "Anna")
         none = "A badge has a name of 1 to 64 letters in one line behind 'operator:'."
+        named = "Bert Roth works here now, also behind a restart, until another badge is scanned."
         for text, name, notice in (
-            ("operator:Bert Roth", "Bert Roth", "Bert Roth works here now."),
+            ("operator:Bert Roth", "Bert Roth", named),
             ("operator:", "Bert Roth", none),
             (f"operator:{65 * 'x'}", "Bert Roth", none),
             ("operator:\x1b[2J", "Bert Roth", none),
@@ -130,8 +131,15 @@ class Begun(BenchCase):
         lines = [json.loads(it) for it in (self.folder / "a1.journal").read_text("ascii").splitlines()]
         self.assertEqual({it.get("path"): it["operator"] for it in lines if "path" in it}["/v1/ship"], "Bert Roth")
         self.assertEqual([it["operator"] for it in self.logged() if "operator" in it], ["Bert Roth"])
-        self.assertEqual(bench.end(), 0)
-        bench = self.run_bench(self.recipe(top={"screen": {"badge": "P-"}}))
+        bench.kill()
+        bench = self.run_bench(self.recipe(server={"operator": "Anna"}, top={"screen": {"badge": "P-"}}))
+        self.assertEqual(bench.until(lambda board: board["rest"])["operator"], "Bert Roth")
+        self.put("left", macs_of(2)[1])
+        bench.said("left")
+        bench.until(lambda board: board["shift"]["passed"] == 2)
+        lines = [json.loads(it) for it in (self.folder / "a1.journal").read_text("ascii").splitlines()]
+        names = [it["operator"] for it in lines if it.get("path") == "/v1/ship"]
+        self.assertEqual((len(names) > 1, set(names)), (True, {"Bert Roth"}))
         bench.said("P-0815")
         self.assertEqual(bench.board()["operator"], "0815")
 

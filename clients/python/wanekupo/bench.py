@@ -68,8 +68,10 @@ class Bench:
     def __init__(self, recipe: Recipe, station: Station, kept: Kept, url: str, spool: Optional[Path]):
         self.recipe, self.kept, self.spool, self._url = recipe, kept, spool, url
         sockets = [_found_in(name, kept) for name in recipe.sockets]
+        if kept.operator():
+            station.operated_by(kept.operator())
         words = recipe.name, recipe.order, sockets, recipe.start, kept.shift(), steps_of(recipe)
-        self.board = Board(*words, station.operator(), kept.last_chips(MOST_LAST))
+        self.board = Board(*words, kept.operator() or station.operator(), kept.last_chips(MOST_LAST))
         self.board.under_way(kept.under_way())
         self.leaving = threading.Event()
         self._turns = Turns(station, self.board, self.leaving)
@@ -287,6 +289,7 @@ class Bench:
             return
         with self._on_disk():
             self.kept.log({"operator": operator})
+            self.kept.operated_by(operator)
             self._station.operated_by(operator)
             self.board.works(operator)
             self.board.notice(said("named", name=operator))

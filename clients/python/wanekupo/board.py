@@ -249,8 +249,8 @@ class Board:
         """The chips that were begun before this start and haven't ended yet, with their sockets and steps. A socket
         that named another one has nothing to say of it any more."""
         with self._changed:
-            others = {it.name: Socket(it.name) for it in self._sockets.values() if it.is_begun() and it.chip not in chips}
-            self._set(under_way=dict(chips), sockets={**self._sockets, **others})
+            gone = [it.name for it in self._sockets.values() if it.is_begun() and it.chip not in chips]
+            self._set(under_way=dict(chips), sockets={**self._sockets, **{name: Socket(name) for name in gone}})
 
     # What is shown.
 
