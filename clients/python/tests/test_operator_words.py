@@ -74,7 +74,9 @@ class Words(unittest.TestCase):
                 self.assertIn(name, found["endings"], language)
                 self.assertEqual(blanks(*found["endings"][name]), blanks(ending.told, ending.todo), (language, name))
             counted = {it.name for it in ENDINGS.values() if it.is_failure()}
-            self.assertLessEqual(counted, set(found["reasons"]), language)
+            for reasons in (found["reasons"], words.ENGLISH["reasons"]):
+                self.assertLessEqual(counted, set(reasons), language)
+                self.assertFalse([it for it in reasons.values() if "_" in it], language)
 
     def test_what_is_said(self):
         """A file's words, and English where it has none; an ending's sentence too."""
@@ -111,7 +113,7 @@ class Words(unittest.TestCase):
             with self.assertRaises(words.BadWords, msg=text) as caught:
                 words.take(self.file(text))
             self.assertIn(told, str(caught.exception), text)
-        self.assertEqual(words.said("left", count=3), "3 serial numbers left")
+        self.assertEqual(words.said("left", count=3), "Serial numbers left: 3")
 
     def test_boxes(self):
         """Each ending's box is where the page sends the chip."""
@@ -119,7 +121,7 @@ class Words(unittest.TestCase):
         self.assertEqual(set(rows) - set(ENDINGS), set())
         for name, todo in rows.items():
             box = next(box for begin, box in SENT if todo.startswith(begin))
-            self.assertIn(box_of(ENDINGS[name]), (box, "call" if name == "order_full" else box), name)
+            self.assertEqual(box_of(ENDINGS[name]), box, name)
         self.assertEqual([state_of(ENDINGS[it]) for it in ("passed", "lost", "no_label")], ["PASS", "FAIL", "LABEL"])
 
     def test_which_panels_have_scrap(self):

@@ -85,7 +85,7 @@ class Page(BenchCase):
         self.assertEqual((card["colour"], card["image"], card["line"]), (GREEN, "none", "solid"))
         self.assertGreater(card["size"], 60)
         self.assertEqual(self.aloud(), f"left: PASS. {told}")
-        self.assertEqual(self.browser.value("document.getElementById('rest').textContent"), "8 serial numbers left")
+        self.assertEqual(self.browser.value("document.getElementById('rest').textContent"), "Serial numbers left: 8")
         self.picture("green")
 
     def test_red(self):
@@ -103,7 +103,7 @@ class Page(BenchCase):
         self.assertIn(STRIPES, card["image"])
         self.assertEqual(self.word(1, "PASS")["line"], "solid")
         rows = self.browser.value("[...document.querySelectorAll('#counts tr')].map((row) => row.innerText.trim())")
-        told = [["passed", "1"], ["first", "pass", "1"], ["failed", "1"], ["stray", "1"]]
+        told = [["passed", "1"], ["first", "pass", "1"], ["failed", "1"], ["stray", "bit", "1"]]
         self.assertEqual([row.split() for row in rows], told)
         self.assertIsNone(bench.board()["away"])
         self.picture("red")
@@ -170,7 +170,7 @@ class Page(BenchCase):
             bench.until(lambda board: board["shift"]["failed"].get("hook_failed") == place)
             self.take("left", mac)
         self.browser.until("!document.getElementById('banner').hidden")
-        common = "all at the step 'before ship', each as 'hook_failed', each in the socket 'left'"
+        common = "all at the step 'before ship', each as 'command failed', each in the socket 'left'"
         self.assertEqual(self.banner(), f"STOPPED 2 chips failed in a row, {common}: look why before you go on.")
         self.picture("stopped")
         self.browser.type("go")
@@ -227,12 +227,13 @@ class Page(BenchCase):
             self.assertRegex(told, f"^Scrap the chip {MACS[0]} for good[?] It is identified. Its serial number A001 is "
                                    "used up for good. .*flash is write protected")  # fmt: skip
             if answer == "yes":
+                self.browser.until("!document.getElementById('line').classList.contains('held')")
                 self.picture("scrap")
             self.browser.value(f"document.getElementById('{answer}').click()")
             self.browser.until(f"document.getElementById('notice').textContent.includes(\"{notice}\")")
             self.browser.until("document.getElementById('question').hidden")
             self.assertEqual(self.asked("GET", f"/v1/device?chip={MACS[0]}")[1]["state"], state)
-        self.assertEqual(bench.board()["notice"], f"The chip {MACS[0]} is scrapped (hook_failed): it is done with.")
+        self.assertEqual(bench.board()["notice"], f"The chip {MACS[0]} is scrapped (command failed): it is done with.")
         card = self.card(0)
         told = "The chip is scrapped, for good: take it out, red box."
         self.assertEqual((card["box"], card["told"]), ("RED BOX", told))

@@ -32,8 +32,8 @@ FAILED = ("hook_failed", {"hook": "before_ship", "detail": "the flash is write p
 STAYS = [("passed", {"serial": "T0017"}), ("stray", {"detail": "ABS_DONE_1"}), FAILED, ("bad_token", {"no": 6}),
          ("no_label", {"serial": "T0018", "detail": "no paper"}), ("other_order", {"order": "o18"}),
          ("passed", {"serial": "T0019"}), ("lost", {"detail": "JTAG_DISABLE"})]  # fmt: skip
-STOPPED = ("3 chips failed in a row, all at the step 'before ship', each as 'hook_failed', each in the socket 'left': "
-           "look why before you go on.")  # fmt: skip
+STOPPED = ("3 chips failed in a row, all at the step 'before ship', each as 'command failed', each in the socket "
+           "'left': look why before you go on.")  # fmt: skip
 ASKED = ("Scrap the chip 240ac4000001 for good? It is identified. Its serial number A001 is used up for good. The "
          "bench said: The command before_ship failed (the flash is write protected): put it in once more, and where "
          "that fails too, red box. Type yes; all else leaves it.")  # fmt: skip
@@ -180,6 +180,8 @@ class Screen(unittest.TestCase):
             change()
             self.browser.until(f"document.body.classList.contains('{kind}')")
             found.append(self.browser.value(looks))
+            if kind == "STOPPED":
+                self.assertEqual(self.text("#notice"), "The line stands: have it go on first.")
         self.browser.call("Network.emulateNetworkConditions", offline=False, **speed)
         for place in zip(*found):
             self.assertEqual(len(set(place)), 3, place)
@@ -275,8 +277,9 @@ class Screen(unittest.TestCase):
         last = self.browser.value("[...document.querySelectorAll('#last tr')].map((it) => it.children[1].textContent)")
         self.assertEqual(last, [f"T{place:04}" for place in range(10, 0, -1)])
         rows = self.browser.value("[...document.querySelectorAll('#counts tr')].map((it) => it.innerText.split('\\t'))")
-        told = [("passed", "41"), ("first pass", "39"), ("failed", "3"), ("hook failed", "2"), ("stray", "1")]
+        told = [("passed", "41"), ("first pass", "39"), ("failed", "3"), ("command failed", "2"), ("stray bit", "1")]
         self.assertEqual([tuple(it.strip() for it in row) for row in rows], told)
+        self.assertEqual(self.text("#tally"), "This shift: passed 41, first pass 39, failed 3")
         bench.board.working("socket1", "register", "240ac4000002", "")
         self.drawn(bench)
         self.assertEqual((self.text(".word bdi:last-child"), self.text(".told")), ("3/5", "register"))
@@ -288,6 +291,20 @@ class Screen(unittest.TestCase):
         style = self.browser.value("[getComputedStyle(document.querySelector('.word')).color, "
                                    "getComputedStyle(document.querySelector('.socket')).backgroundImage]")  # fmt: skip
         self.assertEqual((style, self.text(".told")), (["rgb(107, 107, 107)", "none"], "waiting"))
+
+    def test_the_last_chips_are_whole(self):
+        """Also those without a serial number, of a socket with a long name: no scroll bar, and no time is cut."""
+        cut = """[...document.querySelectorAll('aside, #last td, #last th')].filter((it) =>
+            it.scrollWidth > it.clientWidth || it.getBoundingClientRect().right > innerWidth).map((it) => it.innerText)"""
+        for width, height, inches, _ in SCREENS:
+            self.browser.size(width, height)
+            bench = self.show(1, Display(inches=inches), ended=False)
+            for name in ("socket1", "the upper left one", "another"):
+                last = ended_socket(name, Ended("no_label"), "label", "7cdfa1000014", "", "o17", 113.4)
+                bench.board.ended(last)
+            self.drawn(bench)
+            self.assertEqual(self.browser.value("document.querySelectorAll('#last tr').length"), 3)
+            self.assertEqual(self.browser.value(cut), [], (width, inches))
 
     def test_sounds(self):
         """PASS and FAIL sound once each, and not alike; what ended before the page was opened, or is off, doesn't."""
@@ -334,7 +351,8 @@ class Screen(unittest.TestCase):
         for it in seen["texts"]:
             self.assert_within(it["box"], whole, it)
             self.assertLessEqual(it["cut"], 1, it)
-            self.assertGreaterEqual(it["size"] / mm, 2.5, it)
+            least = 5 if it["text"] == ASKED and seen["width"] == 1920 else 2.5
+            self.assertGreaterEqual(it["size"] / mm, least, it)
         told = [it["text"] for it in seen["texts"]]
         self.assertFalse(seen["isTight"] and (seen["width"] == 1920 or sockets < 4 and what == "results"))
         self.assertTrue(seen["isTight"] or sum(": " in it for it in told) >= sockets, told)

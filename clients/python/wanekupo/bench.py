@@ -38,7 +38,7 @@ from wanekupo.sentences import sentence_of
 from wanekupo.station import Station
 from wanekupo.supply import Supply
 from wanekupo.turns import Leaving, Turns
-from wanekupo.words import OTHERS, said, step_said, take
+from wanekupo.words import OTHERS, said, take
 
 Made = TypeVar("Made")
 
@@ -204,7 +204,7 @@ class Bench:
             ended = ended_by(error, life.step)
             last = ended_socket(name, ended, life.step, life.chip, life.serial, self.recipe.order)
         if ended.ending.effect == STOP:
-            self.board.stop(said("stopped_at", sentence=last.sentence, step=step_said(life.step)))
+            self.board.stop(last.sentence)
         self.tell_begun(name)
         self.board.ended(last)
 

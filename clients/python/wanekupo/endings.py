@@ -28,7 +28,8 @@ ASK_WHERE = "take it out, and ask where it comes from"
 NEXT_ORDER = "ask for the next order"
 KEEP_FOR_NEXT = f"take it out, keep it, and {NEXT_ORDER}"
 RED_AND_NEXT = f"{RED_BOX}, and {NEXT_ORDER}"
-SCRAP_OR_NEXT = f"take it out, and have the red box scrapped, or {NEXT_ORDER}"
+ALL_BEGUN = "Each serial number left was for a chip that was begun, also failed ones"
+NEXT_OR_SCRAP = f"{KEEP_FOR_NEXT}, or, while numbers are left, have the red box scrapped"
 LABEL_ANEW = "keep it apart, look at the printer, and put it in once more"
 
 
@@ -111,7 +112,7 @@ TABLE = [
     Ending("coding", RED, "The chip has another coding scheme (refusal 36)", RED_BOX),
     Ending("bad_words", RED, "The chip shows what the server can't take (refusal 41)", RED_BOX),
     Ending("other_hand", AGAIN, "Somebody else works on this chip (refusal {no})", "put it in once more"),
-    Ending("order_full", STOP, "Each serial number left is for a chip that was begun, also failed ones", SCRAP_OR_NEXT),
+    Ending("order_full", STOP, ALL_BEGUN, NEXT_OR_SCRAP),
     Ending("used_up", STOP, "The order has no serial number left, and the chip isn't begun", KEEP_FOR_NEXT),
     Ending("gave_way", STOP, "The last serial number is another chip's, and this one isn't burnt", RED_AND_NEXT),
     Ending("no_serial", STOP, "The order has no serial number left for this chip (refusal {no})", RED_AND_NEXT),

@@ -24,7 +24,7 @@
   };
   // A text is changed only where it differs: a reader would say it again.
   const put = (element, text) => { if (element.textContent !== text) element.textContent = text; };
-  const time = (seconds) => new Date(seconds * 1000).toLocaleTimeString();
+  const time = (seconds) => new Date(seconds * 1000).toLocaleTimeString([], { hour12: false });
   const say = (word, facts = {}) => words.words[word].replace(/\{(\w+)(?:!r)?\}/g, (_, name) => String(facts[name] ?? ""));
   const reason = (name) => words.reasons[name] ?? name.replaceAll("_", " ");
   const isLoud = () => (localStorage.getItem("sound") ?? String(words.sound)) === "true";
@@ -201,13 +201,22 @@
     else banner("", "", "");
   };
 
+  // A question as large as its box lets it be. The box grows where its smallest letters have no room.
+  const fitQuestion = () => {
+    const { style } = at("question");
+    style.maxHeight = "";
+    shrink(at("question"));
+    if (at("question").scrollHeight > at("question").clientHeight + 1) style.maxHeight = "none";
+    style.visibility = "";
+  };
+
   // The bar: what is asked, with its answers; else the panel that was touched; else the bench's own buttons.
   const drawBar = () => {
     const asked = board.question, socket = asked || !isTight() ? null : board.sockets[chosen];
     const own = !asked && !socket;
     at("question").hidden = own;
     put(at("question"), asked ? asked.text : socket ? `${chosen + 1} ${socket.name}: ${toldOf(socket)} ${moreOf(socket)}` : "");
-    put(at("notice"), board.notice || (own ? say(board.start) : ""));
+    put(at("notice"), board.notice || (own ? say(board.stopped ? "stands" : board.start) : ""));
     at("notice").hidden = !own && !board.notice;
     put(at("asked"), say(asked ? "answer_asked" : board.start));
     put(at("all"), say(asked ? "answer" : "begin_all"));
@@ -217,13 +226,14 @@
     for (const [id, is] of Object.entries(shown)) at(id).hidden = !is;
     put(at("sound"), say(isLoud() ? "sound_on" : "sound_off"));
     put(at("scrap"), say(socket ? "scrap_this" : "scrap_chip"));
+    fitQuestion();
   };
 
   // A bar that has other buttons or another question takes no press for a while, and is pale meanwhile. Only a press:
   // behind each of them the keyboard is the field's.
   const hold = () => {
-    const line = at("line"), now = [...line.querySelectorAll("button, #question")].filter((it) => !it.hidden).map((it) => it.id);
-    const shown = JSON.stringify([now, at("question").textContent]);
+    const line = at("line"), buttons = [...line.querySelectorAll("button")].filter((it) => !it.hidden).map((it) => it.id);
+    const shown = JSON.stringify([buttons, board.question, chosen]);
     if (bar && bar !== shown) {
       line.classList.add("held");
       clearTimeout(held);
@@ -239,7 +249,7 @@
     const failed = names.reduce((sum, name) => sum + reasons[name], 0);
     const all = [[say("passed"), passed], [say("first"), first], [say("failed"), failed], ...names.map((name) => [`\u2003${reason(name)}`, reasons[name]])];
     at("counts").replaceChildren(...all.map((it) => row(...it)));
-    put(at("tally"), all.slice(0, 3).map((it) => it.join(" ")).join(", "));
+    put(at("tally"), `${say("this_shift")}: ${all.slice(0, 3).map((it) => it.join(" ")).join(", ")}`);
     put(at("since"), say("since", { time: new Date(since).toLocaleString() }));
     at("last").replaceChildren(...board.last.map((it) =>
       row(`${SIGNS[it.state]} ${say(it.state).split(" ")[0]}`, it.serial || it.chip, it.name, it.took ? `${Math.round(it.took)} s` : "", time(it.since))));
