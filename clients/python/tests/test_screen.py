@@ -161,6 +161,7 @@ class Screen(unittest.TestCase):
                     with self.subTest(what, screen=(width, height, inches), sockets=sockets):
                         self.assert_fits(self.drawn(bench), mm, sockets, what)
                 if (width, sockets) == (1280, 8) and inches and os.environ.get("PICTURES"):
+                    self.browser.until("!document.getElementById('line').classList.contains('held')")
                     self.browser.picture(ROOT / "docs" / "pictures" / "bench-panel.png")
 
     def test_banners_without_their_words(self):

@@ -107,6 +107,7 @@ class Begun(BenchCase):
             found = [re.match(r"(\d) s(\d) FAIL AGAIN", line) for line in lines]
             self.assertEqual([it[1] for it in found if it], [str(place) for place in range(1, 9)])
             self.assertTrue(any("STOPPED #####" in line and line.startswith("#####") for line in lines), lines)
+            self.assertIn("This shift: passed 0, first pass 0, failed: command failed 8", " ".join(lines))
             told = "The line stands: have it go on first. Type help"
             self.assertTrue(any(line.startswith(told) for line in lines), lines)
             terminal.type("help")

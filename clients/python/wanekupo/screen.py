@@ -139,7 +139,7 @@ def head_lines(board: Mapping[str, Any], width: int) -> Iterator[str]:
     shift = board["shift"]
     failed = ", ".join(f"{reason_said(name)} {count}" for name, count in sorted(shift["failed"].items()))
     counts = f"{said('passed')} {shift['passed']}, {said('first')} {shift['first']}, {said('failed')}: {failed or 0}"
-    yield shown(f"{who}. {said('this_shift')}: {counts}")[:width]
+    yield from textwrap.wrap(shown(f"{who}. {said('this_shift')}: {counts}"), width)
 
 
 def board_lines(board: Mapping[str, Any], width: int, height: int, has_colours: bool) -> list[str]:
