@@ -86,6 +86,17 @@ class Browser:
         self.call("Page.navigate", url=url)
         self.until("document.readyState === 'complete' && document.querySelector('.socket') !== null")
 
+    def place(self, name):
+        """Where the middle of an element is."""
+        told = f"document.querySelector({json.dumps(name)}).getBoundingClientRect()"
+        box = self.value(f"(({{ x, y, width, height }}) => [x + width / 2, y + height / 2])({told})")
+        return tuple(box)
+
+    def touch(self, x, y):
+        """A press of a mouse or a finger, on whatever is there."""
+        for kind in ("mousePressed", "mouseReleased"):
+            self.call("Input.dispatchMouseEvent", type=kind, x=x, y=y, button="left", clickCount=1)
+
     def press(self, key):
         code, text = KEYS[key] if key in KEYS else (ord(key.upper()), key)
         more = {"key": key, "windowsVirtualKeyCode": code}

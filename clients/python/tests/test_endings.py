@@ -359,7 +359,7 @@ class Endings(BenchCase):
                 bench.said("left")
                 bench.until(lambda _, since=since: (it := bench.socket("left"))["since"] != since and it["sentence"])
             self.take("left", mac)
-        common = "all at the step 'before ship', each as 'hook_failed', each in the socket 'left'"
+        common = "all at the step 'before ship', each as 'command failed', each in the socket 'left'"
         told = f"3 chips failed in a row, {common}: look why before you go on."
         self.assertEqual(bench.until(lambda board: board["stopped"])["stopped"], told)
         self.put("left", "240ac4000004")
@@ -413,7 +413,7 @@ class Endings(BenchCase):
             other.import_map(MAP)
         told = "Somebody else used this bench's seat (refusal 12): touch nothing, and call the engineer."
         self.assertEqual(bench.ended("left"), ("FAIL", "out_of_step", told))
-        self.assertEqual(bench.board()["stopped"], f"{told} Step: ship.")
+        self.assertEqual(bench.board()["stopped"], told)
 
     def test_a_full_disk(self):
         """Full from the start, and in the middle of a chip: it stops the line, and nothing is lost. Behind it the chip

@@ -16,7 +16,7 @@ from unittest import mock
 from support import ROOT
 
 from wanekupo import words
-from wanekupo.board import box_of, in_common, state_of
+from wanekupo.board import Board, Shift, Socket, box_of, ended_socket, in_common, state_of
 from wanekupo.endings import ENDINGS, Ended
 from wanekupo.recipe import BadRecipe, recipe_of
 
@@ -74,7 +74,9 @@ class Words(unittest.TestCase):
                 self.assertIn(name, found["endings"], language)
                 self.assertEqual(blanks(*found["endings"][name]), blanks(ending.told, ending.todo), (language, name))
             counted = {it.name for it in ENDINGS.values() if it.is_failure()}
-            self.assertLessEqual(counted, set(found["reasons"]), language)
+            for reasons in (found["reasons"], words.ENGLISH["reasons"]):
+                self.assertLessEqual(counted, set(reasons), language)
+                self.assertFalse([it for it in reasons.values() if "_" in it], language)
 
     def test_what_is_said(self):
         """A file's words, and English where it has none; an ending's sentence too."""
@@ -111,7 +113,7 @@ class Words(unittest.TestCase):
             with self.assertRaises(words.BadWords, msg=text) as caught:
                 words.take(self.file(text))
             self.assertIn(told, str(caught.exception), text)
-        self.assertEqual(words.said("left", count=3), "3 serial numbers left")
+        self.assertEqual(words.said("left", count=3), "Serial numbers left: 3")
 
     def test_boxes(self):
         """Each ending's box is where the page sends the chip."""
@@ -119,8 +121,22 @@ class Words(unittest.TestCase):
         self.assertEqual(set(rows) - set(ENDINGS), set())
         for name, todo in rows.items():
             box = next(box for begin, box in SENT if todo.startswith(begin))
-            self.assertIn(box_of(ENDINGS[name]), (box, "call" if name == "order_full" else box), name)
+            self.assertEqual(box_of(ENDINGS[name]), box, name)
         self.assertEqual([state_of(ENDINGS[it]) for it in ("passed", "lost", "no_label")], ["PASS", "FAIL", "LABEL"])
+
+    def test_which_panels_have_scrap(self):
+        """Those of chips that are begun here, are the ones in their sockets, and failed by themselves."""
+        scraps = {"lost", "stray", "key", "short", "lost_before", "other_map", "other_wishes", "not_blank", "changed",
+                  "lost_key", "gave_way", "no_serial", "no_burn", "no_read", "hook_failed", "hook_late"}  # fmt: skip
+        self.assertLessEqual(scraps, set(ENDINGS))
+        for name in ENDINGS:
+            for chip in ("240ac4000001", ""):
+                board = Board("thermostat", "o1", [Socket("left")], "key", Shift("2026-11-29T06:00:00Z"))
+                board.ended(ended_socket("left", Ended(name), "look", chip, "", "o1"))
+                found = board.shown()["sockets"][0]["scraps"]
+                self.assertEqual(found, name in scraps and bool(chip), (name, chip))
+                board.scrapped(chip)
+                self.assertFalse(chip and board.shown()["sockets"][0]["scraps"], name)
 
     def test_the_recipes_table(self):
         """[screen], and what of it is refused."""

@@ -85,7 +85,7 @@ class Page(BenchCase):
         self.assertEqual((card["colour"], card["image"], card["line"]), (GREEN, "none", "solid"))
         self.assertGreater(card["size"], 60)
         self.assertEqual(self.aloud(), f"left: PASS. {told}")
-        self.assertEqual(self.browser.value("document.getElementById('rest').textContent"), "8 serial numbers left")
+        self.assertEqual(self.browser.value("document.getElementById('rest').textContent"), "Serial numbers left: 8")
         self.picture("green")
 
     def test_red(self):
@@ -103,7 +103,7 @@ class Page(BenchCase):
         self.assertIn(STRIPES, card["image"])
         self.assertEqual(self.word(1, "PASS")["line"], "solid")
         rows = self.browser.value("[...document.querySelectorAll('#counts tr')].map((row) => row.innerText.trim())")
-        told = [["passed", "1"], ["first", "pass", "1"], ["failed", "1"], ["stray", "1"]]
+        told = [["passed", "1"], ["first", "pass", "1"], ["failed", "1"], ["stray", "bit", "1"]]
         self.assertEqual([row.split() for row in rows], told)
         self.assertIsNone(bench.board()["away"])
         self.picture("red")
@@ -131,6 +131,36 @@ class Page(BenchCase):
         self.assertIn("NO BENCH", self.banner())
         self.assertTrue(self.browser.value("document.getElementById('sockets').hidden"))
 
+    def test_a_chip_that_was_begun(self):
+        """Behind a kill its socket has the word AGAIN and its name, and no old result, until it goes on elsewhere."""
+        hold = self.folder / "hold"
+        wait = script(self.folder / "wait", f"while [ -e {hold} ]; do sleep 0.05; done\n")
+        recipe = {"hooks": {"before_ship": {"command": [wait]}}}
+        bench = self.show(**recipe)
+        self.put("left", MACS[0])
+        self.browser.type("left")
+        self.word(0, "PASS")
+        self.take("left", MACS[0])
+        hold.touch()
+        self.put("left", MACS[1])
+        self.browser.type("left")
+        self.browser.until("document.querySelector('.told').textContent === 'before ship'")
+        bench.kill()
+        hold.unlink()
+        self.show(**recipe)
+        card = self.word(0, "AGAIN")
+        told = f"The chip {MACS[1]} was begun here: begin again, and it goes on."
+        self.assertEqual((card["word"], card["told"]), ("\u25cb AGAIN", told))
+        shown = self.browser.value("document.querySelector('[data-place=\"0\"]').innerText")
+        self.assertEqual([shown.count(it) for it in ("AGAIN", f"chip {MACS[1]}")], [1, 2], shown)
+        for old in ("PASS", "GREEN", "A001", MACS[0]):
+            self.assertNotIn(old, shown)
+        self.take("left", MACS[1])
+        self.put("right", MACS[1])
+        self.browser.type("right")
+        self.word(1, "PASS")
+        self.assertEqual(self.word(0, "waiting")["told"], "")
+
     def test_stopped(self):
         broken = script(self.folder / "broken", "echo 'the flash is write protected'; exit 3\n")
         bench = self.show(hooks={"before_ship": {"command": [broken]}}, stop=2)
@@ -140,7 +170,7 @@ class Page(BenchCase):
             bench.until(lambda board: board["shift"]["failed"].get("hook_failed") == place)
             self.take("left", mac)
         self.browser.until("!document.getElementById('banner').hidden")
-        common = "all at the step 'before ship', each as 'hook_failed', each in the socket 'left'"
+        common = "all at the step 'before ship', each as 'command failed', each in the socket 'left'"
         self.assertEqual(self.banner(), f"STOPPED 2 chips failed in a row, {common}: look why before you go on.")
         self.picture("stopped")
         self.browser.type("go")
@@ -192,17 +222,18 @@ class Page(BenchCase):
             self.browser.value("document.querySelector('[data-place=\"0\"] .keys button + button').click()")
             self.browser.until("!document.getElementById('yes').hidden")
             shown = "[...document.querySelectorAll('#line button')].filter((it) => !it.hidden).map((it) => it.id)"
-            self.assertEqual(self.browser.value(shown), ["yes", "stop", "no"])
+            self.assertEqual(self.browser.value(shown), ["yes", "no", "stop"])
             told = self.browser.value("document.getElementById('question').textContent")
             self.assertRegex(told, f"^Scrap the chip {MACS[0]} for good[?] It is identified. Its serial number A001 is "
                                    "used up for good. .*flash is write protected")  # fmt: skip
             if answer == "yes":
+                self.browser.until("!document.getElementById('line').classList.contains('held')")
                 self.picture("scrap")
             self.browser.value(f"document.getElementById('{answer}').click()")
             self.browser.until(f"document.getElementById('notice').textContent.includes(\"{notice}\")")
             self.browser.until("document.getElementById('question').hidden")
             self.assertEqual(self.asked("GET", f"/v1/device?chip={MACS[0]}")[1]["state"], state)
-        self.assertEqual(bench.board()["notice"], f"The chip {MACS[0]} is scrapped (hook_failed): it is done with.")
+        self.assertEqual(bench.board()["notice"], f"The chip {MACS[0]} is scrapped (command failed): it is done with.")
         card = self.card(0)
         told = "The chip is scrapped, for good: take it out, red box."
         self.assertEqual((card["box"], card["told"]), ("RED BOX", told))

@@ -108,7 +108,7 @@ class Planned(BenchCase):
     def test_an_order_that_is_full(self):
         """A chip that failed has a place until it is scrapped; the next one is sent away, and isn't awaited."""
         self.order(quantity=2)
-        told_last = "have the red box scrapped, or ask for the next order"
+        told_last = "ask for the next order, or, while numbers are left, have the red box scrapped"
         other_key = "(refusal 25: BLOCK1 has another key)"
         lasts = [("passed", GREEN), ("not_blank", other_key), ("order_full", told_last)]
         bench = self.run_bench(self.recipe())

@@ -72,11 +72,11 @@ class Scrapping(BenchCase):
         self.assertEqual(question, {"text": ASK_NAME, "answers": ["no"]})
         bench.typed(NAMED)
         told = "A bit reads 1 that nobody planned, and the chip is lost (ABS_DONE_1): take it out, red box."
-        asked = f"Scrap the chip {MAC} for good? It is quarantined, as stray. The bench said: {told}"
+        asked = f"Scrap the chip {MAC} for good? It is quarantined, as stray bit. The bench said: {told}"
         self.assertEqual(self.asked_about(bench), f"{asked} Type yes; all else leaves it.")
         self.assertEqual(self.state(), ("quarantined", "stray"))
         bench.typed("yes")
-        told = f"The chip {MAC} is scrapped (stray): it is done with."
+        told = f"The chip {MAC} is scrapped (stray bit): it is done with."
         self.assertEqual(self.told(bench, f"The chip {MAC} is"), told)
         self.assertEqual((self.state(), bench.board()["question"]), (("scrapped", None), None))
         self.assertEqual((self.lost(), self.reasons()), ([(MAC, "o1", "stray")], ["stray"]))
@@ -109,7 +109,7 @@ class Scrapping(BenchCase):
         bench.said(f"scrap {MAC}")
         self.asked_about(bench)
         bench.said("Yes")
-        self.told(bench, f"The chip {MAC} is scrapped (hook_failed)")
+        self.told(bench, f"The chip {MAC} is scrapped (command failed)")
         self.assertEqual(bench.until(lambda board: not board["under_way"])["under_way"], [])
         self.assertEqual((self.state()[0], self.lost()), ("scrapped", [(MAC, "o1", "hook_failed")]))
         socket = bench.socket("left")
@@ -177,7 +177,7 @@ class Scrapping(BenchCase):
         bench.until(lambda board: not board["away"])
         self.assertEqual(bench.board()["question"]["text"], ASK_NAME)
         bench.said(MAC)
-        self.assertIn("It is quarantined, as stray.", self.asked_about(bench))
+        self.assertIn("It is quarantined, as stray bit.", self.asked_about(bench))
         with self.station(file="other.json") as other:
             other.resynchronize()
             other.import_map(MAP)

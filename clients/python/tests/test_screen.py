@@ -32,8 +32,8 @@ FAILED = ("hook_failed", {"hook": "before_ship", "detail": "the flash is write p
 STAYS = [("passed", {"serial": "T0017"}), ("stray", {"detail": "ABS_DONE_1"}), FAILED, ("bad_token", {"no": 6}),
          ("no_label", {"serial": "T0018", "detail": "no paper"}), ("other_order", {"order": "o18"}),
          ("passed", {"serial": "T0019"}), ("lost", {"detail": "JTAG_DISABLE"})]  # fmt: skip
-STOPPED = ("3 chips failed in a row, all at the step 'before ship', each as 'hook_failed', each in the socket 'left': "
-           "look why before you go on.")  # fmt: skip
+STOPPED = ("3 chips failed in a row, all at the step 'before ship', each as 'command failed', each in the socket "
+           "'left': look why before you go on.")  # fmt: skip
 ASKED = ("Scrap the chip 240ac4000001 for good? It is identified. Its serial number A001 is used up for good. The "
          "bench said: The command before_ship failed (the flash is write protected): put it in once more, and where "
          "that fails too, red box. Type yes; all else leaves it.")  # fmt: skip
@@ -161,6 +161,7 @@ class Screen(unittest.TestCase):
                     with self.subTest(what, screen=(width, height, inches), sockets=sockets):
                         self.assert_fits(self.drawn(bench), mm, sockets, what)
                 if (width, sockets) == (1280, 8) and inches and os.environ.get("PICTURES"):
+                    self.browser.until("!document.getElementById('line').classList.contains('held')")
                     self.browser.picture(ROOT / "docs" / "pictures" / "bench-panel.png")
 
     def test_banners_without_their_words(self):
@@ -180,6 +181,8 @@ class Screen(unittest.TestCase):
             change()
             self.browser.until(f"document.body.classList.contains('{kind}')")
             found.append(self.browser.value(looks))
+            if kind == "STOPPED":
+                self.assertEqual(self.text("#notice"), "The line stands: have it go on first.")
         self.browser.call("Network.emulateNetworkConditions", offline=False, **speed)
         for place in zip(*found):
             self.assertEqual(len(set(place)), 3, place)
@@ -208,6 +211,43 @@ class Screen(unittest.TestCase):
         self.browser.type("")
         self.assertEqual(self.done(bench, done + 1)[done:], [""])
 
+    def test_a_double_press(self):
+        """Two presses of a glove, 250 ms apart, are one; an answer is taken a second behind its question, and its
+        button stands where none was."""
+        asked = {"shift": ("Begin a new shift?", ["yes", "no"]), "scrap": ("Scan the chip's name.", ["no"])}
+        boxes = """[...document.querySelectorAll('button')].filter((it) => it.getClientRects().length).map((it) =>
+            [it.id, ...['left', 'top', 'right', 'bottom'].map((side) => it.getBoundingClientRect()[side])])"""
+        pale = "parseFloat(getComputedStyle(document.getElementById('no')).opacity)"
+        wait = "new Promise((done) => setTimeout(done, {}))"
+        for width, height, inches, _ in SCREENS:
+            self.browser.size(width, height)
+            for word, question in asked.items():
+                bench = self.show(2, Display(inches=inches))
+                self.drawn(bench)
+                bench.said = lambda text: (bench.done.append(text), bench.board.ask(*asked.get(text, ("", []))))
+                before, place = self.browser.value(boxes), self.browser.place(f"#{word}")
+                self.browser.touch(*place)
+                self.browser.until("!document.getElementById('question').hidden")
+                self.browser.value(wait.format(250))
+                self.browser.touch(*place)
+                answer = question[1][0]
+                self.browser.touch(*self.browser.place(f"#{answer}"))
+                self.assertLess(self.browser.value(pale), 0.5)
+                self.assertEqual(self.done(bench, 1), [word])
+                yes = [it[1:] for it in self.browser.value(boxes) if it[0] == "yes"]
+                self.assertTrue(all(apart(one, it[1:]) > 0 for one in yes for it in before), (yes, before))
+                self.browser.until("!document.getElementById('line').classList.contains('held')")
+                self.browser.touch(*self.browser.place(f"#{answer}"))
+                self.assertEqual(self.done(bench, 2), [word, answer])
+
+    def test_the_panels_that_have_scrap(self):
+        """Of STAYS the stray and the lost one, and the one whose command failed."""
+        self.browser.size(1920, 1080)
+        self.drawn(self.show(8))
+        seen = "[...document.querySelectorAll('.socket')].filter((it) => it.querySelector('button + button')" \
+               ".getClientRects().length).map((it) => it.dataset.place)"
+        self.assertEqual(self.browser.value(seen), ["1", "2", "7"])
+
     def test_a_small_panel(self):
         """A touch shows its sentence and its buttons in the bar."""
         self.browser.size(1024, 600)
@@ -220,7 +260,7 @@ class Screen(unittest.TestCase):
         self.assert_fits(self.drawn(bench), math.hypot(1024, 600) / 254, 8, "panel")
         self.click("#scrap")
         self.assertEqual(self.done(bench, 1), ["scrap 240ac4000002"])
-        own = ["Begin all", "Stop the line", "New shift", "Scrap a chip", "Sound: on"]
+        own = ["Begin all", "New shift", "Scrap a chip", "Sound: on", "Stop the line"]
         self.assertEqual(self.browser.value(shown), own)
         self.click("[data-place='0'] .word")
         self.click("#begin")
@@ -238,8 +278,9 @@ class Screen(unittest.TestCase):
         last = self.browser.value("[...document.querySelectorAll('#last tr')].map((it) => it.children[1].textContent)")
         self.assertEqual(last, [f"T{place:04}" for place in range(10, 0, -1)])
         rows = self.browser.value("[...document.querySelectorAll('#counts tr')].map((it) => it.innerText.split('\\t'))")
-        told = [("passed", "41"), ("first pass", "39"), ("failed", "3"), ("hook failed", "2"), ("stray", "1")]
+        told = [("passed", "41"), ("first pass", "39"), ("failed", "3"), ("command failed", "2"), ("stray bit", "1")]
         self.assertEqual([tuple(it.strip() for it in row) for row in rows], told)
+        self.assertEqual(self.text("#tally"), "This shift: passed 41, first pass 39, failed 3")
         bench.board.working("socket1", "register", "240ac4000002", "")
         self.drawn(bench)
         self.assertEqual((self.text(".word bdi:last-child"), self.text(".told")), ("3/5", "register"))
@@ -251,6 +292,20 @@ class Screen(unittest.TestCase):
         style = self.browser.value("[getComputedStyle(document.querySelector('.word')).color, "
                                    "getComputedStyle(document.querySelector('.socket')).backgroundImage]")  # fmt: skip
         self.assertEqual((style, self.text(".told")), (["rgb(107, 107, 107)", "none"], "waiting"))
+
+    def test_the_last_chips_are_whole(self):
+        """Also those without a serial number, of a socket with a long name: no scroll bar, and no time is cut."""
+        cut = """[...document.querySelectorAll('aside, #last td, #last th')].filter((it) =>
+            it.scrollWidth > it.clientWidth || it.getBoundingClientRect().right > innerWidth).map((it) => it.innerText)"""
+        for width, height, inches, _ in SCREENS:
+            self.browser.size(width, height)
+            bench = self.show(1, Display(inches=inches), ended=False)
+            for name in ("socket1", "the upper left one", "another"):
+                last = ended_socket(name, Ended("no_label"), "label", "7cdfa1000014", "", "o17", 113.4)
+                bench.board.ended(last)
+            self.drawn(bench)
+            self.assertEqual(self.browser.value("document.querySelectorAll('#last tr').length"), 3)
+            self.assertEqual(self.browser.value(cut), [], (width, inches))
 
     def test_sounds(self):
         """PASS and FAIL sound once each, and not alike; what ended before the page was opened, or is off, doesn't."""
@@ -297,7 +352,8 @@ class Screen(unittest.TestCase):
         for it in seen["texts"]:
             self.assert_within(it["box"], whole, it)
             self.assertLessEqual(it["cut"], 1, it)
-            self.assertGreaterEqual(it["size"] / mm, 2.5, it)
+            least = 5 if it["text"] == ASKED and seen["width"] == 1920 else 2.5
+            self.assertGreaterEqual(it["size"] / mm, least, it)
         told = [it["text"] for it in seen["texts"]]
         self.assertFalse(seen["isTight"] and (seen["width"] == 1920 or sockets < 4 and what == "results"))
         self.assertTrue(seen["isTight"] or sum(": " in it for it in told) >= sockets, told)

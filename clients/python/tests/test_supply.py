@@ -27,7 +27,7 @@ TOKENS = {"a1": "abc", "a2": "second"}
 JTAG = bit("JTAG_DISABLE", 0)
 NEXT = "ask for the next order."
 KEPT = f"The order has no serial number left, and the chip isn't begun: take it out, keep it, and {NEXT}"
-FULL = f"have the red box scrapped, or {NEXT}"
+FULL = "keep it, and ask for the next order, or, while numbers are left, have the red box scrapped."
 
 
 def site_of(case):

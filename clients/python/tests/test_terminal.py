@@ -107,6 +107,9 @@ class Begun(BenchCase):
             found = [re.match(r"(\d) s(\d) FAIL AGAIN", line) for line in lines]
             self.assertEqual([it[1] for it in found if it], [str(place) for place in range(1, 9)])
             self.assertTrue(any("STOPPED #####" in line and line.startswith("#####") for line in lines), lines)
+            self.assertIn("This shift: passed 0, first pass 0, failed: command failed 8", " ".join(lines))
+            told = "The line stands: have it go on first. Type help"
+            self.assertTrue(any(line.startswith(told) for line in lines), lines)
             terminal.type("help")
             self.assertIn("The words are: stop, go,", terminal.until("Type help"))
 
@@ -116,8 +119,9 @@ class Begun(BenchCase):
         bench = self.run_bench(self.recipe(server={"operator": "Anna"}))
         self.assertEqual(bench.until(lambda board: board["rest"])["operator"], "Anna")
         none = "A badge has a name of 1 to 64 letters in one line behind 'operator:'."
+        named = "Bert Roth works here now, also behind a restart, until another badge is scanned."
         for text, name, notice in (
-            ("operator:Bert Roth", "Bert Roth", "Bert Roth works here now."),
+            ("operator:Bert Roth", "Bert Roth", named),
             ("operator:", "Bert Roth", none),
             (f"operator:{65 * 'x'}", "Bert Roth", none),
             ("operator:\x1b[2J", "Bert Roth", none),
@@ -130,8 +134,15 @@ class Begun(BenchCase):
         lines = [json.loads(it) for it in (self.folder / "a1.journal").read_text("ascii").splitlines()]
         self.assertEqual({it.get("path"): it["operator"] for it in lines if "path" in it}["/v1/ship"], "Bert Roth")
         self.assertEqual([it["operator"] for it in self.logged() if "operator" in it], ["Bert Roth"])
-        self.assertEqual(bench.end(), 0)
-        bench = self.run_bench(self.recipe(top={"screen": {"badge": "P-"}}))
+        bench.kill()
+        bench = self.run_bench(self.recipe(server={"operator": "Anna"}, top={"screen": {"badge": "P-"}}))
+        self.assertEqual(bench.until(lambda board: board["rest"])["operator"], "Bert Roth")
+        self.put("left", macs_of(2)[1])
+        bench.said("left")
+        bench.until(lambda board: board["shift"]["passed"] == 2)
+        lines = [json.loads(it) for it in (self.folder / "a1.journal").read_text("ascii").splitlines()]
+        names = [it["operator"] for it in lines if it.get("path") == "/v1/ship"]
+        self.assertEqual((len(names) > 1, set(names)), (True, {"Bert Roth"}))
         bench.said("P-0815")
         self.assertEqual(bench.board()["operator"], "0815")
 
@@ -173,6 +184,8 @@ class Begun(BenchCase):
             bench.said(answer)
             self.assertEqual((bench.board()["shift"]["passed"], bench.board()["question"]), (passed, None), answer)
         self.assertEqual(bench.socket("left")["state"], "PASS")
+        ended = [it["ended"] for it in self.logged() if "shift" in it]
+        self.assertEqual(ended, [{"since": shift["since"], "passed": 2, "first": 1, "failed": {}}])
         self.assertEqual(bench.end(), 0)
         board = self.run_bench(self.recipe()).board()
         last = [(it["state"], it["reason"], it["chip"], it["took"] > 0) for it in board["last"]]

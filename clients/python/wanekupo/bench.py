@@ -17,7 +17,7 @@ from dataclasses import replace
 from pathlib import Path
 from typing import Callable, Iterator, Mapping, Optional, TypeVar
 
-from wanekupo.board import MOST_LAST, PASSED, WORKING, Board, Shift, Socket, ended_socket, in_common
+from wanekupo.board import MOST_LAST, PASSED, WORKING, Board, Shift, Socket, begun_socket, ended_socket, in_common
 from wanekupo.clearing import clear_old
 from wanekupo.config import Settings, changed, looking_station_of, station_of
 from wanekupo.endings import STOP, Ended, ended_by
@@ -38,7 +38,7 @@ from wanekupo.sentences import sentence_of
 from wanekupo.station import Station
 from wanekupo.supply import Supply
 from wanekupo.turns import Leaving, Turns
-from wanekupo.words import OTHERS, said, step_said, take
+from wanekupo.words import OTHERS, said, take
 
 Made = TypeVar("Made")
 
@@ -67,10 +67,11 @@ class Bench:
 
     def __init__(self, recipe: Recipe, station: Station, kept: Kept, url: str, spool: Optional[Path]):
         self.recipe, self.kept, self.spool, self._url = recipe, kept, spool, url
-        last = {name: kept.last().get(name, Socket(name)) for name in recipe.sockets}
-        sockets = [it.emptied(_found_in(name, kept)) for name, it in last.items()]
+        sockets = [_found_in(name, kept) for name in recipe.sockets]
+        if kept.operator():
+            station.operated_by(kept.operator())
         words = recipe.name, recipe.order, sockets, recipe.start, kept.shift(), steps_of(recipe)
-        self.board = Board(*words, station.operator(), kept.last_chips(MOST_LAST))
+        self.board = Board(*words, kept.operator() or station.operator(), kept.last_chips(MOST_LAST))
         self.board.under_way(kept.under_way())
         self.leaving = threading.Event()
         self._turns = Turns(station, self.board, self.leaving)
@@ -203,7 +204,7 @@ class Bench:
             ended = ended_by(error, life.step)
             last = ended_socket(name, ended, life.step, life.chip, life.serial, self.recipe.order)
         if ended.ending.effect == STOP:
-            self.board.stop(said("stopped_at", sentence=last.sentence, step=step_said(life.step)))
+            self.board.stop(last.sentence)
         self.tell_begun(name)
         self.board.ended(last)
 
@@ -288,6 +289,7 @@ class Bench:
             return
         with self._on_disk():
             self.kept.log({"operator": operator})
+            self.kept.operated_by(operator)
             self._station.operated_by(operator)
             self.board.works(operator)
             self.board.notice(said("named", name=operator))
@@ -303,8 +305,9 @@ class Bench:
 
     def new_shift(self) -> None:
         with self._counting, self._on_disk():
-            shift = Shift(now_text())
-            self.kept.log({"shift": shift.since})
+            shift, last = Shift(now_text()), self.kept.shift()
+            counts = {"passed": last.passed, "first": last.first, "failed": dict(last.failed)}
+            self.kept.log({"shift": shift.since, "ended": {"since": last.since, **counts}})
             self.kept.counted(shift)
             self.board.counted(shift)
             self.board.notice(said("shift_new"))
@@ -340,13 +343,14 @@ class Bench:
             self.board.notice(ended.ending.sentence(**ended.facts))
 
 
-def _found_in(name: str, kept: Kept) -> str:
-    """What is said of a socket at a start. Nobody knows what is in it by now, so none is green before it is read."""
+def _found_in(name: str, kept: Kept) -> Socket:
+    """What a socket shows at a start. Nobody knows what is in it by now, so none is green before it is read."""
     begun = [chip for chip, it in kept.under_way().items() if it["socket"] == name]
     if begun:
-        return said("begun_here", chip=begun[-1])
-    last = kept.last().get(name)
-    return said("shipped_here", chip=last.chip, serial=last.serial) if last and last.state == PASSED else ""
+        return begun_socket(name, begun[-1])
+    last = kept.last().get(name, Socket(name))
+    is_green = last.state == PASSED
+    return last.emptied(said("shipped_here", chip=last.chip, serial=last.serial) if is_green else "")
 
 
 # The command.

@@ -11,7 +11,7 @@ from collections import Counter
 from dataclasses import dataclass, field, replace
 from typing import Any, Mapping, Optional, Sequence
 
-from wanekupo.endings import AGAIN, NO_LABEL, PASS, RED, Ended, Ending
+from wanekupo.endings import AGAIN, ENDINGS, NO_LABEL, PASS, RED, Ended, Ending
 from wanekupo.words import reason_said, said, step_said
 
 # The states of a socket. A chip that is shipped and has no label is neither green nor red.
@@ -45,9 +45,15 @@ class Socket:
     was: str = ""
 
     def emptied(self, told: str) -> Socket:
-        """It waits for the next chip, and still shows how the last one ended."""
+        """It waits for the next chip, and still shows how the last one ended. One that was begun here stays named."""
         was = self.state if self.state in RESULTS else self.was
+        if self.is_begun():
+            told = told or self.sentence
         return replace(self, state=WAITING, step="", sentence=told, since=time.time(), was=was)
+
+    def is_begun(self) -> bool:
+        """Whether a chip was begun here before this start, and is to come again: no result is shown above it."""
+        return self.state == WAITING and not self.was and self.box == BOXES[AGAIN]
 
 
 @dataclass(frozen=True)
@@ -115,6 +121,11 @@ def ended_socket(name: str, ended: Ended, step: str, chip: str, serial: str, ord
     return Socket(name, state_of(ending), step, chip, serial, sentence, ending.name, time.time(), box, round(took, 1))
 
 
+def begun_socket(name: str, chip: str) -> Socket:
+    """A socket in which a chip was begun before this start: the word and the name are its own, and no old result."""
+    return Socket(name, chip=chip, sentence=said("begun_here", chip=chip), since=time.time(), box=BOXES[AGAIN])
+
+
 def in_common(row: Sequence[Failure]) -> str:
     """What chips that failed in a row have in common: their step, their reason, their socket."""
     steps, reasons, sockets = ({getattr(it, name) for it in row} for name in ("step", "reason", "socket"))
@@ -164,8 +175,9 @@ class Board:
     def waiting(self, name: str, told: str = "") -> None:
         """The socket has room for a chip; `told` is what is to be said beside."""
         found = self.socket(name)
-        if (found.state, found.sentence) != (WAITING, told):
-            self._set_socket(found.emptied(told))
+        emptied = found.emptied(told)
+        if (found.state, found.sentence) != (WAITING, emptied.sentence):
+            self._set_socket(emptied)
 
     def working(self, name: str, step: str, chip: str, serial: str) -> None:
         """A chip is at a step, since it was begun."""
@@ -234,8 +246,11 @@ class Board:
             self._set(question=None)
 
     def under_way(self, chips: Mapping[str, Mapping[str, str]]) -> None:
-        """The chips that were begun before this start and haven't ended yet, with their sockets and steps."""
-        self._set(under_way=dict(chips))
+        """The chips that were begun before this start and haven't ended yet, with their sockets and steps. A socket
+        that named another one has nothing to say of it any more."""
+        with self._changed:
+            gone = [it.name for it in self._sockets.values() if it.is_begun() and it.chip not in chips]
+            self._set(under_way=dict(chips), sockets={**self._sockets, **{name: Socket(name) for name in gone}})
 
     # What is shown.
 
@@ -281,4 +296,6 @@ class Board:
     def _shown(self, socket: Socket) -> dict[str, Any]:
         """A socket, with the place of its step among all."""
         place = self._steps.index(socket.step) + 1 if socket.step in self._steps else 0
-        return {**vars(socket), "step": step_said(socket.step), "place": place}
+        ending = ENDINGS.get(socket.reason) if socket.state == FAILED and socket.chip else None
+        scraps = ending is not None and ending.may_be_scrapped()
+        return {**vars(socket), "step": step_said(socket.step), "place": place, "scraps": scraps}

@@ -28,7 +28,8 @@ ASK_WHERE = "take it out, and ask where it comes from"
 NEXT_ORDER = "ask for the next order"
 KEEP_FOR_NEXT = f"take it out, keep it, and {NEXT_ORDER}"
 RED_AND_NEXT = f"{RED_BOX}, and {NEXT_ORDER}"
-SCRAP_OR_NEXT = f"take it out, and have the red box scrapped, or {NEXT_ORDER}"
+ALL_BEGUN = "Each serial number left was for a chip that was begun, also failed ones"
+NEXT_OR_SCRAP = f"{KEEP_FOR_NEXT}, or, while numbers are left, have the red box scrapped"
 LABEL_ANEW = "keep it apart, look at the printer, and put it in once more"
 
 
@@ -65,6 +66,10 @@ class Ending:
         """Whether the shift counts the chip as passed: also one that only lacks its label."""
         return self.name == "passed" or self.effect == UNLABELLED
 
+    def may_be_scrapped(self) -> bool:
+        """Whether the chip is begun in this order, surely the one in the socket, and at fault: its panel has Scrap."""
+        return self.effect == RED and self.name not in UNSCRAPPED or self.name in (*NUMBERLESS, *TRIED)
+
     def is_gone(self) -> bool:
         """Whether the server has the chip as shipped or scrapped, and no hook runs for it any more."""
         return self.effect == PASS or self.name in ("shipped_before", "scrapped_before")
@@ -83,6 +88,10 @@ SENT_AWAY = ("order_full", "used_up", *NUMBERLESS)
 # No chip was there, or nothing was done to it now.
 BEFORE = ("lost_before", "scrapped_before", "shipped_before")
 UNCOUNTED = ("no_chip", "bad_traveller", "other_order", *BEFORE)
+
+# Of the red box: what isn't registered here, or is done with. Of the others: what failed at a chip of this order.
+UNSCRAPPED = ("scrapped_before", "shipped_before", "other_order", "coding", "bad_words")
+TRIED = ("no_burn", "no_read", "hook_failed", "hook_late")
 
 TABLE = [
     Ending("passed", PASS, "The chip is shipped as {serial}", GREEN_BOX),
@@ -103,7 +112,7 @@ TABLE = [
     Ending("coding", RED, "The chip has another coding scheme (refusal 36)", RED_BOX),
     Ending("bad_words", RED, "The chip shows what the server can't take (refusal 41)", RED_BOX),
     Ending("other_hand", AGAIN, "Somebody else works on this chip (refusal {no})", "put it in once more"),
-    Ending("order_full", STOP, "Each serial number left is for a chip that was begun, also failed ones", SCRAP_OR_NEXT),
+    Ending("order_full", STOP, ALL_BEGUN, NEXT_OR_SCRAP),
     Ending("used_up", STOP, "The order has no serial number left, and the chip isn't begun", KEEP_FOR_NEXT),
     Ending("gave_way", STOP, "The last serial number is another chip's, and this one isn't burnt", RED_AND_NEXT),
     Ending("no_serial", STOP, "The order has no serial number left for this chip (refusal {no})", RED_AND_NEXT),

@@ -1,7 +1,7 @@
 """What a bench keeps in its folder: which chips it has begun, the shift's counts, its log, and each chip's own files.
 
-    bench.json                 what is under way, each socket's last chip, the counts and which chips failed before,
-                               replaced before each step
+    bench.json                 what is under way, each socket's last chip, the counts, which chips failed before, and
+                               who works here, replaced before each step
     log-2026-11-29.jsonl       a line of JSON for each chip that ended, and for each hook with what it printed
     chips/240ac4000001/        the keys that were made for a chip, and what before_identity left, until it is done with
 
@@ -53,7 +53,7 @@ class Kept:
             self.close()
             raise BadStateFile(f"{folder} is another bench's", "End that one, or have another folder.") from error
         shift = asdict(Shift(now_text()))
-        nothing: dict[str, Any] = {"before": {}, "last": {}, "map": "", "under_way": {}, "going": []}
+        nothing: dict[str, Any] = {"before": {}, "last": {}, "map": "", "under_way": {}, "going": [], "operator": ""}
         self._data: dict[str, Any] = {**nothing, "shift": shift}
         try:
             self._read(folder / "bench.json")
@@ -64,7 +64,7 @@ class Kept:
     def _read(self, file: Path) -> None:
         try:
             with open(opened_own(file, os.O_RDONLY), "rb") as source:
-                found = {"before": {}, "going": [], **json.loads(source.read())}
+                found = {"before": {}, "going": [], "operator": "", **json.loads(source.read())}
             self._data = {name: found[name] for name in self._data}
             self.shift()
             self.last()
@@ -167,6 +167,15 @@ class Kept:
             found = self._data["shift"]
             row = tuple(Failure(**it) for it in found["row"])
             return Shift(found["since"], int(found["passed"]), dict(found["failed"]), row, int(found.get("first", 0)))
+
+    # Who works here, by the badge that was scanned last.
+
+    def operator(self) -> str:
+        return str(self._data["operator"])
+
+    def operated_by(self, name: str) -> None:
+        with self._turn:
+            self._keep(operator=name)
 
     # The map that the server has.
 

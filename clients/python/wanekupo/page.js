@@ -3,8 +3,6 @@
   const at = (id) => document.getElementById(id);
   const SIGNS = { PASS: "\u2714", FAIL: "\u2718", LABEL: "\u2261", waiting: "\u25cb", working: "\u25b6" };
   const RESULTS = ["PASS", "FAIL", "LABEL"];
-  // Chips that somebody else has, or that are done with, can't be scrapped here.
-  const NOT_SCRAPPED = ["scrapped", "scrapped_before", "shipped_before", "other_order"];
   // Pitches and seconds, and the form of the wave.
   const SOUNDS = { PASS: ["sine", [880, .12], [1320, .25]], FAIL: ["square", [220, .25], [150, .6]], LABEL: ["sine", [660, .15], [440, .15], [660, .2]] };
   // Millimetres of a panel: the least width, the height that is looked for, and the one with its sentence and its buttons.
@@ -12,6 +10,9 @@
   const WIDE = 50, HIGH = 66, NEEDED = 84, OTHERS = 62, ASIDE = 95, BAR = 215;
   // How narrow a word may become before its first part stands alone: letters half as wide as high are read well.
   const NARROWEST = 0.55;
+  // How long the bar takes no press behind a change, in milliseconds: the second press of a glove is meant for the first.
+  const HELD = 1000;
+  let bar = "", held = 0;
   let board = null, words = null, version = -1, skew = 0, chosen = -1, results = {}, sound = null;
 
   // An element with attributes and children; a text is always a text and never markup.
@@ -23,7 +24,7 @@
   };
   // A text is changed only where it differs: a reader would say it again.
   const put = (element, text) => { if (element.textContent !== text) element.textContent = text; };
-  const time = (seconds) => new Date(seconds * 1000).toLocaleTimeString();
+  const time = (seconds) => new Date(seconds * 1000).toLocaleTimeString([], { hour12: false });
   const say = (word, facts = {}) => words.words[word].replace(/\{(\w+)(?:!r)?\}/g, (_, name) => String(facts[name] ?? ""));
   const reason = (name) => words.reasons[name] ?? name.replaceAll("_", " ");
   const isLoud = () => (localStorage.getItem("sound") ?? String(words.sound)) === "true";
@@ -116,7 +117,6 @@
   // Sockets.
 
   const begins = (socket) => board.start === "key" && socket.state !== "working" && !board.stopped;
-  const scraps = (socket) => socket.state === "FAIL" && Boolean(socket.chip) && !NOT_SCRAPPED.includes(socket.reason);
   const begin = (socket) => post("/begin", { socket: socket.name });
   const scrap = (socket) => post("/said", { text: `scrap ${socket.chip}` });
 
@@ -145,12 +145,14 @@
 
   const toldOf = (socket) => socket.state === "working" ? socket.step : socket.sentence || (socket.was ? say("waiting") : "");
 
-  // What a panel shows large: a result, also the last one while it waits.
+  // What a panel shows large: a result, also the last one while it waits; else the word of a chip that was begun there.
   const resultOf = (socket) => socket.state === "waiting" ? socket.was : socket.state;
+  const isBegun = (socket) => socket.state === "waiting" && !socket.was && Boolean(socket.box);
+  const wordOf = (socket) => isBegun(socket) ? words.boxes[socket.box] : say(resultOf(socket) || "waiting");
 
   const drawSocket = (socket, place) => {
     const card = cardOf(place), [name, , box, told, more, keys] = card.children, result = resultOf(socket);
-    card.className = `socket ${socket.state}${result ? "" : " new"}${chosen === place ? " chosen" : ""}`;
+    card.className = `socket ${socket.state}${isBegun(socket) ? " begun" : result ? "" : " new"}${chosen === place ? " chosen" : ""}`;
     put(name, `${place + 1} ${socket.name}`);
     box.hidden = !RESULTS.includes(result);
     put(told, toldOf(socket));
@@ -158,15 +160,15 @@
     put(keys.children[0], say("begin", { socket: socket.name }));
     put(keys.children[1], say("scrap_this"));
     keys.children[0].hidden = !begins(socket);
-    keys.children[1].hidden = !scraps(socket);
-    keys.hidden = !begins(socket) && !scraps(socket);
+    keys.children[1].hidden = !socket.scraps;
+    keys.hidden = !begins(socket) && !socket.scraps;
     announce(socket, place);
   };
 
   // Once all panels are there, each has its size, and its words are fitted into it.
   const fitSocket = (socket, place) => {
     const [, word, box, told] = cardOf(place).children, isWorking = socket.state === "working" && socket.place;
-    fit(word, place + 1, SIGNS[socket.state], isWorking ? `${socket.place}/${board.steps}` : say(resultOf(socket) || "waiting"));
+    fit(word, place + 1, SIGNS[socket.state], isWorking ? `${socket.place}/${board.steps}` : wordOf(socket));
     fit(box, "", "", words.boxes[socket.box] ?? "");
     shrink(told);
   };
@@ -199,22 +201,45 @@
     else banner("", "", "");
   };
 
+  // A question as large as its box lets it be. The box grows where its smallest letters have no room.
+  const fitQuestion = () => {
+    const { style } = at("question");
+    style.maxHeight = "";
+    shrink(at("question"));
+    if (at("question").scrollHeight > at("question").clientHeight + 1) style.maxHeight = "none";
+    style.visibility = "";
+  };
+
   // The bar: what is asked, with its answers; else the panel that was touched; else the bench's own buttons.
   const drawBar = () => {
     const asked = board.question, socket = asked || !isTight() ? null : board.sockets[chosen];
     const own = !asked && !socket;
     at("question").hidden = own;
     put(at("question"), asked ? asked.text : socket ? `${chosen + 1} ${socket.name}: ${toldOf(socket)} ${moreOf(socket)}` : "");
-    put(at("notice"), board.notice || (own ? say(board.start) : ""));
+    put(at("notice"), board.notice || (own ? say(board.stopped ? "stands" : board.start) : ""));
     at("notice").hidden = !own && !board.notice;
     put(at("asked"), say(asked ? "answer_asked" : board.start));
     put(at("all"), say(asked ? "answer" : "begin_all"));
     put(at("begin"), socket ? say("begin", { socket: socket.name }) : "");
     const shown = { all: own && board.start !== "chip" && !board.stopped, stop: !board.stopped && !socket, shift: own, sound: own, back: socket,
-      scrap: own || socket && scraps(socket), begin: socket && begins(socket), yes: asked?.answers.includes("yes"), no: asked?.answers.includes("no") };
+      scrap: own || socket?.scraps, begin: socket && begins(socket), yes: asked?.answers.includes("yes"), no: asked?.answers.includes("no") };
     for (const [id, is] of Object.entries(shown)) at(id).hidden = !is;
     put(at("sound"), say(isLoud() ? "sound_on" : "sound_off"));
     put(at("scrap"), say(socket ? "scrap_this" : "scrap_chip"));
+    fitQuestion();
+  };
+
+  // A bar that has other buttons or another question takes no press for a while, and is pale meanwhile. Only a press:
+  // behind each of them the keyboard is the field's.
+  const hold = () => {
+    const line = at("line"), buttons = [...line.querySelectorAll("button")].filter((it) => !it.hidden).map((it) => it.id);
+    const shown = JSON.stringify([buttons, board.question, chosen]);
+    if (bar && bar !== shown) {
+      line.classList.add("held");
+      clearTimeout(held);
+      held = setTimeout(() => { line.classList.remove("held"); }, HELD);
+    }
+    bar = shown;
   };
 
   const row = (name, ...texts) => made("tr", {}, made("th", { scope: "row" }, name), ...texts.map((it) => made("td", {}, String(it))));
@@ -224,7 +249,7 @@
     const failed = names.reduce((sum, name) => sum + reasons[name], 0);
     const all = [[say("passed"), passed], [say("first"), first], [say("failed"), failed], ...names.map((name) => [`\u2003${reason(name)}`, reasons[name]])];
     at("counts").replaceChildren(...all.map((it) => row(...it)));
-    put(at("tally"), all.slice(0, 3).map((it) => it.join(" ")).join(", "));
+    put(at("tally"), `${say("this_shift")}: ${all.slice(0, 3).map((it) => it.join(" ")).join(", ")}`);
     put(at("since"), say("since", { time: new Date(since).toLocaleString() }));
     at("last").replaceChildren(...board.last.map((it) =>
       row(`${SIGNS[it.state]} ${say(it.state).split(" ")[0]}`, it.serial || it.chip, it.name, it.took ? `${Math.round(it.took)} s` : "", time(it.since))));
@@ -251,6 +276,7 @@
     drawBar();
     tighten(rows);
     drawBar();
+    hold();
     board.sockets.forEach(drawSocket);
     board.sockets.forEach(fitSocket);
     shrink(at("banner-text"));

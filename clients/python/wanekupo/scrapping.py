@@ -19,7 +19,7 @@ from wanekupo.replies import Device
 from wanekupo.sentences import sentence_of
 from wanekupo.station import Station
 from wanekupo.turns import Leaving
-from wanekupo.words import said, state_said
+from wanekupo.words import reason_said, said, state_said
 
 Made = TypeVar("Made")
 
@@ -100,7 +100,7 @@ class Scrapping:
         if self._looked_at != chip or self._line.questions.stands():
             return  # another word came meanwhile
         facts = {
-            "lost": said("scrap_lost", reason=device.reason) if device.reason else "",
+            "lost": said("scrap_lost", reason=reason_said(device.reason)) if device.reason else "",
             "used": said("scrap_used", serial=device.serial) if device.serial else "",
             "said": said("scrap_said", sentence=last[1]) if last else "",
         }
@@ -132,7 +132,7 @@ class Scrapping:
             self._line.board.notice(f"{worked_on}. {said('scrap_none')}")
             return
         self._line.ask(lambda station: station.scrap(chip, reason))
-        told = said("scrap_done", chip=chip, reason=reason)
+        told = said("scrap_done", chip=chip, reason=reason_said(reason))
         try:
             self._line.kept.log({"scrapped": chip, "reason": reason})
             self._line.kept.forget(chip, not self._line.recipe.keep_folder)

@@ -16,7 +16,7 @@ from typing import TYPE_CHECKING, Any, Iterator, Mapping
 
 from wanekupo.board import FAILED, LABEL, PASSED, RESULTS, WORKING
 from wanekupo.texts import shown
-from wanekupo.words import SAID, said
+from wanekupo.words import SAID, reason_said, said
 
 if TYPE_CHECKING:
     from wanekupo.bench import Bench
@@ -79,9 +79,8 @@ def facts_of(board: Mapping[str, Any], socket: Mapping[str, Any]) -> str:
 
 def result_of(socket: Mapping[str, Any]) -> str:
     """What is said of a socket in one line: how its chip ended and where it goes, in brackets once it has gone."""
-    state = socket["was"] or socket["state"]
-    box = SAID["boxes"].get(socket["box"], "") if state in RESULTS else ""
-    word = f"{said(state)} {box}".strip()
+    state, box = socket["was"] or socket["state"], SAID["boxes"].get(socket["box"], "")
+    word = f"{said(state)} {box}".strip() if state in RESULTS else box or said(state)
     return f"{said('waiting')} ({word})" if socket["was"] else word
 
 
@@ -127,15 +126,20 @@ def away_told(away: Mapping[str, Any]) -> str:
     return said("away_since", time=time.strftime("%H:%M:%S", time.localtime(away["since"])), why=away["why"])
 
 
+def start_told(board: Mapping[str, Any]) -> str:
+    """What is to be done for the next chip."""
+    return said("stands" if board["stopped"] else board["start"])
+
+
 def head_lines(board: Mapping[str, Any], width: int) -> Iterator[str]:
     """The order and the shift."""
     rest = said("left_unknown") if board["rest"] is None else said("left", count=board["rest"])
     who = said("operator", name=board["operator"]) if board["operator"] else said("nobody")
     yield shown(f"{board['product']}, {said('order', order=board['order'])}, {rest}")[:width]
     shift = board["shift"]
-    failed = ", ".join(f"{SAID['reasons'].get(name, name)} {count}" for name, count in sorted(shift["failed"].items()))
+    failed = ", ".join(f"{reason_said(name)} {count}" for name, count in sorted(shift["failed"].items()))
     counts = f"{said('passed')} {shift['passed']}, {said('first')} {shift['first']}, {said('failed')}: {failed or 0}"
-    yield shown(f"{who}. {counts}")[:width]
+    yield from textwrap.wrap(shown(f"{who}. {said('this_shift')}: {counts}"), width)
 
 
 def board_lines(board: Mapping[str, Any], width: int, height: int, has_colours: bool) -> list[str]:
@@ -149,7 +153,7 @@ def board_lines(board: Mapping[str, Any], width: int, height: int, has_colours: 
         shown(f"{said('begun')}: {said('chip_named', chip=it['chip'])}, {said('begun_where', **it)}")[:width]
         for it in board["under_way"]
     ]
-    return [*first, *sockets, *textwrap.wrap(f"{said(board['start'])} {said('help')}", width), *last][:height]
+    return [*first, *sockets, *textwrap.wrap(f"{start_told(board)} {said('help')}", width), *last][:height]
 
 
 class Screen:
@@ -202,7 +206,7 @@ class Screen:
         now = {f"{it['name']}": f"{it['state']} {it['step']} {it['chip']} {it['sentence']}" for it in board["sockets"]}
         now["server"] = f"away, {board['away']['why']}" if board["away"] else "there"
         now["line"] = f"STOPPED: {board['stopped']}" if board["stopped"] else "goes on"
-        now["bench"] = f"{said(board['start'])} {said('help')}"
+        now["bench"] = f"{start_told(board)} {said('help')}"
         now["notice"] = board["notice"]
         now["question"] = board["question"]["text"] if board["question"] else ""
         for name, told in now.items():

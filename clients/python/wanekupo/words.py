@@ -100,7 +100,7 @@ def step_said(step: str) -> str:
 
 def reason_said(reason: str) -> str:
     """How the counts name an ending."""
-    return SAID["reasons"].get(reason, reason)
+    return SAID["reasons"].get(reason, reason.replace("_", " "))
 
 
 def state_said(state: str) -> str:
