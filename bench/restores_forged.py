@@ -140,7 +140,7 @@ def test_folders(bench):
     (own / "a1-2026-11-30.journal").unlink()
     with open(own / "a1-2026-11-30.journal", "wb") as large:
         large.truncate(3 << 30)
-    bench.refuses("has more than 2048 MB or 4000000 lines of journals", journals=[journals])
+    bench.refuses("has more than 512 MB or 2000000 lines of journals", journals=[journals])
     shutil.move(journals / "a1", bench.folder / "aside")
     (journals / "a1").symlink_to(journals / "b1")
     bench.refuses("is a link, and isn't followed", journals=[journals])

@@ -8,10 +8,13 @@ journals):
 
 A line of another seat stops a restore before it moves anything, and so does one whose digest isn't that of what it
 asks. No link is followed below the folder of all, and files are plain ones, of a bounded size. All that a restore does
-it does by the lines that were read here: what comes meanwhile changes nothing.
+it does by the lines that were read here: what comes meanwhile changes nothing. Whatever is wrong with a customer's
+journals is told as that customer's, so that the others go on.
 """
 
+import contextlib
 import os
+import resource
 import sys
 from collections.abc import Iterable, Iterator
 from dataclasses import dataclass
@@ -22,17 +25,19 @@ from backup_copy import said_of
 from restore_plan import Customer, Placed, RestoreError, SeatJournal, error_of
 from wanekupo.books.steps import digest_fault
 from wanekupo.errors import StationError
-from wanekupo.journal import OF_A_DAY, SUFFIX, journals_of
-from wanekupo.journal_lines import Folders, lines_of
+from wanekupo.journal import OF_A_DAY, journals_of
+from wanekupo.journal_lines import MOST, MOST_LINES, SUFFIX, Folders, journals_below, lines_of
 from wanekupo.texts import brief, shown
 
-# The most bytes and lines of a folder's journals, which are in memory all at once: those of most of a year in which a
-# machine makes 1,000 chips a day, of 8 lines each.
-MOST, MOST_LINES = 1 << 29, 2_000_000
+# How many folders of the largest size all journals are at most.
+MOST_FOLDERS = 4
 
-# What is kept of a line, and more members than a request or a reply has.
+# What is kept of a line, of what it asks and of a reply; and more members than a request or a reply has.
 KEPT = ("at", "path", "asked", "digest", "nr", "status", "reply", "resynchronized")
+ORDER = ("name", "issuer", "prefix", "width", "first", "quantity", "macs", "not_before")
+KEPT_INNER = frozenset(("nr", "chip", "public_key", "text", "csv", *ORDER, "mac", "serial", "key_sha256", "state"))
 MOST_MEMBERS = 64
+NOTHING: dict[str, Any] = {}
 
 @dataclass(frozen=True)
 class Source:
@@ -90,11 +95,11 @@ def _shipped(path: Path, folders: Folders, at: Path) -> Iterator[Source]:
 
 
 def _files_of(source: Source) -> list[Path]:
-    """The files of a source's journals, in all folders below."""
-    if not source.path.is_dir():
-        return [source.path]
-    walked = os.walk(source.path, onerror=_unread)
-    return [Path(folder, it) for folder, _, names in walked for it in sorted(names) if it.endswith(SUFFIX)]
+    """The files of a source's journals, in its folder and in those in it."""
+    try:
+        return journals_below(source.path) if source.path.is_dir() else [source.path]
+    except OSError as error:
+        _unread(error)
 
 
 # What they say.
@@ -113,14 +118,14 @@ def _placed(file: Path, size: int) -> Iterator[Placed]:
 
 
 def _slim(line: dict[str, Any]) -> dict[str, Any]:
-    """What a restore needs of a line. It asks by members that are texts and numbers: of a list or an object, which may
-    take 25 times its bytes in memory, it needs that one is there."""
+    """What a restore needs of a line. It asks by members that are texts and numbers, and of a reply that refuses it
+    needs nothing."""
     kept = {name: line[name] for name in KEPT if name in line}
+    for name in kept.keys() & {"at", "path"}:
+        kept[name] = sys.intern(kept[name])
     for name in kept.keys() & {"asked", "reply"}:
-        pairs = kept[name].items()
-        kept[name] = {sys.intern(key): type(it)() if isinstance(it, (dict, list)) else it for key, it in pairs}
-    if "path" in kept:
-        kept["path"] = sys.intern(kept["path"])
+        pairs = kept[name].items() if line.get("status", 200) == 200 else ()
+        kept[name] = {sys.intern(key): it for key, it in pairs if key in KEPT_INNER} or NOTHING
     return kept
 
 
@@ -160,41 +165,72 @@ def _bound(source: Source, is_within: bool) -> None:
         raise RestoreError(f"{told}: look whether they are its own, and move days from before the backup away")
 
 
-def _too_large(source: Source) -> str:
-    size = sum(os.lstat(it).st_size for it in _files_of(source)) >> 20
-    told = f"no memory is left for the journals in {source.path}, which have {size} MB"
-    return f"{told}: look whether they and the larger ones are their station's, and move old days away"
-
-
-def journals_in(source: Source, wanted: frozenset[str]) -> list[SeatJournal]:
-    """The journals of a source, by their seats. A line may be of a seat that nobody wants, and is passed over."""
-    files = _files_of(source)
-    sizes = {it: os.lstat(it).st_size for it in files}
+def _sizes_of(source: Source) -> dict[Path, int]:
+    """The sizes of a source's files, before any is read."""
+    sizes = {it: os.lstat(it).st_size for it in _files_of(source)}
     _bound(source, sum(sizes.values()) <= MOST)
+    return sizes
+
+
+def journals_in(source: Source, sizes: dict[Path, int], wanted: frozenset[str]) -> list[SeatJournal]:
+    """The journals of a source, by their seats. A line may be of a seat that nobody wants, and is passed over."""
     found: dict[tuple[int, str], list[Placed]] = {}
-    groups = [(number, file) for number, group in enumerate(journals_of(files)) for file in group]
+    groups = [(number, file) for number, group in enumerate(journals_of(sizes)) for file in group]
     placed = ((number, file, it) for number, file in groups for it in _placed(file, sizes[file]))
     for count, (number, file, it) in enumerate(placed):
         _bound(source, count < MOST_LINES)
-        seat = _tested(source, _unnamed(source, file), it)
+        try:
+            seat, kept = _tested(source, _unnamed(source, file), it), (*it[:2], _slim(it[2]))
+        except (AttributeError, KeyError, TypeError, ValueError) as error:
+            told = f"line {it[1]} of {shown(it[0])} isn't as a station writes it"
+            raise RestoreError(f"{told} ({type(error).__name__})") from error
         if seat in wanted or not seat:
-            found.setdefault((number, seat), []).append((*it[:2], _slim(it[2])))
+            found.setdefault((number, seat), []).append(kept)
     return [SeatJournal(seat, lines) for (_, seat), lines in found.items()]
 
 
+@contextlib.contextmanager
+def half_of_memory() -> Iterator[None]:
+    """Lets this process take no more than half of the memory that is free, by Linux's own guess: Python says so then,
+    where else Linux would kill."""
+    lines = (line.split() for line in Path("/proc/meminfo").read_text("ascii").splitlines())
+    free = next(int(line[1]) << 10 for line in lines if line[0] == "MemAvailable:")
+    own = int(Path("/proc/self/statm").read_text("ascii").split()[0]) * resource.getpagesize()
+    before = resource.getrlimit(resource.RLIMIT_AS)
+    resource.setrlimit(resource.RLIMIT_AS, (own + free // 2, before[1]))
+    try:
+        yield
+    finally:
+        resource.setrlimit(resource.RLIMIT_AS, before)
+
+
+def _error_of(source: Source, owner: dict[str, Customer], told: str) -> RestoreError:
+    """What is wrong with a source's journals, with the names of the customers whose they may be."""
+    names = {source.customer} if source.customer else {owner[it].name for it in source.seats if it in owner}
+    return error_of(sorted(names), f"{shown(told)}. Nothing was moved")
+
+
 def take_journals(sources: Iterable[Source], customers: dict[str, Customer], left_out: Iterable[str]) -> None:
-    """Gives each customer its journals. Those of one that is left out aren't read, where they have a folder."""
+    """Gives each customer its journals. Those of one that is left out aren't read, where they have a folder. Where all
+    together are too many, the folder that has most is named."""
     owner = {seat: it for name, it in customers.items() if name not in left_out for seat in it.seats}
+    read: dict[Source, int] = {}
     for source in sources:
         if source.customer in left_out or not source.seats & owner.keys():
             continue
-        names = {source.customer} if source.customer else {owner[it].name for it in source.seats if it in owner}
         try:
-            found = journals_in(source, frozenset(owner))
+            sizes = _sizes_of(source)
+            read[source] = sum(sizes.values())
+            if sum(read.values()) > MOST_FOLDERS * MOST:
+                raise MemoryError
+            found = journals_in(source, sizes, frozenset(owner))
         except (RestoreError, StationError, OSError) as error:
-            raise error_of(sorted(names), f"{shown(said_of(error))}. Nothing was moved") from None
+            raise _error_of(source, owner, said_of(error)) from None
         except MemoryError:
-            raise error_of(sorted(names), f"{_too_large(source)}. Nothing was moved") from None
+            most = max(read, key=lambda it: read[it])
+            told = f"no memory is left for all journals, and most are in {most.path}, {read[most] >> 20} MB"
+            look = "look whether they are its station's, and move days from before the backup away"
+            raise _error_of(most, owner, f"{told}: {look}") from None
         for journal in found:
             customer = owner[journal.seat] if journal.seat else customers[source.customer]
             customer.journals.append(journal)

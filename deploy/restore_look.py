@@ -27,6 +27,9 @@ TABLES = {
 # The last request of each seat that a store has.
 SEATS = "SELECT name, last, lower(hex(digest)) AS digest FROM seat"
 
+# How many gaps of a seat's numbers are told: who writes its journal could fill a screen.
+MOST_GAPS = 20
+
 # Without these the same serial numbers and addresses would come once more.
 NEEDED = ("orders", "serial numbers")
 
@@ -140,7 +143,8 @@ def gaps_of(numbers: Collection[int], last: int) -> str:
     """The numbers behind a last one that aren't there, up to the greatest that is, as one reads them: 4, 7 to 9."""
     there = [last, *sorted(it for it in numbers if it > last)]
     spans = [(a + 1, b - 1) for a, b in zip(there, there[1:]) if b > a + 1]
-    return ", ".join(str(a) if a == b else f"{a} to {b}" for a, b in spans)
+    told = [str(a) if a == b else f"{a} to {b}" for a, b in spans[:MOST_GAPS]]
+    return ", ".join(told if len(spans) <= MOST_GAPS else [*told, f"and in {len(spans) - MOST_GAPS} more places"])
 
 
 def number_gaps(

@@ -19,7 +19,7 @@ from token_file import Outer, TokenError, Tokens, read, tokens_of
 from wanekupo.errors import StationError
 from wanekupo.journal import Asked, requests_in, serials_of
 from wanekupo.restore import tested_requests
-from wanekupo.texts import shown
+from wanekupo.texts import brief, shown
 
 # How the name of a seat begins that is for restores alone.
 OWN = "restore"
@@ -43,6 +43,9 @@ def named(customer: str) -> Iterator[None]:
         raise error_of([customer], "no memory is left for its journals: move old days away") from None
     except StationError as error:
         raise error_of([customer], told_of(error)) from error
+    except (ArithmeticError, AttributeError, LookupError, RecursionError, TypeError, ValueError) as error:
+        told = f"its journals have what no station writes ({type(error).__name__}: {shown(brief(error))})"
+        raise error_of([customer], told) from error
 
 
 # A line of a journal, with its file and its number there.
@@ -102,11 +105,16 @@ def standing(lines: Iterable[Placed]) -> Requests:
     """The requests of a seat that are or may be done, by their numbers. Where the station was told to go on with a
     lower number, those with greater ones are of a store that is no more."""
     found: Requests = {}
+    known: list[int] = []  # the numbers with a minus, the greatest in front
     for file, number, line in lines:
         if "resynchronized" in line:
-            found = {it: those for it, those in found.items() if it < line["resynchronized"]}
+            while known and -known[0] >= line["resynchronized"]:
+                found.pop(-heapq.heappop(known), None)
             continue
-        those = found.setdefault(line["asked"]["nr"] if "asked" in line else line["nr"], [])
+        nr = line["asked"]["nr"] if "asked" in line else line["nr"]
+        if nr not in found:
+            heapq.heappush(known, -nr)
+        those = found.setdefault(nr, [])
         if "asked" in line:
             digest = line.get("digest", "")  # one that a person wrote may have none
             if not those or those[-1].digest != digest:

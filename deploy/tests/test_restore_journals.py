@@ -3,11 +3,15 @@
 import hashlib
 import json
 import os
+import resource
+import subprocess
+from pathlib import Path
 
 import pytest
 import restore_journals
 from restore_journals import seat_named, sources_of, take_journals
 from restore_plan import Customer, RestoreError
+from wanekupo import journal_lines
 from wanekupo.errors import BadJournal
 from wanekupo.journal_lines import folders_at, folders_in
 
@@ -188,18 +192,88 @@ def lines_of(folder):
 
 
 def test_what_is_kept_of_a_line_takes_no_more_memory_than_its_bytes(tmp_path):
-    """60,000 lists in a list are 240 KB in the file, and 4 MB in memory."""
+    """60,000 lists in a list are 240 KB in the file, and 4 MB in memory. Of a refusal nothing is kept."""
     many = {"chip": "240ac4000001", "nr": 1, "x": [[]] * 60_000}
     text = json.dumps(many, sort_keys=True, separators=(",", ":"))
     digest = hashlib.sha256(f"/v1/ship\n{text}".encode()).hexdigest()
     reply = {"at": AT, "nr": 1, "status": 200, "reply": {"state": "shipped", "mac": None, "rest": [{}] * 60_000}}
     long = asked(2, notes=[[]] * 60_000)
-    put(tmp_path / "pc7/a1.journal", asked(1, asked=many, digest=digest), reply, long)
+    refused = {"at": AT, "nr": 2, "status": 409, "reply": {"no": 17, "error": "wrong_state"}}
+    put(tmp_path / "pc7/a1.journal", asked(1, asked=many, digest=digest), reply, long, refused)
     assert lines_of(tmp_path) == [
-        {"at": AT, "path": "/v1/ship", "asked": {"chip": "240ac4000001", "nr": 1, "x": []}, "digest": digest},
-        {"at": AT, "nr": 1, "status": 200, "reply": {"state": "shipped", "mac": None, "rest": []}},
+        {"at": AT, "path": "/v1/ship", "asked": {"chip": "240ac4000001", "nr": 1}, "digest": digest},
+        {"at": AT, "nr": 1, "status": 200, "reply": {"state": "shipped", "mac": None}},
         {name: it for name, it in asked(2).items() if name != "seat"},
+        {"at": AT, "nr": 2, "status": 409, "reply": {}},
     ]
+
+
+FORMS = (
+    ("a reply that is a number", {"reply": 5}), ("a reply that is a list", {"reply": []}),
+    ("a reply that is a text", {"reply": ""}), ("a text to go on with", {"resynchronized": "x"}),
+    ("a number to go on with", {"resynchronized": 1}), ("a status", {"status": 200}),
+)  # fmt: skip
+
+
+@pytest.mark.parametrize("name, more", FORMS, ids=[it[0] for it in FORMS])
+def test_a_line_is_of_one_kind(tmp_path, name, more):
+    path = put(tmp_path / "pc9/b1.journal", asked(1, "b1"), asked(2, "b1", **more))
+    with pytest.raises(RestoreError, match=f"^bolt: line 2 of {path} is no line of a journal.*--leave-out bolt$"):
+        taken([tmp_path])
+
+
+def test_what_nobody_thought_of_is_the_customers_too(tmp_path, monkeypatch):
+    path = put(tmp_path / "pc9/b1.journal", asked(1, "b1"), asked(2, "b1"))
+    slim = restore_journals._slim
+    monkeypatch.setattr(restore_journals, "_slim", lambda line: slim(line) if line["asked"]["nr"] < 2 else line["no"])
+    with pytest.raises(RestoreError, match=f"^bolt: line 2 of {path} isn't as a station writes it .KeyError.*bolt$"):
+        taken([tmp_path])
+
+
+def test_folders_in_each_other_and_many_files_are_the_customers_too(tmp_path, monkeypatch):
+    """As rsync makes them with a station's key."""
+    put(tmp_path / "pc7/0123/old/a1.journal", asked(1))
+    put(tmp_path / "pc9/0123/b1.journal", asked(1, "b1"))
+    assert taken([tmp_path]) == {("acme", "a1"): [1], ("bolt", "b1"): [1]}
+    place = os.open(tmp_path / "pc7", os.O_RDONLY)
+    for _ in range(1500):
+        os.mkdir("d", dir_fd=place)
+        place = [os.open("d", os.O_RDONLY, dir_fd=place), os.close(place)][0]
+    os.close(place)
+    told = "^acme: .*/pc7/d/d has a folder in it, and no journal lies so deep.*The others go on by --leave-out acme$"
+    try:
+        with pytest.raises(RestoreError, match=told):
+            taken([tmp_path])
+        assert taken([tmp_path], left_out=["acme"]) == {("bolt", "b1"): [1]}
+    finally:
+        subprocess.run(["rm", "-r", tmp_path / "pc7/d"], check=True)  # pytest removes by recursion
+    monkeypatch.setattr(journal_lines, "MOST_FILES", 3)  # of pc7 two folders and a file
+    assert taken([tmp_path]) == {("acme", "a1"): [1], ("bolt", "b1"): [1]}
+    (tmp_path / "pc7/more").touch()
+    with pytest.raises(RestoreError, match="^acme: .*/pc7 has more than 3 files.*--leave-out acme$"):
+        taken([tmp_path])
+
+
+def test_all_folders_together_are_bounded_and_the_largest_is_named(tmp_path, monkeypatch):
+    put(tmp_path / "pc7/a1.journal", asked(1), asked(2))
+    size = put(tmp_path / "pc9/b1.journal", asked(1, "b1")).stat().st_size
+    monkeypatch.setattr(restore_journals, "MOST_FOLDERS", 1)
+    monkeypatch.setattr(restore_journals, "MOST", 3 * size)
+    assert taken([tmp_path]) == {("acme", "a1"): [1, 2], ("bolt", "b1"): [1]}
+    monkeypatch.setattr(restore_journals, "MOST", 3 * size - 1)
+    with pytest.raises(RestoreError, match="^acme: no memory is left for all journals, and most are in .*/pc7, 0 MB"):
+        taken([tmp_path])
+
+
+def test_no_more_than_half_of_the_free_memory_is_taken():
+    lines = Path("/proc/meminfo").read_text("ascii").splitlines()
+    free = next(int(it.split()[1]) << 10 for it in lines if it.startswith("MemAvailable"))
+    before = resource.getrlimit(resource.RLIMIT_AS)
+    with restore_journals.half_of_memory():
+        with pytest.raises(MemoryError):
+            bytearray(free * 5 // 8)
+        bytearray(1 << 20)
+    assert resource.getrlimit(resource.RLIMIT_AS) == before
 
 
 def test_no_memory_is_told_by_the_folder_and_the_others_go_on(tmp_path, monkeypatch):

@@ -14,6 +14,7 @@ GAPS = (
     ([5, 8, 9, 12], 4, "6 to 7, 10 to 11"),
     ([1, 2], 4, ""),
     ([], 4, ""),
+    (range(2, 90, 2), 0, ", ".join(map(str, range(1, 40, 2))) + ", and in 24 more places"),  # it fills no screen
     ([2**53 - 1], 0, f"1 to {2**53 - 2}"),  # a number that no seat comes to costs no time
 )
 

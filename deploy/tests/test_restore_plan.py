@@ -1,6 +1,7 @@
 """What a restore goes by: requests that stand, tokens, seats, and who may be left out."""
 
 import hashlib
+import time
 from pathlib import Path
 
 import pytest
@@ -57,6 +58,14 @@ STANDING = (
 def test_what_stands(name, lines, expected):
     found = standing(placed(*lines))
     assert {nr: [(it.digest, it.is_done) for it in those] for nr, those in found.items()} == expected
+
+
+def test_lines_that_go_on_cost_no_more_where_there_are_many():
+    """A minute and more where each of them looked at each number."""
+    lines = [asked(it) for it in range(1, 20_001)] + 20_000 * [{"at": AT.format(1), "resynchronized": 2**53 - 1}]
+    begun = time.process_time()
+    assert len(standing(placed(*lines, {"at": AT.format(2), "resynchronized": 3}))) == 2
+    assert time.process_time() - begun < 5
 
 
 def test_a_place_is_safe_to_print():
@@ -133,6 +142,14 @@ def test_an_error_of_the_client_has_its_advice_and_the_way_on():
 def test_no_memory_is_told_by_the_customer():
     with pytest.raises(RestoreError, match="^bolt: no memory is left .* by --leave-out bolt$"), named("bolt"):
         raise MemoryError
+
+
+def test_what_nobody_thought_of_is_told_by_the_customer():
+    with pytest.raises(RestoreError, match=r"^bolt: its journals have what no station writes \(KeyError.* bolt$"):
+        with named("bolt"):
+            raise KeyError("x" * 900)
+    with pytest.raises(OSError, match="full"), named("bolt"):  # the disk is nobody's
+        raise OSError("full")
 
 
 def test_customers(tmp_path):

@@ -8,6 +8,7 @@ from __future__ import annotations
 import hashlib
 import json
 import tempfile
+import time
 import unittest
 from pathlib import Path
 from types import SimpleNamespace
@@ -16,6 +17,7 @@ from unittest import mock
 from books_case import DAY
 from commanding import ran
 
+from wanekupo.books import steps
 from wanekupo.books.audit import Audit, _journal_faults
 from wanekupo.books.audit_page import counted
 from wanekupo.books.chain import BadChain, Chain, sealed
@@ -27,6 +29,7 @@ from wanekupo.books.shift import Period
 from wanekupo.books.stamp import verified
 from wanekupo.books.steps import book_of
 from wanekupo.books.stored import Seat
+from wanekupo.errors import BadJournal
 from wanekupo.journal import request_digest
 
 PERIOD = Period(f"{DAY}06:00:00Z", f"{DAY}14:00:00Z")
@@ -108,6 +111,40 @@ class Turns(SeatCase):
                 found, _ = self.spans(books, self.store(*last))
                 self.assertEqual([len(found), *(it in " ".join(found) for it in words)],
                                  [len(words), *(True for _ in words)], found)
+
+    def test_a_clock_that_errs(self):
+        """A line of a time far away, before or behind, lays the others of its journal nowhere else."""
+        for at in ("2001-01-01T00:00:00Z", "2071-01-01T00:00:00Z"):
+            first = row(1, 5, "07")
+            for line in first[4:6]:
+                line["at"] = at
+            found, _ = self.spans([first, [goes_on("08:00:00", 4), *done("08:01:00", 4, "n4")]], self.store(4, "n4"))
+            self.assertEqual(["became an older one" in it for it in found], [True], found)
+
+    def test_many_turns(self):
+        """Time grows with the lines: of a seat that goes on again and again, with numbers that it had and others."""
+        again = [line for it in range(4000) for line in (goes_on("08:00:00", 2), *done("08:00:00", 2, f"n{it}"))]
+        ahead = [line for it in range(1, 4001) for line in done("07:00:00", it, f"c{it}")]
+        ahead += [goes_on("08:00:00", 2**53 - 1) for _ in range(8000)]
+        for books, last, turns in (([[*row(1, 1, "07"), *again]], (2, "n3999"), 3999), ([ahead], (4000, "c4000"), 0)):
+            begun = time.process_time()
+            found, _ = self.spans(books, self.store(*last))
+            self.assertEqual(len(found), turns)
+            self.assertLess(time.process_time() - begun, 6)
+
+    def test_a_folder_is_bounded(self):
+        """All journals of a station's folder together, by its lines and by its bytes."""
+        (self.folder / "pc7").mkdir()
+        files = [self.book(row(1, 2, "07"), f"pc7/{name}").files[0] for name in ("a", "b")]
+        size = sum(Path(it).stat().st_size for it in files)
+        seats = {"pc7": frozenset(["a1"])}
+        for bounds, is_read in (((size, 8), True), ((size, 7), False), ((size - 1, 8), False)):
+            with mock.patch.object(steps.Room.__init__, "__defaults__", bounds):
+                if is_read:
+                    self.assertEqual(len(list(steps.shipped_books(self.folder, seats))), 2)
+                    continue
+                with self.assertRaisesRegex(BadJournal, "with .*pc7/b.journal these journals have more than"):
+                    list(steps.shipped_books(self.folder, seats))
 
     def test_order(self):
         """A chip's lines come by their numbers, whatever the journals' order and the clock."""

@@ -5,6 +5,7 @@ it is on the machine. The names in deploy/prometheus are held to what the comman
 
 from __future__ import annotations
 
+import contextlib
 import json
 import os
 import re
@@ -315,6 +316,31 @@ class Journals(StationCase):
             found, told = self.metrics()
             self.assertEqual(found[1], 1)
             self.assertIn(f"line behind byte 52 of {broken} is no line of a journal. Look at it in a copy", told)
+
+    def test_folders_each_by_itself(self):
+        """One that can't be read has a sample of its own, and each other one counts: folders in each other, as a
+        station's key can ship them, too many files, and one that is another user's."""
+        self.add(ASKED, STOPPED)
+        deep = self.journals / "bolt"
+        deep.mkdir()
+        with contextlib.chdir(deep):
+            for _ in range(1200):
+                os.mkdir("d")
+                os.chdir("d")
+        self.addCleanup(subprocess.run, ["rm", "-r", deep], check=True)
+        (self.journals / "cole").mkdir()
+        (self.journals / "cole" / "c1.journal").write_text("none\n", encoding="ascii")
+        (self.journals / "many").mkdir()
+        for number in range(6):
+            (self.journals / "many" / f"{number}.journal").touch()
+        with mock.patch("wanekupo.journal_lines.MOST_FILES", 5):
+            _, text, told = ran("metrics", "--journals", self.journals)
+        found, name = values_of(text), "wanekupo_metrics_success{folder"
+        for folder, is_read in (("acme", 1), ("bolt", 0), ("cole", 0), ("many", 0)):
+            self.assertEqual(found[f'{name}="{folder}",part="journals"}}'], is_read, folder)
+        self.assertEqual(found['wanekupo_seat_out_of_step{seat="a1"}'], 1)
+        for words in ("bolt/d/d has a folder in it", "cole/c1.journal is no line", "many has more than 5 files"):
+            self.assertIn(words, told)
 
     def test_a_clock_that_is_ahead(self):
         """A line of a time to come doesn't keep the later ones from counting."""

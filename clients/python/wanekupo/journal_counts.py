@@ -14,9 +14,11 @@ from typing import Any, Optional
 
 from wanekupo.errors import BadJournal, UnsafeFile
 from wanekupo.exposition import Samples
-from wanekupo.journal import OF_A_DAY, SUFFIX
-from wanekupo.journal_lines import Folders, folders_at, lines_of
+from wanekupo.journal import OF_A_DAY
+from wanekupo.journal_lines import SUFFIX, Folders, folders_at, journals_below, lines_of
 from wanekupo.moments import moment_of, text_of
+from wanekupo.printing import warn
+from wanekupo.sentences import sentence_of
 from wanekupo.states import LOST
 from wanekupo.texts import brief
 
@@ -111,27 +113,47 @@ def read_on(counts: Counts, file: Path, seats: Optional[frozenset[str]]) -> Opti
 
 
 def add_journals(samples: Samples, kept: dict[str, Any], folders: list[Path], owners: Path) -> None:
-    """The counts of all journals in folders and in the folders in them. Where one can't be read the others count. Where
-    there is a file of whose the folders are, no seat has counts but by its own folder."""
+    """The counts of all journals in folders and in the folders in them. Where one can't be read it is told, and the
+    others count. Where there is a file of whose the folders are, no seat has counts but by its own folder."""
     counts, known = Counts(kept), folders_at(owners)
-    files = {file: folder for folder in folders for file in sorted(folder.rglob(f"*{SUFFIX}"))}
-    if not files:
-        raise BadJournal(f"no journal in {', '.join(map(str, folders))}", "Look where the stations' journals come to.")
-    counts.forget(list(files))
     if known:
         counts.keep_only(known)
-    faults = [fault for file in files if (fault := read_on(counts, file, _seats_of(file, files[file], known)))]
+    files, faults = _files_of(folders, known)
+    if not any(files.values()) and not faults:
+        raise BadJournal(f"no journal in {', '.join(map(str, folders))}", "Look where the stations' journals come to.")
+    counts.forget([file for own in files.values() for file in own])
+    for place, own in files.items():
+        seats = known.get(place.name, frozenset()) if known else None
+        for fault in filter(None, [read_on(counts, file, seats) for file in own]):
+            faults.setdefault(place, fault)
     for name, seat in counts.seats.items():
         _add_seat(samples, name, seat)
+    for place in files | faults:
+        samples.add("wanekupo_metrics_success", place not in faults, part="journals", folder=place.name)
+    for fault in list(faults.values())[1:]:
+        warn(f"journals: {sentence_of(fault)}")
     if faults:
-        raise faults[0]
+        raise next(iter(faults.values()))
 
 
-def _seats_of(file: Path, folder: Path, known: Folders) -> Optional[frozenset[str]]:
-    """The seats that a file may be of; None where nothing says so. A folder is one in the folder of all, or is given
-    itself."""
-    name = folder.name if folder.name in known else file.relative_to(folder).parts[0]
-    return known.get(name, frozenset()) if known else None
+def _places(folder: Path, known: Folders) -> list[Path]:
+    """The folders that are read each by itself: a station's, or the folder of all and those in it."""
+    own = [] if folder.name in known else [it for it in folder.iterdir() if it.is_dir() and not it.is_symlink()]
+    return [folder, *sorted(own)]
+
+
+def _files_of(folders: list[Path], known: Folders) -> tuple[dict[Path, list[Path]], dict[Path, BadJournal]]:
+    """The journals of each folder, and what is wrong with one that can't be read."""
+    files, faults = dict[Path, list[Path]](), dict[Path, BadJournal]()
+    for place in (it for folder in folders for it in _places(folder, known)):
+        is_of_all = place in folders and place.name not in known
+        try:
+            files[place] = sorted(place.glob(f"*{SUFFIX}")) if is_of_all else journals_below(place)
+        except BadJournal as error:
+            faults[place] = error
+        except OSError as error:
+            faults[place] = BadJournal(f"{place} can't be read: {error}", "Look whose it is.")
+    return files, faults
 
 
 def _add_seat(samples: Samples, name: str, seat: dict[str, Any]) -> None:

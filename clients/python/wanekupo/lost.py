@@ -25,7 +25,7 @@ def given_up(
             path, chip = asked["path"], asked["asked"].get("chip", "")
             reply = answer["reply"] if answer and answer["status"] == 200 else {}
             if path == "/v1/device" and reply:
-                orders[chip] = asked["asked"]["order"]
+                orders[chip] = asked["asked"].get("order", "")
             elif not answer and path in ("/v1/readback", "/v1/scrap"):
                 unanswered[chip] = (asked["at"], f"{asked['at']} {journal}: no reply to {path} of {chip}")
             elif reply:

@@ -18,7 +18,7 @@ from wanekupo.command_row import Command, words
 from wanekupo.config import Settings
 from wanekupo.errors import BadSettings, StationError
 from wanekupo.files import opened_own, replace_file, tested_folder
-from wanekupo.journal import SUFFIX
+from wanekupo.journal_lines import SUFFIX
 from wanekupo.printing import say_json
 
 # What rsync waits for a reply, and the whole of a run, in seconds.

@@ -70,7 +70,7 @@ class Contradiction(NamedTuple):
 def contradictions(pairs: Sequence[Timed]) -> Iterator[Contradiction]:
     """The lines whose times contradict the longest run of lines whose times don't fall along the ids. Pairs come in the
     order of their ids, and so do these."""
-    run = _longest_run([_begin(step) for _, step in pairs])
+    run = longest_run([_begin(step) for _, step in pairs])
     answered = _answered_behind(pairs, run)
     latest: int = -1
     for place, (_, step) in enumerate(pairs):
@@ -106,7 +106,7 @@ def _answered_behind(pairs: Sequence[Timed], run: bytearray) -> array[int]:
     return found
 
 
-def _longest_run(times: Sequence[str]) -> bytearray:
+def longest_run(times: Sequence[str]) -> bytearray:
     """Which times are of a longest run that doesn't fall: 1 at their places."""
     ends: list[str] = []
     places, before = array("q"), array("q")

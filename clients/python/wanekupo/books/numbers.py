@@ -6,11 +6,15 @@ that it had, the store was replaced by an older one, and a turn of the seat begi
 
 from __future__ import annotations
 
+import heapq
 import json
-from collections import Counter
+from bisect import bisect_left
+from collections import Counter, defaultdict
 from dataclasses import dataclass, field
-from typing import Any, Iterable, Iterator, NamedTuple, Optional, Sequence
+from itertools import accumulate
+from typing import Any, Iterable, Iterator, NamedTuple, Optional, Sequence, Union
 
+from wanekupo.books.clocks import longest_run
 from wanekupo.books.matching import Seated
 from wanekupo.books.shift import Period
 from wanekupo.books.steps import Book, Step
@@ -36,20 +40,9 @@ class Turn(NamedTuple):
     that of the journal's first request."""
 
     at: str
-    book: int
-    place: int
     number: int
     told: str
     digest: str
-
-    def is_before(self, book: int, place: int, step: Step) -> bool:
-        return place >= self.place if book == self.book else step.at > self.at
-
-    def is_of_older(self, step: Step) -> bool:
-        """Whether an accepted line in front shows that the store is an older one here."""
-        if self.digest:
-            return step.number == self.number and step.digest != self.digest
-        return step.number >= self.number
 
 
 def counts(it: Seated, step: Step, store: Books, period: Period) -> bool:
@@ -87,51 +80,74 @@ def spans_of(journals: Iterable[Seated], store: Books, period: Period) -> list[S
 # Turns.
 
 
-def _turns(books: Sequence[Book]) -> list[Turn]:
-    """Where the store became an older one, by all journals of a seat."""
-    marks = []
-    for number, book in enumerate(books):
-        for it in book.resynchronized:
-            marks.append(Turn(it.at, number, it.behind, it.number, f"line {it.line} of {it.file}", ""))
-        for step in book.steps[:1]:
-            if step.is_done():
-                marks.append(Turn(step.at, number, 0, step.number, step.place(), step.digest))
-    found: list[Turn] = []
-    for mark in sorted(marks):
-        if any(mark.is_of_older(it) for it in _accepted_between(books, found[-1:], mark)):
-            found.append(mark)
+# A line of a journal, or where a turn may begin, and the time by which it is laid among those of other journals.
+Laid = tuple[str, Union[Step, Turn]]
+
+
+def _lines_of(book: Book) -> Iterator[Union[Step, Turn]]:
+    """A journal's lines, with where turns may begin."""
+    marks: dict[int, list[Turn]] = defaultdict(list)
+    for it in book.resynchronized:
+        marks[it.behind].append(Turn(it.at, it.number, f"line {it.line} of {it.file}", ""))
+    if book.steps and book.steps[0].is_done():
+        step = book.steps[0]
+        marks[0].append(Turn(step.at, step.number, step.place(), step.digest))
+    for place, step in enumerate(book.steps):
+        yield from marks.pop(place, ())
+        yield step
+    yield from marks.pop(len(book.steps), ())
+
+
+def _laid(book: Book) -> list[Laid]:
+    """The same with their times. That of a line that contradicts most others is the time of one in front, so that times
+    never fall."""
+    lines = list(_lines_of(book))
+    run = longest_run([it.at for it in lines])
+    found, at = list[Laid](), next((it.at for it, is_sure in zip(lines, run) if is_sure), "")
+    for it, is_sure in zip(lines, run):
+        at = it.at if is_sure else at
+        found.append((at, it))
     return found
 
 
-def _accepted_between(books: Sequence[Book], last: Sequence[Turn], mark: Turn) -> Iterator[Step]:
-    for number, book in enumerate(books):
-        for place, step in enumerate(book.steps):
-            is_behind = all(it.is_before(number, place, step) for it in last)
-            if step.is_done() and is_behind and not mark.is_before(number, place, step):
-                yield step
+def _in_turns(books: Sequence[Book]) -> tuple[list[Turn], list[Step]]:
+    """Where the store became an older one, and the lines of all journals of a seat, each with its turn: by one pass
+    over them in the order of time. A store is an older one where a line goes on with a number that was accepted since
+    the turn before; where a journal begins, with one that was another request."""
+    turns, steps = list[Turn](), list[Step]()
+    most, digests = float("-inf"), defaultdict[int, set[str]](set)
+    for _, it in heapq.merge(*map(_laid, books), key=lambda it: it[0]):
+        if isinstance(it, Step):
+            it.turn = len(turns)
+            steps.append(it)
+            if it.is_done():
+                most = max(most, it.number)
+                digests[it.number].add(it.digest)
+            continue
+        same = digests.get(it.number, set())
+        if len(same) > (it.digest in same) if it.digest else most >= it.number:
+            turns.append(it)
+            most, digests = float("-inf"), defaultdict(set)
+    return turns, steps
 
 
 def _own_turn(seat: Seat, steps: Sequence[Step], turns: Sequence[Turn], period: Period) -> int:
     """Which turn the store is of: the last one. Of those that begin behind the period it may be too early."""
     own = len(turns)
-    while own and turns[own - 1].at >= period.end:
-        if any((it.turn, it.number, it.digest) == (own, seat.last, seat.digest) for it in steps):
-            break
+    with_last = {it.turn for it in steps if (it.number, it.digest) == (seat.last, seat.digest)}
+    while own and turns[own - 1].at >= period.end and own not in with_last:
         own -= 1
     return own
 
 
-def _in_order(seat: Seat, books: Sequence[Book], turns: Sequence[Turn], period: Period) -> tuple[list[Step], int]:
-    """A seat's lines by their turns and numbers, and which turn the store is of: that is 0 in the lines."""
-    steps = []
-    for number, book in enumerate(books):
-        for place, step in enumerate(book.steps):
-            step.turn = sum(it.is_before(number, place, step) for it in turns)
-            steps.append(step)
+def _in_order(seat: Seat, books: Sequence[Book], period: Period) -> tuple[list[Step], list[Turn]]:
+    """A seat's lines by their turns and numbers, and the turns up to the one that the store is of: that is 0 in the
+    lines."""
+    turns, steps = _in_turns(books)
     own = _own_turn(seat, steps, turns, period)
     for step in steps:
         step.turn -= own
-    return sorted(steps, key=lambda it: (it.turn, it.number)), own
+    return sorted(steps, key=lambda it: (it.turn, it.number)), turns[:own]
 
 
 def _settle(seat: Seat, steps: Sequence[Step], turns: Sequence[Turn], span: Span) -> set[int]:
@@ -148,15 +164,16 @@ def _settle(seat: Seat, steps: Sequence[Step], turns: Sequence[Turn], span: Span
         elif first is not it:
             gone.add(id(it))
     asked = Counter((it.turn, it.number) for it in steps if not it.is_done())
+    least = list(accumulate((turn.number for turn in reversed(turns)), min))  # of the last turns, by how many
     for it in steps:
         done = accepted.get((it.turn, it.number))
         if done and done.digest == it.digest:
             done.since = min(done.since or done.at, it.at)
-        later = turns[len(turns) + it.turn :] if it.turn < 0 else ()
-        it.is_lost = it.turn > 0 or it.number >= min((turn.number for turn in later), default=seat.last + 1)
+        is_older = it.turn < 0
+        it.is_lost = it.turn > 0 or it.number >= (least[-it.turn - 1] if is_older else seat.last + 1)
         is_sure = it.is_done() or it.status is None and asked[it.turn, it.number] == 1
         it.is_stored = is_sure and not it.is_lost
-        if it.status is None and (done or later and it.is_lost):
+        if it.status is None and (done or is_older and it.is_lost):
             gone.add(id(it))
     return gone
 
@@ -164,9 +181,7 @@ def _settle(seat: Seat, steps: Sequence[Step], turns: Sequence[Turn], span: Span
 def _span_of(seat: Seat, books: list[Book], period: Period) -> Span:
     span = Span(seat.name, seat.customer, "")
     books = sorted(books, key=lambda it: it.times[:1])
-    turns = _turns(books)
-    steps, own = _in_order(seat, books, turns, period)
-    turns = turns[:own]
+    steps, turns = _in_order(seat, books, period)
     gone = _settle(seat, steps, turns, span)
     begun = {id(book.steps[0]) for book in books if book.steps}
     for book in books:
@@ -218,8 +233,13 @@ def _count(span: Span, seat: Seat, steps: list[Step], turns: Sequence[Turn], per
 
 def _older_faults(done: Sequence[Step], turns: Sequence[Turn], period: Period) -> Iterator[str]:
     """Accepted lines of the period whose numbers were given again: the store became an older one within it."""
+    greatest = list[Step]()  # those with a number greater than all in front
+    for it in done:
+        if period.has(it.at) and (not greatest or it.number > greatest[-1].number):
+            greatest.append(it)
     for place, turn in enumerate(turns, -len(turns)):
-        gone = next((it for it in done if it.turn <= place and it.number >= turn.number and period.has(it.at)), None)
+        first = bisect_left(greatest, turn.number, key=lambda it: it.number)
+        gone = next((it for it in greatest[first : first + 1] if it.turn <= place), None)
         if gone:
             told = f"{turn.told} goes on with the number {turn.number}, and {gone.place()}, number {gone.number}"
             yield f"{told}, was accepted at {gone.at}: the store became an older one within the period"

@@ -7,6 +7,7 @@ chip is counted by customer and name. `wanekupo.yields` says what the yield is.
 from __future__ import annotations
 
 import statistics
+from bisect import bisect_left
 from collections import Counter, defaultdict
 from dataclasses import dataclass, field
 from datetime import datetime
@@ -290,7 +291,8 @@ def _stops(customer: str, books: Iterable[Book], period: Period) -> list[Stopped
             no, expected = step.reply.get("no"), step.reply.get("expected")
             told = f"out of step ({no}): number {step.number}"
             told += f", and the server expects {expected}" if expected is not None else ""
-            behind = next((at for at in went_on if at >= step.answered), "")
+            place = bisect_left(went_on, step.answered)
+            behind = "".join(went_on[place : place + 1])
             found.append(Stopped(step.answered, customer, name, told, behind if behind < period.end else ""))
     last = next((it for it in reversed(steps) if it.at < period.end), None)
     is_given_up = last is not None and any(last.at <= at < period.end for at in told_on)

@@ -12,9 +12,9 @@ from pathlib import Path
 from typing import Any, Iterable, Iterator, Optional, Union
 
 from wanekupo.errors import BadJournal
-from wanekupo.journal import SUFFIX, journals_of, request_digest
+from wanekupo.journal import journals_of, request_digest
 from wanekupo.journal_counts import seat_named
-from wanekupo.journal_lines import Folders, Name, lines_of
+from wanekupo.journal_lines import MOST, MOST_LINES, SUFFIX, Folders, Name, journals_below, lines_of
 from wanekupo.moments import moment_of
 from wanekupo.texts import brief
 
@@ -233,17 +233,34 @@ def _others(line: Members, file: Path, seats: Optional[frozenset[str]]) -> str:
     return "" if line["seat"] in seats else told
 
 
-def book_of(files: Iterable[Path], seats: Optional[frozenset[str]] = None) -> Book:
+@dataclass
+class Room:
+    """How much of a folder's journals may still be read: all of it is in memory at once."""
+
+    bytes: int = MOST
+    lines: int = MOST_LINES
+
+    def take(self, path: Path, size: int) -> None:
+        self.bytes, self.lines = self.bytes - size, self.lines - 1
+        if self.bytes < 0 or self.lines < 0:
+            told = f"with {path} these journals have more than {MOST >> 20} MB or {MOST_LINES} lines"
+            raise BadJournal(told, "Look whether they are their station's, and move old days away.")
+
+
+def book_of(files: Iterable[Path], seats: Optional[frozenset[str]] = None, room: Optional[Room] = None) -> Book:
     """A journal of one seat, in the order of its files. Where it is known which seats it may be of a line of another
     one doesn't count, and the first one of a file is told."""
-    paths = list(files)
-    book = Book([str(it) for it in paths])
+    paths, room = list(files), room or Room()
+    book, told = Book([str(it) for it in paths]), set[tuple[Path, str]]()
     for path in paths:
-        last = ""
+        last, end = "", 0
         for line in lines_of(path, follows_links=seats is None):
+            room.take(path, line.end - end)
+            end = line.end
             if fault := line.fault or _others(line.members, path, seats):
-                is_told = not line.fault and any((it.file, it.told) == (str(path), fault) for it in book.faults)
+                is_told = not line.fault and (path, fault) in told
                 book.faults += [] if is_told else [Fault(str(path), line.number, last, fault)]
+                told.add((path, fault))
             else:
                 last = line.members["at"]
                 _take(book, str(path), line.number, line.members)
@@ -261,8 +278,8 @@ def shipped_books(path: Path, folders: Folders) -> Iterator[Book]:
         if it.is_symlink() or it.name not in folders and (it.is_dir() or it.suffix == SUFFIX):
             told = "Name a folder that has the stations' folders, and say in that file which seats each one has."
             raise BadJournal(f"{it} is no folder that the file of folders names", told)
-        files = sorted(it.rglob(f"*{SUFFIX}")) if it.is_dir() else []
-        yield from (book_of(group, folders[it.name]) for group in journals_of(files))
+        files, room = journals_below(it) if it.is_dir() else [], Room()
+        yield from (book_of(group, folders[it.name], room) for group in journals_of(files))
 
 
 @dataclass(frozen=True)

@@ -1,0 +1,52 @@
+"""The script of the page on backups that keeps each day's journals: what one station ships takes no other's away."""
+
+import os
+import re
+import shutil
+import subprocess
+from pathlib import Path
+
+import pytest
+
+PAGE = Path(__file__).parents[2] / "docs/how-to/back-up-and-restore.md"
+
+
+@pytest.fixture
+def keep(tmp_path):
+    """Runs the script in folders of this test; what comes back is what cron mails."""
+    if not shutil.which("rsync"):
+        pytest.skip("there is no rsync")
+    (text,) = re.findall(r"(?m)^ +#!/bin/sh\n(?: .*\n)+", PAGE.read_text(encoding="utf-8"))
+    text = text.replace("/var/backups/journals", f"{tmp_path}/kept").replace("/var/lib/journals", str(tmp_path))
+    (tmp_path / "kept").mkdir()
+
+    def run():
+        done = subprocess.run(["sh", "-c", text], capture_output=True, text=True, check=False)
+        return done.stdout + done.stderr
+
+    return run
+
+
+def test_each_folder_is_kept_by_itself(tmp_path, keep):
+    for name, size in (("pc7/1", 4), ("pc8/2", 2), ("pc9/3", 3)):
+        (tmp_path / "all" / name).mkdir(parents=True)
+        (tmp_path / "all" / name / "a.journal").write_bytes(bytes(size << 14))
+    for name in ("pc7/seven", "pc8/eight"):
+        (tmp_path / "all" / name).touch()
+        os.truncate(tmp_path / "all" / name, 200 << 20)
+    said = keep()
+    assert -1 < said.find("eight is over max-size") < said.find("seven is over max-size")
+    (day,) = (tmp_path / "kept").iterdir()
+    assert sorted(str(it.relative_to(day)) for it in day.rglob("*.journal")) == [
+        "pc7/1/a.journal", "pc8/2/a.journal", "pc9/3/a.journal"
+    ]  # fmt: skip
+    assert not (day / "pc7/seven").exists()
+    before = day.rename(day.with_name("2020-01-01"))
+    for name in ("pc7/seven", "pc8/eight"):
+        (tmp_path / "all" / name).unlink()
+    assert keep() == ""
+    assert os.path.samefile(before / "pc7/1/a.journal", day / "pc7/1/a.journal")
+    shutil.rmtree(day / "pc8")
+    (day / "pc8").touch()  # so the smallest one can't be kept
+    (tmp_path / "all/pc9/3/b.journal").touch()
+    assert "rsync error" in keep() and (day / "pc9/3/b.journal").exists()
