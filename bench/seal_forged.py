@@ -371,7 +371,7 @@ CLOCKS = [
     Forged(  # journal: what was burnt was nobody's wish
         "a plan that wished for nothing",
         journal=_wish_nothing,
-        audit=("device", ONE, "the entry 2, planned: its wishes leave it settled, and its reply says awaiting1"),
+        audit=("device", ONE, "the entry 2, planned: its lines leave it settled, and its reply says awaiting1"),
     ),
     Forged(  # store, and another customer's journal
         "an entry added, and an early line of 2098",

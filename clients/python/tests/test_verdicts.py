@@ -104,7 +104,14 @@ class Verdicts(SeatCase):
         hidden = [*LEDGER[:3], entry(4, "read", "match", bits(w0="00010080", w6="00000020")), LEDGER[4]]
         key = [*LEDGER[:2], entry(3, "read", "match", bits(w6="00000040"), BLOCK1=64 * "1"), *LEDGER[3:]]
         raised = [entry(1, "registered", burnt=FIRST["bits"] + bits(w5="00000001")), *LEDGER[1:]]
+        again = [*LEDGER[:3], entry(4, "read", "match", bits(w0="00010080"), BLOCK1=64 * "1"), LEDGER[4]]
+        bare = [FIRST, entry(2, "planned", burnt=bits(w6="00000020")), *LEDGER[2:]]
+        locked = [*LEDGER[:2], entry(3, "read", "match", bits(w6="00000040")),
+                  entry(4, "read", "match", bits(w0="00080000")), LEDGER[4]]
+        unseen = [*locked[:3], entry(4, "read", "match", bits(w0="00080000", w5="f0000000")), LEDGER[4]]
+        unlocked = [*LEDGER[:3], entry(4, "identified", "A998")]
         gone = {"state": "quarantined", "serial": None}
+        jtag = {"second": shown(JTAG), "third": shown(["00080000", *JTAG[1:]]), "wishes": [WISHES[0], HIDE[1]]}
         for name, told, ledger, device, words in (
             ("honest", life_lines(), LEDGER, {}, ""),
             ("a reply was lost", life_lines(lost=(2,)), LEDGER, {}, ""),
@@ -123,7 +130,14 @@ class Verdicts(SeatCase):
              "and lost by its blocks"),
             ("another key, in the ledger too", life_lines(), key, {}, "its blocks show other keys than its ledger has"),
             ("a bit more, in the ledger too", life_lines(), raised, {}, "its blocks show other bits than its ledger"),
-            ("wishes of nothing", life_lines(wishes=[]), LEDGER, {}, "its wishes leave it settled, and its reply says"),
+            ("wishes of nothing", life_lines(wishes=[]), LEDGER, {}, "its lines leave it settled, and its reply says"),
+            ("a key once more", life_lines(), again, {}, "its entry 4 adds a key of BLOCK1, which was known"),
+            ("a bit at a plan", life_lines(), bare, {}, "its entry 2, planned, adds bits or keys"),
+            ("a lock over nothing", life_lines(**jtag), locked, {}, ""),
+            ("bits that a lock hides", life_lines(**jtag), unseen, {}, "adds bits that a read lock hides"),
+            ("an identity without the locks", life_lines(lost=(3, 4)), unlocked, {}, "leave it awaiting2 in front of it"),
+            ("another state", [{**it, "reply": {**it["reply"], "state": "settled"}} if it.get("nr") == 3 else it
+                               for it in life_lines()], LEDGER, {}, "leave it awaiting2, and its reply says settled"),
             ("another wish", life_lines(wishes=[WISHES[0]], lost=(2,)), LEDGER, {}, "and key by its blocks"),
             ("a wish of no field", life_lines(wishes=[{"kind": "bit", "field": "X", "index": 0}]), LEDGER, {},
              "its wishes aren't of its map"),
