@@ -136,7 +136,7 @@ class Audits(BooksCase):
             other.make_order("b", "bolt-ca", "B", 3, 1, 5)
         self.program.copied(self.folder / "later")
         out = self.found(self.folder / "later" / "books.db", journal)
-        self.assertRegex(out, "no_journal +bolt +b1 +no journal of this seat was given: its 1 requests are of no")
+        self.assertRegex(out, "no_journal +bolt +b1 +no journal of this seat was given: 1 of its 1 requests are of no")
 
     def test_folders(self):
         """Root's file says whose a folder's lines are; without a folder in it nothing is read."""
@@ -276,18 +276,21 @@ class Clocks(unittest.TestCase):
                 self.assertEqual([place for place in places if window.is_outside(place)], meant)
 
     def test_lines_without_an_entry(self):
-        """A line counts by its time; the first one with the one behind it; one of later where the store has its
+        """A line counts but one of before that an older copy has not, and one of later where the store lacks its
         number."""
         store = SimpleNamespace(seats={"a": SimpleNamespace(last=4)})
         for name, times, meant in (
             ("inside", [110, 120], [1, 2]),
-            ("before", [10, 20, 110], [3]),
+            ("before", [10, 20, 110], [1, 2, 3]),
             ("the first one is before", [10, 110, 120], [1, 2, 3]),
-            ("only one, before", [10], []),
+            ("only one, before", [10], [1]),
+            ("before, of an older copy", [10, -20, 110], [1, 3]),
             ("behind, with numbers up to 4", [110, 210, 220, 230, 240], [1, 2, 3, 4]),
         ):
             with self.subTest(name):
-                steps = [step for _, step in paired(*(("a", at) for at in times))]
+                steps = [step for _, step in paired(*(("a", abs(at)) for at in times))]
+                for step, at in zip(steps, times):
+                    step.is_lost = at < 0
                 own = SimpleNamespace(seat="a", book=SimpleNamespace(steps=steps))
                 period = Period(clock(100), clock(200))
                 self.assertEqual([it.line for it in steps if counts(own, it, store, period)], meant)

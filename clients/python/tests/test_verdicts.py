@@ -115,6 +115,8 @@ class Verdicts(SeatCase):
         for name, told, ledger, device, words in (
             ("honest", life_lines(), LEDGER, {}, ""),
             ("a reply was lost", life_lines(lost=(2,)), LEDGER, {}, ""),
+            ("two plans without a reply", [*list(life_lines(wishes=WISHES[:1], lost=(2,)))[:3],
+                                           goes_on("07:02:01", 2), *list(life_lines(lost=(2,)))[2:]], LEDGER, {}, ""),
             ("all replies were lost", life_lines(lost=(1, 2, 3, 4, 5)), LEDGER, {}, ""),
             ("lost, and nothing is", list(life_lines())[:5], lost, {**gone, "reason": "lost"},
              "and match by its blocks"),
@@ -135,7 +137,7 @@ class Verdicts(SeatCase):
             ("a bit at a plan", life_lines(), bare, {}, "its entry 2, planned, adds bits or keys"),
             ("a lock over nothing", life_lines(**jtag), locked, {}, ""),
             ("bits that a lock hides", life_lines(**jtag), unseen, {}, "adds bits that a read lock hides"),
-            ("an identity without the locks", life_lines(lost=(3, 4)), unlocked, {}, "leave it awaiting2 in front of it"),
+            ("an identity without the locks", life_lines(lost=(3, 4)), unlocked, {}, "left it awaiting2 by the journal"),
             ("another state", [{**it, "reply": {**it["reply"], "state": "settled"}} if it.get("nr") == 3 else it
                                for it in life_lines()], LEDGER, {}, "leave it awaiting2, and its reply says settled"),
             ("another wish", life_lines(wishes=[WISHES[0]], lost=(2,)), LEDGER, {}, "and key by its blocks"),

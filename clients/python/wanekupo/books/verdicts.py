@@ -83,8 +83,6 @@ class Chip:
         added, before, known = work_of(row), self._ones, self._keys
         self._ones, self._keys = before | places_of(added), {**added.keys, **known}
         blocks = _blocks_of(step) if row["event"] in SHOWING else None
-        if row["event"] in ("planned", "identified") and self._batches not in (None, Batches()):
-            yield f"its lines leave it {self._batches.state()} in front of it"
         if row["event"] == "planned":
             yield from self._planned(step)
         elif row["event"] in ("identified", "scrapped"):
