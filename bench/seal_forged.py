@@ -508,10 +508,11 @@ CLOCKS = [
     ),
     Forged("a step that was never asked", journal=_again, audit=("no_entry", WAITING, "numbers", "an older store")),
     Forged("another's name", journal=_as_another, audit=("no_journal", "a2", "no_entry", "b1")),
-    Forged(  # store: it counts as one of before, which an audit from the beginning finds
+    Forged(  # store
         "an entry between, of before the period",
         BETWEEN,
         period=("2026-11-27T07:25:00Z", END),
+        audit=("no_line", WAITING),
     ),
 ]
 

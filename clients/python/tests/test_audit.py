@@ -403,6 +403,22 @@ class Seals(BooksCase):
         self.assertEqual(found, {b"o1": "S009", b"o-1": None})
         self.assertEqual([self.asked("GET", f"/v1/order?name={it}")[1]["next"] for it in ("o1", "o-1")], ["S009", None])
 
+    def test_a_map_of_later_words(self):
+        """A map of TOML 1.1 leaves out its own devices' fuses, and nothing of another customer."""
+        text = 'x = "\\e"\n' + MAP
+        self.lived()
+        with self.station(token="hello", file="b1.json", journal=self.journal("b1.journal")) as other:
+            other.make_order("b", "bolt-ca", "B", 3, 1, 5)
+            other.register(MAC, "b", other.import_map(text), self.chip().read())
+        self.program.copied(self.folder / "later")
+        store, seals = self.folder / "later" / "books.db", self.folder / "seals"
+        seals.mkdir()
+        status, out, told = ran("seal", seals, "--store", store)
+        self.assertEqual((status, "the fuses of its 1 devices are left out" in told), (0, True), told)
+        self.assertIn(b"entry bolt", (seals / "000001.rows").read_bytes())
+        status, out, _ = ran("audit", store, self.folder / "a1.journal", *ALWAYS)
+        self.assertIn("the fuses of its 1 devices are left out", out)
+
 
 class Shifts(BooksCase):
     def shift(self, *journals, status=0):

@@ -16,7 +16,7 @@ from test_audit_seats import SeatCase, answered, asked, goes_on, row
 from wanekupo.books.audit import _contradictions, _lines_of
 from wanekupo.books.fuses import layout_of
 from wanekupo.books.matching import matched, steps_by_chip
-from wanekupo.books.once import twice
+from wanekupo.books.once import _jumps, twice
 from wanekupo.books.papers import papers, repeated
 from wanekupo.books.shift import Period
 from wanekupo.books.steps import shipped_books
@@ -207,16 +207,33 @@ class Asked(SeatCase):
     def test_an_issuer_of_another(self):
         """Records and orders of an issuer that the site gives to another customer, or to nobody; another map's text."""
         store = SimpleNamespace(
-            owners={"acme-ca": "acme", "bolt-ca": "bolt"}, orders={}, maps=[("acme", "a", "a"), ("bolt", "a", "b")],
-            places=lambda: (), addressed=lambda: (),
+            owners={"acme-ca": "acme", "bolt-ca": "bolt"}, unread_maps=lambda: [("bolt", "can't be read")], orders={}, maps=[("acme", "a", "a"), ("bolt", "a", "b")],
+            places=lambda: (), addressed=lambda: (), identified=lambda: (),
             issuers=lambda: [("acme", "acme-ca", 9), ("acme", "bolt-ca", 2), ("bolt", "x", 1)],
             records=lambda _: (), twice=lambda _: (),
         )
         self.assertEqual([(it[2], it[4]) for it in twice(store)], [
             ("acme", "2 of its records and orders are of the issuer bolt-ca, which is bolt's by the site"),
             ("bolt", "1 of its records and orders are of the issuer x, which is nobody's by the site"),
-            ("bolt", "the map a has another text, whose digest is b"),
+            ("bolt", "can't be read"), ("bolt", "the map a has another text, whose digest is b"),
         ])
+        store.owners, store.unread_maps, store.maps = {}, lambda: (), []
+        self.assertEqual([(it[2], "the site's text can't be read" in it[4]) for it in twice(store)], [("", True)])
+
+    def test_numbers_of_an_order(self):
+        """The least free number is given: they ascend, also beside those of an order within, and none is free below."""
+        orders = {("acme", name): {"customer": "acme", "name": name, "prefix": prefix, "width": width, "first": 1,
+                                   "quantity": 9, "cursor": 1} for name, prefix, width in (("o1", "S", 2), ("o2", "S0", 1))}
+        for given, free, meant in (
+            ((("o1", "S01"), ("o2", "S02"), ("o1", "S03"), ("o1", "S04")), "S05", []),
+            ((("o1", "S01"), ("o1", "S03"), ("o1", "S02")), "S04", ["gave S02 behind S03"]),
+            ((("o1", "S01"), ("o1", "S03")), "S02", ["gave S03, and S02 is free"]),
+            ((("o1", "S08"), ("o1", "S09")), None, []),
+        ):
+            store = SimpleNamespace(orders=orders, next_of=lambda _: free,
+                                    identified=lambda: [("acme", name, "c", it) for name, it in given])
+            told = [it[4] for it in _jumps(store)]
+            self.assertEqual((len(told), all(words in it for words, it in zip(meant, told))), (len(meant), True), told)
 
     def test_folders(self):
         """A line counts in its seat's own folder alone; one without a name is the folder's only seat's."""

@@ -5,7 +5,7 @@ from __future__ import annotations
 import argparse
 from datetime import datetime, timezone
 from pathlib import Path
-from typing import Optional
+from typing import Iterator, Optional
 
 from wanekupo.books import folder, shown, stored
 from wanekupo.books.chain import PLANT, Chain
@@ -17,7 +17,7 @@ from wanekupo.command_row import Command
 from wanekupo.config import Settings, looking_station_of
 from wanekupo.errors import BadSettings
 from wanekupo.moments import text_of as moment_text
-from wanekupo.printing import Progress, say
+from wanekupo.printing import Progress, say, warn
 from wanekupo.signing import signer_of
 from wanekupo.texts import shown as shown_text
 
@@ -68,13 +68,20 @@ def _seal(settings: Settings, args: argparse.Namespace) -> int:
         chain.seals_of(args.customer or PLANT)
         if args.store:
             with Store(Path(args.store)) as store:
-                seal = chain.add(stored.lines_of(stored.Books(store)), _now(), PLANT, signer, service)
+                seal = chain.add(_lines_of(store), _now(), PLANT, signer, service)
         else:
             with looking_station_of(settings) as station, Progress("devices") as told_of:
                 lines = sorted(shown.lines_of(station, args.customer, told_of))
             seal = chain.add(lines, _now(), args.customer, signer, service)
     say(seal.line() + "\n")
     return DONE
+
+
+def _lines_of(store: Store) -> Iterator[str]:
+    """The rows of a copy, behind a word of what they lack."""
+    books = stored.Books(store)
+    warn(*(f"Of {customer} {told}." for customer, told in books.unread_maps()))
+    return stored.lines_of(books)
 
 
 def _now() -> str:
@@ -89,7 +96,7 @@ def rows_of(file: Path) -> Text:
     if not is_store(file):
         return folder.rows_of(file.read_bytes(), file)
     with Store(file) as store:
-        return Text.of(stored.lines_of(stored.Books(store)))
+        return Text.of(_lines_of(store))
 
 
 def _verify(args: argparse.Namespace) -> int:

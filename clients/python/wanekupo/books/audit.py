@@ -271,18 +271,19 @@ def _contradictions(life: Life, lines: dict[int, Step], store: Books) -> Iterato
     order."""
     states = {number: str(it.reply["state"]) for number, it in lines.items() if it.is_done() and "state" in it.reply}
     for device in life.devices:
-        chip = Chip(store.layouts[life.customer, device["map"]].fields)
+        fields = store.layouts[life.customer, device["map"]].fields
+        chip = Chip(fields) if fields else None
         for entry in life.entries:
             step = lines.get(entry.row["n"])
             asked = asked_faults(step, device, life.records) if step else ()
-            for told in chain(chip.take(entry.row, step), asked):
+            for told in chain(chip.take(entry.row, step) if chip else (), asked):
                 place = f" ({step.place()})" if step else ""
                 told = f"{_told(_left_of(entry), told)}{place}"
                 yield Found("device", step.at if step else "", life.customer, "", life.chip, told)
-            if chip.state:
+            if chip and chip.state:
                 states.setdefault(entry.row["n"], chip.state)
         faults = faults_of(device, [entry.row for entry in life.entries], life.records, states)
-        pending = () if chip.pends(device) else ("what it has still to burn isn't what its lines leave",)
+        pending = () if not chip or chip.pends(device) else ("what it has still to burn isn't what its lines leave",)
         for told in chain(faults, pending):
             yield Found("device", "", life.customer, "", life.chip, told)
     for record in () if life.devices else life.records:
