@@ -299,6 +299,8 @@ class Clocks(unittest.TestCase):
         """By more than an hour."""
         steps = [step for _, step in paired(("a", 0), ("a", 3600), ("a", 3601), ("a", "2098-01-01T00:00:00Z"))]
         self.assertEqual([it.step.line for it in to_come(steps, clock(0))], [3, 4])
+        steps[0].answered = "2098-01-01T00:00:00Z"
+        self.assertIn("has 2098-01-01T00:00:00Z", next(to_come(steps, clock(0))).told())
 
 
 class Chains(unittest.TestCase):

@@ -137,7 +137,8 @@ class Verdicts(SeatCase):
             ("a bit at a plan", life_lines(), bare, {}, "its entry 2, planned, adds bits or keys"),
             ("a lock over nothing", life_lines(**jtag), locked, {}, ""),
             ("bits that a lock hides", life_lines(**jtag), unseen, {}, "adds bits that a read lock hides"),
-            ("an identity without the locks", life_lines(lost=(3, 4)), unlocked, {}, "left it awaiting2 by the journal"),
+            ("an identity without the locks", life_lines(lost=(3, 4)), unlocked, {},
+             "left it awaiting2 by the journal"),
             ("another state", [{**it, "reply": {**it["reply"], "state": "settled"}} if it.get("nr") == 3 else it
                                for it in life_lines()], LEDGER, {}, "leave it awaiting2, and its reply says settled"),
             ("another wish", life_lines(wishes=[WISHES[0]], lost=(2,)), LEDGER, {}, "and key by its blocks"),
@@ -207,7 +208,8 @@ class Asked(SeatCase):
     def test_an_issuer_of_another(self):
         """Records and orders of an issuer that the site gives to another customer, or to nobody; another map's text."""
         store = SimpleNamespace(
-            owners={"acme-ca": "acme", "bolt-ca": "bolt"}, unread_maps=lambda: [("bolt", "can't be read")], orders={}, maps=[("acme", "a", "a"), ("bolt", "a", "b")],
+            owners={"acme-ca": "acme", "bolt-ca": "bolt"}, orders={}, maps=[("acme", "a", "a"), ("bolt", "a", "b")],
+            unread_maps=lambda: [("bolt", "can't be read")],
             places=lambda: (), addressed=lambda: (), identified=lambda: (),
             issuers=lambda: [("acme", "acme-ca", 9), ("acme", "bolt-ca", 2), ("bolt", "x", 1)],
             records=lambda _: (), twice=lambda _: (),
@@ -222,8 +224,8 @@ class Asked(SeatCase):
 
     def test_numbers_of_an_order(self):
         """The least free number is given: they ascend, also beside those of an order within, and none is free below."""
-        orders = {("acme", name): {"customer": "acme", "name": name, "prefix": prefix, "width": width, "first": 1,
-                                   "quantity": 9, "cursor": 1} for name, prefix, width in (("o1", "S", 2), ("o2", "S0", 1))}
+        orders = {("acme", name): {"name": name, "prefix": prefix, "width": width, "first": 1, "quantity": 9}
+                  for name, prefix, width in (("o1", "S", 2), ("o2", "S0", 1))}
         for given, free, meant in (
             ((("o1", "S01"), ("o2", "S02"), ("o1", "S03"), ("o1", "S04")), "S05", []),
             ((("o1", "S01"), ("o1", "S03"), ("o1", "S02")), "S04", ["gave S02 behind S03"]),

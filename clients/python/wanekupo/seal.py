@@ -34,7 +34,7 @@ def _add_arguments(parser: argparse.ArgumentParser) -> None:
     parser.add_argument("--customer", default="", metavar="NAME", help="whose token it is: the name stands in each row")
     parser.add_argument("--store", metavar="FILE", help="a copy of a stopped store, in place of a token")
     parser.add_argument("--verify", action="store_true", help="compare, and change nothing")
-    parser.add_argument("--last", metavar="SEAL", default="", help="with --verify, a seal's line that has to be there")
+    parser.add_argument("--last", metavar="SEAL", help="with --verify, a seal's line that has to be there")
     group = parser.add_argument_group("a signature, and a time stamp")
     said = "sign the seal by minisign, with this secret key; with --verify the public key"
     group.add_argument("--minisign", metavar="KEY", help=said)
@@ -56,7 +56,7 @@ def _service_of(args: argparse.Namespace) -> Optional[Service]:
 def _seal(settings: Settings, args: argparse.Namespace) -> int:
     if args.verify:
         return _verify(args)
-    if args.last:
+    if args.last is not None:
         raise BadSettings("--last is given without --verify", "A seal is held to the chain where that is verified.")
     if len(args.places) != 1 or bool(args.store) == bool(args.customer):
         told = "Give FOLDER, and --customer NAME with a token, or --store FILE."
@@ -105,7 +105,7 @@ def _verify(args: argparse.Namespace) -> int:
         told = "With --verify what is named is compared alone: leave --store, --customer and --tsa away."
         raise BadSettings("a word is given that only a seal takes", told)
     if len(places) == 2:
-        if args.minisign or args.cms or args.tsa_ca or args.last:
+        if args.minisign or args.cms or args.tsa_ca or args.last is not None:
             told = "Name the folder of the seals, or leave these words away."
             raise BadSettings("two files of rows have no signature and no stamp that could be held", told)
         return _told(_between(*places))
@@ -118,7 +118,10 @@ def _verify(args: argparse.Namespace) -> int:
     if args.minisign and args.cms:
         raise BadSettings("both --minisign and --cms are given", "Give the one by which these seals were signed.")
     minisign, cms = (Path(it) if it else None for it in (args.minisign, args.cms))
-    made = folder.tested(Chain(places[0]), folder.Trusted(minisign, cms, _service_of(args), args.last.strip()))
+    last = (args.last or "").strip()
+    if args.last is not None and not last:
+        raise BadSettings("--last is empty", "Give the line that a seal printed, from where it was sent to.")
+    made = folder.tested(Chain(places[0]), folder.Trusted(minisign, cms, _service_of(args), last))
     return _told(made.found, *made.notes, made.done(), pairs=made.pairs)
 
 

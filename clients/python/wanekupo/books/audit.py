@@ -50,9 +50,9 @@ class Held:
 
 @dataclass
 class Audit:
-    """All of it. `bare` is how many entries outside of the period have no line and aren't found, `held_lines` how many lines of it there
-    are, `parts` the customers of whose seats the journals lack the first number, `repeated` lines that changed nothing.
-    """
+    """All of it. `bare` is how many entries outside of the period have no line and aren't found, `held_lines` how many
+    lines of it there are, `parts` the customers of whose seats the journals lack the first number, `repeated` lines
+    that changed nothing."""
 
     period: Period
     found: list[Found] = field(default_factory=list)

@@ -46,9 +46,9 @@ class Turn(NamedTuple):
 
 
 def counts(it: Seated, step: Step, store: Books, period: Period) -> bool:
-    """Whether the store has to have a line: not one that an older copy can't have. One of before the period, in front of
-    which a store may have become an older one, counts where none did; so does the first of a journal with the one
-    behind it, as nothing contradicts its time. One of behind the period counts as long as the store has its number."""
+    """Whether the store has to have a line: not one that an older copy can't have. One of before the period counts
+    where no older store took it away, and so does the first of a journal with the one behind it, as nothing contradicts
+    its time. One of behind the period counts as long as the store has its number."""
     last = store.seats[it.seat].last if it.seat in store.seats else 0
     if step.turn > 0 or step.answered >= period.end and step.number > last:
         return False
