@@ -514,6 +514,22 @@ CLOCKS = [
         period=("2026-11-27T07:25:00Z", END),
         audit=("no_line", WAITING),
     ),
+    Forged(
+        "a seat, of before the period",
+        (f"UPDATE ledger SET seat = 'a2' WHERE {OF_ONE} AND n = 2",),
+        seal=(f"The entry 2 of {ONE} of acme: seat was a1, and is a2",),
+        period=("2026-11-27T07:25:00Z", END),
+        audit=("other_seat", ONE),
+    ),
+    Forged(
+        "a key that comes again at its shipment",
+        (
+            f"UPDATE ledger SET keys = X'01{32 * 'ab'}' WHERE {OF_ONE} AND event = 'shipped'",
+            f"UPDATE device SET keys = X'01{32 * 'ab'}' WHERE {OF_ONE}",
+        ),
+        seal=("its entry 6 adds a key of BLOCK1, which was known", "shows nothing"),
+        audit=("device", ONE, "adds a key of BLOCK1", "adds bits or keys"),
+    ),
 ]
 
 

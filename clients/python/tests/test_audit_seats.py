@@ -270,9 +270,11 @@ class Journals(SeatCase):
             reply = {"issuer": issuer, "serial": serial, "key_sha256": key, "mac": mac}
             lines += [asked(f"07:{number:02}:00", number, chip, "/v1/identity"),
                       answered(f"07:{number:02}:01", number, **reply)]
-        found = given_twice([Seated(self.book(lines), "a1", "acme", "")])
-        self.assertEqual([(it[4], it[5].split()[1]) for it in found],
-                         [("c3", "serial"), ("c4", "key_sha256"), ("c5", "mac")])
+        own = Seated(self.book(lines), "a1", "acme", "")
+        found = [("c3", "serial"), ("c4", "key_sha256"), ("c5", "mac")]
+        for turn, meant in ((0, found), (1, found[1:])):
+            own.book.steps[3].turn = turn
+            self.assertEqual([(it[4], it[5].split()[1]) for it in given_twice([own])], meant)
 
     def test_what_is_held_to_no_line(self):
         self.assertIn("imports of acme, bolt are held to no line", counted(Audit(PERIOD, parts=["acme", "bolt"])))

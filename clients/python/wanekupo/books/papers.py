@@ -55,11 +55,12 @@ def unasked(journals: Iterable[Seated], store: Books, whole: set[str]) -> Iterat
 
 
 def given_twice(journals: Iterable[Seated]) -> Iterator[Row]:
-    """Serial numbers, keys and addresses that lines of two chips have, whatever the store has of these."""
+    """Serial numbers, keys and addresses that lines of two chips have, whatever the store has of these. Not
+    what was given since a copy that a later restore made an older one."""
     first: dict[tuple[str, ...], Step] = {}
     for it in journals:
         for step in it.book.steps:
-            if step.path != "/v1/identity" or not step.is_done():
+            if step.path != "/v1/identity" or not step.is_done() or step.turn > 0:
                 continue
             issuer = str(step.reply.get("issuer"))
             for name, whose in (("serial", issuer), ("key_sha256", issuer), ("mac", "")):
