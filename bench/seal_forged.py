@@ -371,7 +371,7 @@ CLOCKS = [
     Forged(  # journal: what was burnt was nobody's wish
         "a plan that wished for nothing",
         journal=_wish_nothing,
-        audit=("device", ONE, "the entry 2, planned: its wishes leave it settled, and its reply says awaiting1"),
+        audit=("device", ONE, "the entry 2, planned: its lines leave it settled, and its reply says awaiting1"),
     ),
     Forged(  # store, and another customer's journal
         "an entry added, and an early line of 2098",
@@ -508,10 +508,27 @@ CLOCKS = [
     ),
     Forged("a step that was never asked", journal=_again, audit=("no_entry", WAITING, "numbers", "an older store")),
     Forged("another's name", journal=_as_another, audit=("no_journal", "a2", "no_entry", "b1")),
-    Forged(  # store: it counts as one of before, which an audit from the beginning finds
+    Forged(  # store
         "an entry between, of before the period",
         BETWEEN,
         period=("2026-11-27T07:25:00Z", END),
+        audit=("no_line", WAITING),
+    ),
+    Forged(
+        "a seat, of before the period",
+        (f"UPDATE ledger SET seat = 'a2' WHERE {OF_ONE} AND n = 2",),
+        seal=(f"The entry 2 of {ONE} of acme: seat was a1, and is a2",),
+        period=("2026-11-27T07:25:00Z", END),
+        audit=("other_seat", ONE),
+    ),
+    Forged(
+        "a key that comes again at its shipment",
+        (
+            f"UPDATE ledger SET keys = X'01{32 * 'ab'}' WHERE {OF_ONE} AND event = 'shipped'",
+            f"UPDATE device SET keys = X'01{32 * 'ab'}' WHERE {OF_ONE}",
+        ),
+        seal=("its entry 6 adds a key of BLOCK1, which was known", "shows nothing"),
+        audit=("device", ONE, "adds a key of BLOCK1", "adds bits or keys"),
     ),
 ]
 

@@ -136,7 +136,7 @@ class Audits(BooksCase):
             other.make_order("b", "bolt-ca", "B", 3, 1, 5)
         self.program.copied(self.folder / "later")
         out = self.found(self.folder / "later" / "books.db", journal)
-        self.assertRegex(out, "no_journal +bolt +b1 +no journal of this seat was given: its 1 requests are of no")
+        self.assertRegex(out, "no_journal +bolt +b1 +no journal of this seat was given: 1 of its 1 requests are of no")
 
     def test_folders(self):
         """Root's file says whose a folder's lines are; without a folder in it nothing is read."""
@@ -276,18 +276,21 @@ class Clocks(unittest.TestCase):
                 self.assertEqual([place for place in places if window.is_outside(place)], meant)
 
     def test_lines_without_an_entry(self):
-        """A line counts by its time; the first one with the one behind it; one of later where the store has its
+        """A line counts but one of before that an older copy has not, and one of later where the store lacks its
         number."""
         store = SimpleNamespace(seats={"a": SimpleNamespace(last=4)})
         for name, times, meant in (
             ("inside", [110, 120], [1, 2]),
-            ("before", [10, 20, 110], [3]),
+            ("before", [10, 20, 110], [1, 2, 3]),
             ("the first one is before", [10, 110, 120], [1, 2, 3]),
-            ("only one, before", [10], []),
+            ("only one, before", [10], [1]),
+            ("before, of an older copy", [10, -20, 110], [1, 3]),
             ("behind, with numbers up to 4", [110, 210, 220, 230, 240], [1, 2, 3, 4]),
         ):
             with self.subTest(name):
-                steps = [step for _, step in paired(*(("a", at) for at in times))]
+                steps = [step for _, step in paired(*(("a", abs(at)) for at in times))]
+                for step, at in zip(steps, times):
+                    step.is_lost = at < 0
                 own = SimpleNamespace(seat="a", book=SimpleNamespace(steps=steps))
                 period = Period(clock(100), clock(200))
                 self.assertEqual([it.line for it in steps if counts(own, it, store, period)], meant)
@@ -296,6 +299,8 @@ class Clocks(unittest.TestCase):
         """By more than an hour."""
         steps = [step for _, step in paired(("a", 0), ("a", 3600), ("a", 3601), ("a", "2098-01-01T00:00:00Z"))]
         self.assertEqual([it.step.line for it in to_come(steps, clock(0))], [3, 4])
+        steps[0].answered = "2098-01-01T00:00:00Z"
+        self.assertIn("has 2098-01-01T00:00:00Z", next(to_come(steps, clock(0))).told())
 
 
 class Chains(unittest.TestCase):
@@ -399,6 +404,22 @@ class Seals(BooksCase):
         found = {line.split()[2]: json.loads(line.split(b" ", 3)[3])["next"] for line in lines if line[:5] == b"order"}
         self.assertEqual(found, {b"o1": "S009", b"o-1": None})
         self.assertEqual([self.asked("GET", f"/v1/order?name={it}")[1]["next"] for it in ("o1", "o-1")], ["S009", None])
+
+    def test_a_map_of_later_words(self):
+        """A map of TOML 1.1 leaves out its own devices' fuses, and nothing of another customer."""
+        text = 'x = "\\e"\n' + MAP
+        self.lived()
+        with self.station(token="hello", file="b1.json", journal=self.journal("b1.journal")) as other:
+            other.make_order("b", "bolt-ca", "B", 3, 1, 5)
+            other.register(MAC, "b", other.import_map(text), self.chip().read())
+        self.program.copied(self.folder / "later")
+        store, seals = self.folder / "later" / "books.db", self.folder / "seals"
+        seals.mkdir()
+        status, out, told = ran("seal", seals, "--store", store)
+        self.assertEqual((status, "the fuses of its 1 devices are left out" in told), (0, True), told)
+        self.assertIn(b"entry bolt", (seals / "000001.rows").read_bytes())
+        status, out, _ = ran("audit", store, self.folder / "a1.journal", *ALWAYS)
+        self.assertIn("the fuses of its 1 devices are left out", out)
 
 
 class Shifts(BooksCase):

@@ -10,6 +10,7 @@ import json
 import tempfile
 import time
 import unittest
+from collections import Counter
 from pathlib import Path
 from types import SimpleNamespace
 from unittest import mock
@@ -18,13 +19,13 @@ from books_case import DAY
 from commanding import ran
 
 from wanekupo.books import steps
-from wanekupo.books.audit import Audit, _journal_faults
+from wanekupo.books.audit import Audit, Left, Unheld, _idle_faults, _journal_faults
 from wanekupo.books.audit_page import counted
 from wanekupo.books.chain import BadChain, Chain, sealed
 from wanekupo.books.clocks import contradictions
 from wanekupo.books.matching import Seated, seated, steps_by_chip
-from wanekupo.books.numbers import counts, spans_of
-from wanekupo.books.papers import unasked
+from wanekupo.books.numbers import Span, counts, spans_of
+from wanekupo.books.papers import given_twice, unasked
 from wanekupo.books.shift import Period
 from wanekupo.books.stamp import verified
 from wanekupo.books.steps import book_of
@@ -86,12 +87,15 @@ class Turns(SeatCase):
         pc7, pc8 = [*row(1, 3, "07"), *row(6, 6, "09")], row(4, 5, "08")
         told = [*row(1, 3, "07"), goes_on("09:00:00", 6), *row(6, 6, "09")], [goes_on("08:00:00", 4), *row(4, 5, "08")]
         late = [*row(1, 3, "07"), goes_on("15:00:00", 2), *done("15:01:00", 2, "n2"), *done("15:02:00", 3, "n3")]
+        over = [*row(1, 2, "05"), asked("05:59:50", 3, "c3"), answered("06:00:10", 3), goes_on("07:00:00", 3),
+                *done("07:01:00", 3, "n3")]
         cut = [*row(1, 3, "07"), goes_on("07:06:00", 3), *row(7, 7, "07")]
         for name, books, last, words in (
             ("whole", [row(1, 5, "07")], (5, "c5"), []),
             ("a restore in front", [restored], (5, "n5"), []),
             ("a restore within", [[*row(1, 3, "07"), goes_on("08:00:00", 3), *done("08:01:00", 3, "n3")]], (3, "n3"),
              ["goes on with the number 3, and line 5 of"]),
+            ("a restore behind a reply of the period", [over], (3, "n3"), ["became an older one"]),
             ("lines cut behind a made-up restore", [cut], (7, "c7"),
              ["became an older one", "the numbers 3 to 6 have no line"]),
             ("the same in front", [[*row(1, 3, "05"), goes_on("06:06:00", 3), *row(7, 7, "07")]], (7, "c7"),
@@ -231,6 +235,46 @@ class Journals(SeatCase):
         store = SimpleNamespace(seats=seats)
         self.assertEqual(seated(self.book(lines), store).seat, "b1")
         self.assertEqual(list(_journal_faults([Seated(self.book([]), "", "", "")], store)), [])
+
+    def test_a_seat_without_a_row(self):
+        """One of the site that was only refused is known; one of no site, or with an accepted line, isn't."""
+        refused = [asked("07:00:00", 1, "c1"), answered("07:00:01", 1, 409, no=17)]
+        for sites, lines, meant in ((("a1",), refused, []), ((), refused, ["no_seat"]),
+                                    (("a1",), row(1, 1, "07"), ["no_seat"])):
+            store = SimpleNamespace(seats={}, site_seats=frozenset(sites))
+            own = Seated(self.book(lines), "a1", "", "")
+            self.assertEqual([it.kind for it in _journal_faults([own], store)], meant)
+
+    def test_entries_from_before_a_journal(self):
+        """Each seat's own first line counts, and as many entries as it had numbers; those of number 1 have none."""
+        pairs = [(5, SimpleNamespace(seat="a1")), (9, SimpleNamespace(seat="a2"))]
+        unheld = Unheld(pairs, [Span("a1", "acme", "", 1), Span("a2", "acme", "", 3)])
+        for number, seat, meant in ((7, "a2", True), (8, "a2", True), (8, "a2", False), (3, "a1", False),
+                                    (3, "a3", True), (6, "a3", False)):
+            left = Left(number, "acme", "c", 1, "shipped", "", seat)
+            self.assertEqual(unheld.has(left), meant, left)
+
+    def test_a_seat_without_a_journal(self):
+        """Its requests are told where it has more of them than entries."""
+        store = SimpleNamespace(seats={name: Seat(name, "acme", 8, "", "") for name in ("a1", "a2")})
+        found = [it.told for it in _idle_faults({"a1", "a2"}, Counter(a1=8, a2=6), store)]
+        self.assertEqual(len(found), 1)
+        self.assertIn("2 of its 8 requests are of no device", found[0])
+
+    def test_what_lines_say_was_given_twice(self):
+        """A serial number, a key of an issuer, an address: of two chips, also where one is in no store."""
+        steps = [("c1", "ca", "S1", "k1", "m1"), ("c1", "ca", "S1", "k1", "m1"), ("c2", "cb", "S1", "k1", "m2"),
+                 ("c3", "ca", "S1", "k3", None), ("c4", "ca", "S4", "k1", None), ("c5", "ca", "S5", "k5", "m2")]
+        lines = []
+        for number, (chip, issuer, serial, key, mac) in enumerate(steps, 1):
+            reply = {"issuer": issuer, "serial": serial, "key_sha256": key, "mac": mac}
+            lines += [asked(f"07:{number:02}:00", number, chip, "/v1/identity"),
+                      answered(f"07:{number:02}:01", number, **reply)]
+        own = Seated(self.book(lines), "a1", "acme", "")
+        found = [("c3", "serial"), ("c4", "key_sha256"), ("c5", "mac")]
+        for turn, meant in ((0, found), (1, found[1:])):
+            own.book.steps[3].turn = turn
+            self.assertEqual([(it[4], it[5].split()[1]) for it in given_twice([own])], meant)
 
     def test_what_is_held_to_no_line(self):
         self.assertIn("imports of acme, bolt are held to no line", counted(Audit(PERIOD, parts=["acme", "bolt"])))

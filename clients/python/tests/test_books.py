@@ -223,6 +223,8 @@ class Books(BooksCase):
             (seals / "000001.rows").write_bytes(b"")
             found = self.verified("seals")[1].splitlines()
             self.assertEqual(found[0], "seals/000001.rows was changed since it was sealed.")
+            for word in ("", " "):
+                self.assertEqual(ran("seal", "--verify", "seals", "--last", word)[0], 2)
             told = "none is no folder. Make it first: the seals of one customer, or of a plant, stay there.\n"
             self.assertEqual(ran("seal", "none", "--store", "copy/books.db"), (2, "", told))
 

@@ -16,7 +16,7 @@ from test_audit_seats import SeatCase, answered, asked, goes_on, row
 from wanekupo.books.audit import _contradictions, _lines_of
 from wanekupo.books.fuses import layout_of
 from wanekupo.books.matching import matched, steps_by_chip
-from wanekupo.books.once import twice
+from wanekupo.books.once import _jumps, twice
 from wanekupo.books.papers import papers, repeated
 from wanekupo.books.shift import Period
 from wanekupo.books.steps import shipped_books
@@ -104,10 +104,19 @@ class Verdicts(SeatCase):
         hidden = [*LEDGER[:3], entry(4, "read", "match", bits(w0="00010080", w6="00000020")), LEDGER[4]]
         key = [*LEDGER[:2], entry(3, "read", "match", bits(w6="00000040"), BLOCK1=64 * "1"), *LEDGER[3:]]
         raised = [entry(1, "registered", burnt=FIRST["bits"] + bits(w5="00000001")), *LEDGER[1:]]
+        again = [*LEDGER[:3], entry(4, "read", "match", bits(w0="00010080"), BLOCK1=64 * "1"), LEDGER[4]]
+        bare = [FIRST, entry(2, "planned", burnt=bits(w6="00000020")), *LEDGER[2:]]
+        locked = [*LEDGER[:2], entry(3, "read", "match", bits(w6="00000040")),
+                  entry(4, "read", "match", bits(w0="00080000")), LEDGER[4]]
+        unseen = [*locked[:3], entry(4, "read", "match", bits(w0="00080000", w5="f0000000")), LEDGER[4]]
+        unlocked = [*LEDGER[:3], entry(4, "identified", "A998")]
         gone = {"state": "quarantined", "serial": None}
+        jtag = {"second": shown(JTAG), "third": shown(["00080000", *JTAG[1:]]), "wishes": [WISHES[0], HIDE[1]]}
         for name, told, ledger, device, words in (
             ("honest", life_lines(), LEDGER, {}, ""),
             ("a reply was lost", life_lines(lost=(2,)), LEDGER, {}, ""),
+            ("two plans without a reply", [*list(life_lines(wishes=WISHES[:1], lost=(2,)))[:3],
+                                           goes_on("07:02:01", 2), *list(life_lines(lost=(2,)))[2:]], LEDGER, {}, ""),
             ("all replies were lost", life_lines(lost=(1, 2, 3, 4, 5)), LEDGER, {}, ""),
             ("lost, and nothing is", list(life_lines())[:5], lost, {**gone, "reason": "lost"},
              "and match by its blocks"),
@@ -123,7 +132,15 @@ class Verdicts(SeatCase):
              "and lost by its blocks"),
             ("another key, in the ledger too", life_lines(), key, {}, "its blocks show other keys than its ledger has"),
             ("a bit more, in the ledger too", life_lines(), raised, {}, "its blocks show other bits than its ledger"),
-            ("wishes of nothing", life_lines(wishes=[]), LEDGER, {}, "its wishes leave it settled, and its reply says"),
+            ("wishes of nothing", life_lines(wishes=[]), LEDGER, {}, "its lines leave it settled, and its reply says"),
+            ("a key once more", life_lines(), again, {}, "its entry 4 adds a key of BLOCK1, which was known"),
+            ("a bit at a plan", life_lines(), bare, {}, "its entry 2, planned, adds bits or keys"),
+            ("a lock over nothing", life_lines(**jtag), locked, {}, ""),
+            ("bits that a lock hides", life_lines(**jtag), unseen, {}, "adds bits that a read lock hides"),
+            ("an identity without the locks", life_lines(lost=(3, 4)), unlocked, {},
+             "left it awaiting2 by the journal"),
+            ("another state", [{**it, "reply": {**it["reply"], "state": "settled"}} if it.get("nr") == 3 else it
+                               for it in life_lines()], LEDGER, {}, "leave it awaiting2, and its reply says settled"),
             ("another wish", life_lines(wishes=[WISHES[0]], lost=(2,)), LEDGER, {}, "and key by its blocks"),
             ("a wish of no field", life_lines(wishes=[{"kind": "bit", "field": "X", "index": 0}]), LEDGER, {},
              "its wishes aren't of its map"),
@@ -192,15 +209,33 @@ class Asked(SeatCase):
         """Records and orders of an issuer that the site gives to another customer, or to nobody; another map's text."""
         store = SimpleNamespace(
             owners={"acme-ca": "acme", "bolt-ca": "bolt"}, orders={}, maps=[("acme", "a", "a"), ("bolt", "a", "b")],
-            places=lambda: (), addressed=lambda: (),
+            unread_maps=lambda: [("bolt", "can't be read")],
+            places=lambda: (), addressed=lambda: (), identified=lambda: (),
             issuers=lambda: [("acme", "acme-ca", 9), ("acme", "bolt-ca", 2), ("bolt", "x", 1)],
             records=lambda _: (), twice=lambda _: (),
         )
         self.assertEqual([(it[2], it[4]) for it in twice(store)], [
             ("acme", "2 of its records and orders are of the issuer bolt-ca, which is bolt's by the site"),
             ("bolt", "1 of its records and orders are of the issuer x, which is nobody's by the site"),
-            ("bolt", "the map a has another text, whose digest is b"),
+            ("bolt", "can't be read"), ("bolt", "the map a has another text, whose digest is b"),
         ])
+        store.owners, store.unread_maps, store.maps = {}, lambda: (), []
+        self.assertEqual([(it[2], "the site's text can't be read" in it[4]) for it in twice(store)], [("", True)])
+
+    def test_numbers_of_an_order(self):
+        """The least free number is given: they ascend, also beside those of an order within, and none is free below."""
+        orders = {("acme", name): {"name": name, "prefix": prefix, "width": width, "first": 1, "quantity": 9}
+                  for name, prefix, width in (("o1", "S", 2), ("o2", "S0", 1))}
+        for given, free, meant in (
+            ((("o1", "S01"), ("o2", "S02"), ("o1", "S03"), ("o1", "S04")), "S05", []),
+            ((("o1", "S01"), ("o1", "S03"), ("o1", "S02")), "S04", ["gave S02 behind S03"]),
+            ((("o1", "S01"), ("o1", "S03")), "S02", ["gave S03, and S02 is free"]),
+            ((("o1", "S08"), ("o1", "S09")), None, []),
+        ):
+            store = SimpleNamespace(orders=orders, next_of=lambda _: free,
+                                    identified=lambda: [("acme", name, "c", it) for name, it in given])
+            told = [it[4] for it in _jumps(store)]
+            self.assertEqual((len(told), all(words in it for words, it in zip(meant, told))), (len(meant), True), told)
 
     def test_folders(self):
         """A line counts in its seat's own folder alone; one without a name is the folder's only seat's."""

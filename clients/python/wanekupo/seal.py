@@ -5,7 +5,7 @@ from __future__ import annotations
 import argparse
 from datetime import datetime, timezone
 from pathlib import Path
-from typing import Optional
+from typing import Iterator, Optional
 
 from wanekupo.books import folder, shown, stored
 from wanekupo.books.chain import PLANT, Chain
@@ -17,7 +17,7 @@ from wanekupo.command_row import Command
 from wanekupo.config import Settings, looking_station_of
 from wanekupo.errors import BadSettings
 from wanekupo.moments import text_of as moment_text
-from wanekupo.printing import Progress, say
+from wanekupo.printing import Progress, say, warn
 from wanekupo.signing import signer_of
 from wanekupo.texts import shown as shown_text
 
@@ -34,7 +34,7 @@ def _add_arguments(parser: argparse.ArgumentParser) -> None:
     parser.add_argument("--customer", default="", metavar="NAME", help="whose token it is: the name stands in each row")
     parser.add_argument("--store", metavar="FILE", help="a copy of a stopped store, in place of a token")
     parser.add_argument("--verify", action="store_true", help="compare, and change nothing")
-    parser.add_argument("--last", metavar="SEAL", default="", help="with --verify, a seal's line that has to be there")
+    parser.add_argument("--last", metavar="SEAL", help="with --verify, a seal's line that has to be there")
     group = parser.add_argument_group("a signature, and a time stamp")
     said = "sign the seal by minisign, with this secret key; with --verify the public key"
     group.add_argument("--minisign", metavar="KEY", help=said)
@@ -56,7 +56,7 @@ def _service_of(args: argparse.Namespace) -> Optional[Service]:
 def _seal(settings: Settings, args: argparse.Namespace) -> int:
     if args.verify:
         return _verify(args)
-    if args.last:
+    if args.last is not None:
         raise BadSettings("--last is given without --verify", "A seal is held to the chain where that is verified.")
     if len(args.places) != 1 or bool(args.store) == bool(args.customer):
         told = "Give FOLDER, and --customer NAME with a token, or --store FILE."
@@ -68,13 +68,20 @@ def _seal(settings: Settings, args: argparse.Namespace) -> int:
         chain.seals_of(args.customer or PLANT)
         if args.store:
             with Store(Path(args.store)) as store:
-                seal = chain.add(stored.lines_of(stored.Books(store)), _now(), PLANT, signer, service)
+                seal = chain.add(_lines_of(store), _now(), PLANT, signer, service)
         else:
             with looking_station_of(settings) as station, Progress("devices") as told_of:
                 lines = sorted(shown.lines_of(station, args.customer, told_of))
             seal = chain.add(lines, _now(), args.customer, signer, service)
     say(seal.line() + "\n")
     return DONE
+
+
+def _lines_of(store: Store) -> Iterator[str]:
+    """The rows of a copy, behind a word of what they lack."""
+    books = stored.Books(store)
+    warn(*(f"Of {customer} {told}." for customer, told in books.unread_maps()))
+    return stored.lines_of(books)
 
 
 def _now() -> str:
@@ -89,7 +96,7 @@ def rows_of(file: Path) -> Text:
     if not is_store(file):
         return folder.rows_of(file.read_bytes(), file)
     with Store(file) as store:
-        return Text.of(stored.lines_of(stored.Books(store)))
+        return Text.of(_lines_of(store))
 
 
 def _verify(args: argparse.Namespace) -> int:
@@ -98,7 +105,7 @@ def _verify(args: argparse.Namespace) -> int:
         told = "With --verify what is named is compared alone: leave --store, --customer and --tsa away."
         raise BadSettings("a word is given that only a seal takes", told)
     if len(places) == 2:
-        if args.minisign or args.cms or args.tsa_ca or args.last:
+        if args.minisign or args.cms or args.tsa_ca or args.last is not None:
             told = "Name the folder of the seals, or leave these words away."
             raise BadSettings("two files of rows have no signature and no stamp that could be held", told)
         return _told(_between(*places))
@@ -111,7 +118,10 @@ def _verify(args: argparse.Namespace) -> int:
     if args.minisign and args.cms:
         raise BadSettings("both --minisign and --cms are given", "Give the one by which these seals were signed.")
     minisign, cms = (Path(it) if it else None for it in (args.minisign, args.cms))
-    made = folder.tested(Chain(places[0]), folder.Trusted(minisign, cms, _service_of(args), args.last.strip()))
+    last = (args.last or "").strip()
+    if args.last is not None and not last:
+        raise BadSettings("--last is empty", "Give the line that a seal printed, from where it was sent to.")
+    made = folder.tested(Chain(places[0]), folder.Trusted(minisign, cms, _service_of(args), last))
     return _told(made.found, *made.notes, made.done(), pairs=made.pairs)
 
 

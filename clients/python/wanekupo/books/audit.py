@@ -14,7 +14,7 @@ from wanekupo.books.coherence import faults_of
 from wanekupo.books.matching import Matched, Seated, matched, seated, steps_by_chip
 from wanekupo.books.numbers import Span, counts, spans_of, whole_customers
 from wanekupo.books.once import twice
-from wanekupo.books.papers import papers, repeated, unasked
+from wanekupo.books.papers import given_twice, papers, repeated, unasked
 from wanekupo.books.shift import Period
 from wanekupo.books.steps import Book, Step
 from wanekupo.books.stored import Books, Entry, Life
@@ -50,9 +50,9 @@ class Held:
 
 @dataclass
 class Audit:
-    """All of it. `bare` is how many entries outside of the period have no line, `held_lines` how many lines of it there
-    are, `parts` the customers of whose seats the journals lack the first number, `repeated` lines that changed nothing.
-    """
+    """All of it. `bare` is how many entries outside of the period have no line and aren't found, `held_lines` how many
+    lines of it there are, `parts` the customers of whose seats the journals lack the first number, `repeated` lines
+    that changed nothing."""
 
     period: Period
     found: list[Found] = field(default_factory=list)
@@ -71,27 +71,27 @@ def audit_of(store: Books, books: Iterable[Book], period: Period, now: str) -> A
     journals = [seated(book, store) for book in books]
     spans = spans_of(journals, store, period)
     audit, laid = Audit(period), Laid(store, period)
-    lost = _without_journal(journals, store)
+    lost, counted = _without_journal(journals, store), Counter[str]()
     steps = steps_by_chip(journals)
     for life in store.lives():
         made = matched(life.entries, steps.pop((life.customer, life.chip), ()))
         laid.take(made)
         audit.found += _contradictions(life, _lines_of(life, made), store)
-        lost.difference_update(entry.row["seat"] for entry in life.entries if entry.row["seat"] in lost)
+        counted.update(entry.row["seat"] for entry in life.entries if entry.row["seat"] in lost)
     for lines in steps.values():
         laid.take(matched((), lines))
     laid.pairs.sort(key=lambda it: it[0])
     audit.found += _journal_faults(journals, store)
     audit.found += _clock_faults(journals, laid.pairs, period, now)
     whole, window = whole_customers(spans, store), window_of(laid.pairs, period)
-    audit.found += laid.faults_in(window)
-    audit.found += _left_faults(audit, laid, window, whole, _without_journal(journals, store))
-    audit.found += _idle_faults(lost, store)
+    audit.found += laid.found()
+    audit.found += _left_faults(audit, laid, window, spans, lost, whole)
+    audit.found += _idle_faults(lost, counted, store)
     audit.found += [Found("numbers", it.at, it.customer, it.seat, "", told) for it in spans for told in it.faults]
     audit.found += [Found("journal", at, it.customer, it.seat, "", told) for it in spans for at, told in it.lost]
     audit.found += [Found(kind, at, customer, "", chip, told) for kind, at, customer, chip, told in twice(store)]
-    audit.found += [Found(*it) for it in papers(journals, store, period)]
-    audit.found += [Found(*it) for it in unasked(journals, store, whole)]
+    rows = chain(papers(journals, store, period), unasked(journals, store, whole), given_twice(journals))
+    audit.found += [Found(*it) for it in rows]
     audit.parts = sorted({it.customer for it in store.seats.values() if it.last} - whole)
     audit.repeated = repeated(journals)
     audit.held = list(_held(journals, laid.lines, spans, store, period))
@@ -146,13 +146,11 @@ class Laid:
                 told = f"{step.place()}, {said}, {taken}, and no ledger has it"
                 self.faults.append(Found("no_entry", step.at, own.customer, own.seat, step.chip, told))
 
-    def faults_in(self, window: Window) -> Iterator[Found]:
-        """The lines without an entry, and the pairs that differ. Of these the line's time is believed where the entry's
-        place among the others says so too."""
+    def found(self) -> Iterator[Found]:
+        """The lines without an entry, and the pairs that differ."""
         yield from self.faults
         for it, step, kind, told in self.odd:
-            if self.period.has(step.at) or not window.is_outside(it.id):
-                yield Found(kind, step.at, it.customer, it.seat, it.chip, _told(it, f"{told} ({step.place()})"))
+            yield Found(kind, step.at, it.customer, it.seat, it.chip, _told(it, f"{told} ({step.place()})"))
 
 
 def _left_of(entry: Entry) -> Left:
@@ -165,22 +163,42 @@ def _told(left: Left, told: str) -> str:
     return f"the entry {left.n}, {f'{left.event} {left.note}'.rstrip()}: {told}"
 
 
-def _left_faults(audit: Audit, laid: Laid, window: Window, whole: set[str], lost: set[str]) -> Iterator[Found]:
-    """The entries that are left over. A seat without a journal is told once. Of what is in front of the first line
-    nothing is known but of customers whose journals are `whole`; what is behind the last one counts."""
+class Unheld:
+    """The entries from before the first line of their seat's journals, which begin behind number 1: as many as it had
+    numbers. Of a seat without a journal those from before all lines."""
+
+    def __init__(self, pairs: list[Timed], spans: Iterable[Span]):
+        self._before = {it.seat: it.first - 1 for it in spans}
+        self._first = {step.seat: number for number, step in reversed(pairs)}
+        self._of_all = pairs[0][0] if pairs else 0
+
+    def has(self, left: Left) -> bool:
+        if left.seat not in self._before:
+            return left.id < self._of_all
+        self._before[left.seat] -= 1
+        return self._before[left.seat] >= 0 and left.id < self._first.get(left.seat, left.id + 1)
+
+
+def _left_faults(
+    audit: Audit, laid: Laid, window: Window, spans: Iterable[Span], lost: set[str], whole: set[str]
+) -> Iterator[Found]:
+    """The entries that are left over. A seat without a journal is told once. Of customers whose journals are `whole`
+    each counts; of others none that is outside of the period, or in front of the first line."""
     inside = sum(audit.period.has(step.at) for _, step, *_ in chain(laid.pairs, laid.odd))
     audit.entries, audit.outside = inside, len(laid.pairs) + len(laid.odd) - inside
     without: dict[tuple[str, str], int] = defaultdict(int)
-    for left in laid.left:
-        if window.is_outside(left.id):
-            audit.outside, audit.bare = audit.outside + 1, audit.bare + 1
-        elif laid.pairs and left.id < laid.pairs[0][0] and left.customer not in whole:
+    unheld = Unheld(laid.pairs, spans)
+    for left in sorted(laid.left):
+        is_outside, is_whole = window.is_outside(left.id), left.customer in whole
+        if not is_whole and not is_outside and unheld.has(left):
             audit.unheld += 1
+            continue
+        audit.entries, audit.outside = audit.entries + (not is_outside), audit.outside + is_outside
+        if is_outside and not is_whole:
+            audit.bare += 1
         elif left.seat in lost:
-            audit.entries += 1
             without[left.customer, left.seat] += 1
         else:
-            audit.entries += 1
             told = f"no journal of its seat has a line of it; it came {_between(laid.pairs, left.id)}"
             yield Found("no_line", "", left.customer, left.seat, left.chip, _told(left, told))
     for (customer, seat), count in sorted(without.items()):
@@ -188,12 +206,12 @@ def _left_faults(audit: Audit, laid: Laid, window: Window, whole: set[str], lost
         yield Found("no_journal", "", customer, seat, "", told)
 
 
-def _idle_faults(idle: set[str], store: Books) -> Iterator[Found]:
-    """Seats without a journal that asked for something and have no entry: when that was nobody can tell."""
-    for seat in sorted((store.seats[name] for name in idle), key=lambda it: it.name):
-        if seat.last:
-            told = f"no journal of this seat was given: its {seat.last} requests are of no device, and held to nothing"
-            yield Found("no_journal", "", seat.customer, seat.name, "", told)
+def _idle_faults(lost: set[str], counted: Counter[str], store: Books) -> Iterator[Found]:
+    """Seats without a journal that asked for more than they have entries: when that was nobody can tell."""
+    for seat in sorted((store.seats[name] for name in lost), key=lambda it: it.name):
+        if (rest := seat.last - counted[seat.name]) > 0:
+            told = f"no journal of this seat was given: {rest} of its {seat.last} requests are of no device"
+            yield Found("no_journal", "", seat.customer, seat.name, "", f"{told}, and held to nothing")
 
 
 def _between(pairs: list[Timed], number: int) -> str:
@@ -212,7 +230,10 @@ def _journal_faults(journals: Iterable[Seated], store: Books) -> Iterator[Found]
     for it in journals:
         for fault in it.book.faults:
             yield Found("journal", fault.at, it.customer, it.seat, "", f"{fault.place()} {fault.told}")
-        if it.seat not in store.seats and (it.book.times or it.book.faults):
+        is_bare = not any(map(Step.is_done, it.book.steps))  # a seat that was only refused has no row
+        if it.seat in store.seats or not it.book.times and not it.book.faults:
+            continue
+        if not is_bare or it.seat not in store.site_seats:
             told = f"{it.book.files[0]} is of a seat that the store doesn't have"
             if not it.seat:
                 told = f"{it.book.files[0]} is of no seat that could be found: give its lines a name"
@@ -238,10 +259,10 @@ def _clock_faults(journals: Iterable[Seated], pairs: list[Timed], period: Period
 
 def _lines_of(life: Life, made: Matched) -> dict[int, Step]:
     """The lines of a chip's entries by the numbers of these. A line counts where it is surely its entry's: where there
-    are as many of both, or no other entry says the same."""
+    are as many of both, or no other entry says the same, and where no other one was asked under its number."""
     said = Counter((it.row["event"], it.row["note"]) for it in life.entries)
     is_whole = not made.entries and all(step.is_lost for _, step in made.steps)
-    pairs = ((it.entry.row, it.step) for it in made.pairs if not it.kind)
+    pairs = ((it.entry.row, it.step) for it in made.pairs if not it.kind and it.step.is_stored)
     return {row["n"]: step for row, step in pairs if is_whole or said[row["event"], row["note"]] == 1}
 
 
@@ -250,18 +271,19 @@ def _contradictions(life: Life, lines: dict[int, Step], store: Books) -> Iterato
     order."""
     states = {number: str(it.reply["state"]) for number, it in lines.items() if it.is_done() and "state" in it.reply}
     for device in life.devices:
-        chip = Chip(store.layouts[life.customer, device["map"]].fields)
+        fields = store.layouts[life.customer, device["map"]].fields
+        chip = Chip(fields) if fields else None
         for entry in life.entries:
             step = lines.get(entry.row["n"])
             asked = asked_faults(step, device, life.records) if step else ()
-            for told in chain(chip.take(entry.row, step), asked):
+            for told in chain(chip.take(entry.row, step) if chip else (), asked):
                 place = f" ({step.place()})" if step else ""
                 told = f"{_told(_left_of(entry), told)}{place}"
                 yield Found("device", step.at if step else "", life.customer, "", life.chip, told)
-            if chip.state:
+            if chip and chip.state:
                 states.setdefault(entry.row["n"], chip.state)
         faults = faults_of(device, [entry.row for entry in life.entries], life.records, states)
-        pending = () if chip.pends(device) else ("what it has still to burn isn't what its lines leave",)
+        pending = () if not chip or chip.pends(device) else ("what it has still to burn isn't what its lines leave",)
         for told in chain(faults, pending):
             yield Found("device", "", life.customer, "", life.chip, told)
     for record in () if life.devices else life.records:

@@ -22,18 +22,18 @@ KINDS = {
     "journal": "a line is none, was changed, answers what isn't asked, has no reply, another's number or an earlier "
     "time: get the journal anew",
     "late_copy": "a request that was refused was accepted later: look at what it did",
-    "map": "a fuse map isn't in the store as it was imported",
+    "map": "a fuse map isn't in the store as it was imported, or can't be read here",
     "no_entry": "a station's step isn't in the store: the store is an older one, or an entry was taken away",
     "no_journal": "a seat's journal wasn't given: get it, or its entries can't be held to anything",
     "no_line": "an entry has no line: a foreign hand, or a lost journal",
     "no_seat": "a journal is of a seat that the store doesn't have",
     "numbers": "numbers of a seat have no line or were given again, or the store has another last one: a lost "
     "journal, or an older store",
-    "order": "an order isn't in the store as it was made",
+    "order": "an order isn't in the store as it was made, or didn't give its least free number",
     "other_note": "an entry says something else than its line",
     "other_seat": "an entry is under another seat than its line",
-    "record": "a record isn't in the store as it was given, or isn't of its order",
-    "twice": "what is given but once stands twice",
+    "record": "a record isn't in the store as it was given, or isn't of its order or its issuer's customer",
+    "twice": "what is given but once stands twice, or was given to two chips",
 }
 
 HELD_TO = (

@@ -123,15 +123,17 @@ def longest_run(times: Sequence[str]) -> bytearray:
 
 
 class ToCome(NamedTuple):
-    """A line of a time to come, by the auditor's clock."""
+    """A line of a time to come, or with a reply of such a time, by the auditor's clock."""
 
     step: Step
     now: str
 
     def told(self) -> str:
-        return f"has {self.step.at}, and this machine's clock has {self.now}: that is a time to come"
+        at = max(self.step.at, self.step.answered)
+        return f"has {at}, and this machine's clock has {self.now}: that is a time to come"
 
 
 def to_come(steps: Iterable[Step], now: str) -> Iterator[ToCome]:
     """The lines of a time to come, as no honest line has it."""
-    return (ToCome(it, now) for it in steps if it.at > now and seconds_between(now, it.at) > AHEAD)
+    late = ((it, max(it.at, it.answered)) for it in steps)
+    return (ToCome(it, now) for it, at in late if at > now and seconds_between(now, at) > AHEAD)

@@ -8,6 +8,9 @@ from wanekupo.states import LOST, NONE, after, left_by
 
 Row = dict[str, Any]
 
+# The steps at which a chip shows what is burnt.
+SHOWING = ("registered", "read")
+
 # The states that stations were told, each by the number of its entry.
 Told = Mapping[int, str]
 
@@ -68,7 +71,11 @@ def _burnt_faults(device: Row, entries: Sequence[Row]) -> Iterator[str]:
             if again := mask & bits.get(place, 0):
                 yield f"its entry {entry['n']} adds {again:08x} in word {place[1]} of block {place[0]}, which was burnt"
             bits[place] = bits.get(place, 0) | mask
+        for name in sorted(entry["keys"].keys() & keys.keys()):
+            yield f"its entry {entry['n']} adds a key of {name}, which was known"
         keys.update(entry["keys"])
+        if entry["event"] not in SHOWING and (entry["bits"] or entry["keys"]):
+            yield f"its entry {entry['n']}, {entry['event']}, adds bits or keys, and at that step a chip shows nothing"
     known = {(word["block"], word["word"]): int(word["mask"], 16) for word in device["bits"]}
     for block, word in sorted(bits.keys() | known.keys()):
         by_ledger, mask = bits.get((block, word), 0), known.get((block, word), 0)

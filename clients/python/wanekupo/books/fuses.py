@@ -6,7 +6,7 @@ import functools
 import struct
 import tomllib
 from dataclasses import dataclass
-from typing import Any
+from typing import Any, Optional
 
 from wanekupo import recipe_wishes
 from wanekupo.errors import StationError
@@ -21,11 +21,12 @@ class BadMap(StationError):
 
 @dataclass(frozen=True)
 class Layout:
-    """The words of a map's blocks, its key fields in their order, each with its block, and all of its fields."""
+    """The words of a map's blocks, its key fields in their order, each with its block, and all of its fields; of a map
+    that can't be read nothing."""
 
-    blocks: tuple[int, ...]
-    keys: tuple[tuple[str, int], ...]
-    fields: recipe_wishes.Layout
+    blocks: tuple[int, ...] = ()
+    keys: tuple[tuple[str, int], ...] = ()
+    fields: Optional[recipe_wishes.Layout] = None
 
     def bits_length(self) -> int:
         return 4 * sum(self.blocks)
@@ -76,6 +77,5 @@ def layout_of(text: str) -> Layout:
         if not all(0 <= it.block and 0 < it.count <= 32 * blocks[it.block] - it.bit for it in fields.fields.values()):
             raise ValueError("a field lies in no block")
     except (ValueError, LookupError, TypeError, AttributeError) as error:
-        told = "Write the map in the words of TOML 1.0 in the next order; for this one compare seals over HTTP."
-        raise BadMap(f"a fuse map of the store can't be read here: {error}", told) from error
+        raise BadMap(str(error)) from error
     return Layout(blocks, keys, fields)

@@ -46,16 +46,16 @@ class Turn(NamedTuple):
 
 
 def counts(it: Seated, step: Step, store: Books, period: Period) -> bool:
-    """Whether a line is of a period: by its time; as the first of its journal, in front of which nothing contradicts
-    its time, with the one behind it; and behind the period as long as the store has its number. Not one that an older
-    copy of the store can't have."""
+    """Whether the store has to have a line: not one that an older copy can't have. One of before the period counts
+    where no older store took it away, and so does the first of a journal with the one behind it, as nothing contradicts
+    its time. One of behind the period counts as long as the store has its number."""
     last = store.seats[it.seat].last if it.seat in store.seats else 0
     if step.turn > 0 or step.answered >= period.end and step.number > last:
         return False
     if step.at >= period.end:
         return step.turn == 0 and step.number <= last
     first = it.book.steps[:2]
-    return step.at >= period.start or (
+    return step.at >= period.start or not step.is_lost or (
         step is first[0] and first[-1].at >= period.start and first[-1].turn == step.turn
     )
 
@@ -223,7 +223,7 @@ def _count(span: Span, seat: Seat, steps: list[Step], turns: Sequence[Turn], per
     span.first, span.at = min(it.number for it in steps), done[-1].at
     span.known = max((it.number for it in own if it.is_done()), default=numbers[-1])
     for before, after in zip(numbers, numbers[1:]):
-        if after > before + 1 and times[after] >= period.start and times[before] < period.end:
+        if after > before + 1 and times[before] < period.end:
             where = f"between {times[before]} and {times[after]}"
             span.faults.append(f"{_named(before + 1, after - 1)} no line, {where}")
     span.faults += _older_faults(done, turns, period)
@@ -235,7 +235,8 @@ def _older_faults(done: Sequence[Step], turns: Sequence[Turn], period: Period) -
     """Accepted lines of the period whose numbers were given again: the store became an older one within it."""
     greatest = list[Step]()  # those with a number greater than all in front
     for it in done:
-        if period.has(it.at) and (not greatest or it.number > greatest[-1].number):
+        is_of = it.at < period.end and it.answered >= period.start
+        if is_of and (not greatest or it.number > greatest[-1].number):
             greatest.append(it)
     for place, turn in enumerate(turns, -len(turns)):
         first = bisect_left(greatest, turn.number, key=lambda it: it.number)

@@ -19,6 +19,7 @@ def twice(store: Books) -> Iterator[Row]:
     yield from _addresses_twice(store)
     yield from _misplaced(store)
     yield from _passed_over(store)
+    yield from _jumps(store)
     yield from _import_faults(store)
     yield from _too_many(store)
     yield from _foreign(store)
@@ -75,6 +76,25 @@ def _passed_over(store: Books) -> Iterator[Row]:
             yield "order", "", customer, "", told
 
 
+def _jumps(store: Books) -> Iterator[Row]:
+    """Serial numbers that weren't the least free one of their order when they were given: nothing is free again, so of
+    an order they ascend, and none is free below them."""
+    last: dict[tuple[str, str], tuple[int, str]] = {}
+    for customer, name, chip, serial in store.identified():
+        order = store.orders.get((customer, name))
+        place = _place_of(order, serial) if order else None
+        if place is None:
+            continue
+        before = last.setdefault((customer, name), (place, serial))
+        if place < before[0]:
+            yield "order", "", customer, chip, f"the order {name} gave {serial} behind {before[1]}"
+        last[customer, name] = max(before, (place, serial))
+    for (customer, name), (place, serial) in last.items():
+        free = store.next_of(store.orders[customer, name])
+        if free and (_place_of(store.orders[customer, name], free) or 0) < place:
+            yield "order", "", customer, "", f"the order {name} gave {serial}, and {free} is free"
+
+
 def _import_faults(store: Books) -> Iterator[Row]:
     """Imported numbers with what an import never has: an address, a beginning, or an end."""
     for customer, record in store.records("WHERE g.chip IS NULL"):
@@ -95,7 +115,11 @@ def _too_many(store: Books) -> Iterator[Row]:
 
 def _foreign(store: Books) -> Iterator[Row]:
     """Records and orders of an issuer that isn't their customer's."""
-    for customer, issuer, count in store.issuers():
+    issuers = list(store.issuers())
+    if issuers and not store.owners:
+        told = "the site's text can't be read here, so no issuer is held to its customer: write it in TOML 1.0"
+        yield "record", "", "", "", told
+    for customer, issuer, count in issuers:
         owner = store.owners.get(issuer, "nobody")
         if store.owners and owner != customer:
             told = f"{count} of its records and orders are of the issuer {issuer}, which is {owner}'s by the site"
@@ -103,7 +127,9 @@ def _foreign(store: Books) -> Iterator[Row]:
 
 
 def _map_faults(store: Books) -> Iterator[Row]:
-    """Maps whose text isn't that of their digest."""
+    """Maps whose text isn't that of their digest, or can't be read."""
+    for customer, told in store.unread_maps():
+        yield "map", "", customer, "", told
     for customer, digest, text in store.maps:
         if digest != text:
             yield "map", "", customer, "", f"the map {digest} has another text, whose digest is {text}"

@@ -54,6 +54,23 @@ def unasked(journals: Iterable[Seated], store: Books, whole: set[str]) -> Iterat
             yield "import", "", customer, "", "", told
 
 
+def given_twice(journals: Iterable[Seated]) -> Iterator[Row]:
+    """Serial numbers, keys and addresses that lines of two chips have, whatever the store has of these. Not
+    what was given since a copy that a later restore made an older one."""
+    first: dict[tuple[str, ...], Step] = {}
+    for it in journals:
+        for step in it.book.steps:
+            if step.path != "/v1/identity" or not step.is_done() or step.turn > 0:
+                continue
+            issuer = str(step.reply.get("issuer"))
+            for name, whose in (("serial", issuer), ("key_sha256", issuer), ("mac", "")):
+                value = step.reply.get(name)
+                other = first.setdefault((name, whose, str(value)), step)
+                if value is not None and other.chip != step.chip:
+                    told = f"the {name} {value} was given twice: also to the chip {other.chip} ({other.place()})"
+                    yield "twice", step.at, it.customer, it.seat, step.chip, f"{told} ({step.place()})"
+
+
 def repeated(journals: Iterable[Seated]) -> list[Step]:
     """The lines that ask for a map or an import that their seat had asked for: they changed nothing, and the line of a
     step may have stood there."""

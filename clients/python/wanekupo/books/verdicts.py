@@ -10,6 +10,7 @@ import contextlib
 import hashlib
 from typing import Iterator, Mapping, NamedTuple, Optional, Sequence
 
+from wanekupo.books.coherence import SHOWING
 from wanekupo.books.steps import Step
 from wanekupo.books.stored import Row
 from wanekupo.recipe_wishes import Layout, Place, places_of, wanted_of
@@ -81,7 +82,7 @@ class Chip:
         """Goes on by an entry, and says in what it isn't as its line has it."""
         added, before, known = work_of(row), self._ones, self._keys
         self._ones, self._keys = before | places_of(added), {**added.keys, **known}
-        blocks = _blocks_of(step) if row["event"] in ("registered", "read") else None
+        blocks = _blocks_of(step) if row["event"] in SHOWING else None
         if row["event"] == "planned":
             yield from self._planned(step)
         elif row["event"] in ("identified", "scrapped"):
@@ -93,11 +94,16 @@ class Chip:
             yield "its blocks show other keys than its ledger has"
         elif row["event"] == "registered" and blocks is not None and self._differing(blocks):
             yield "its blocks show other bits than its ledger has"
+        elif blocks is not None and self._ones - before - self._layout.unhidden(self._ones):
+            if not self._differing(blocks):
+                yield "it adds bits that a read lock hides, and its blocks don't show them"
         if row["event"] == "read":
             possible = self._outcomes(before, known, blocks) if blocks is not None else {row["note"]}
             if row["note"] not in possible:
                 yield f"its outcome is {row['note']} in the store, and {' or '.join(sorted(possible))} by its blocks"
             self._batches = self._batches and self._batches.left(row["note"], self._ones, self._keys)
+            if row["note"] not in LOST:
+                yield from self._state_faults(step)
         is_left = row["event"] == "planned" or row["note"] in ("match", "short")
         self.state = self._batches.state() if self._batches and is_left else ""
 
@@ -118,9 +124,12 @@ class Chip:
             return
         bits, locks = wanted.ones - self._ones, self._layout.locks()
         self._batches = Batches(bits - locks, keys, bits & locks)
-        state = step.reply.get("state")
-        if step.is_done() and state != self._batches.state():
-            yield f"its wishes leave it {self._batches.state()}, and its reply says {state}"
+        yield from self._state_faults(step)
+
+    def _state_faults(self, step: Optional[Step]) -> Iterator[str]:
+        """Whether a reply has the state that a plan or a read-back leaves."""
+        if step and step.is_done() and self._batches and step.reply.get("state") != self._batches.state():
+            yield f"its lines leave it {self._batches.state()}, and its reply says {step.reply.get('state')}"
 
     def _outcomes(self, before: Places, known: Keys, blocks: Sequence[str]) -> set[str]:
         """The outcomes that a read-back may have. What it showed is certain where each block has all that can be read
