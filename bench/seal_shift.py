@@ -68,7 +68,9 @@ def try_shift(tried, made, folder):
 def try_rest(tried, made, folder, journals, out):
     """What is left, which is the same by a token and by what watch kept."""
     for name, seat in (("acme", "a1"), ("bolt", "b1")):
-        (folder / f"{name}.look").write_text(TOKENS[seat])
+        look = folder / f"{name}.look"
+        look.touch(0o600)
+        look.write_text(TOKENS[seat])
         watched = ["watch", "--url", made.url, "--token", folder / f"{name}.look", "--times", "1", "--customer", name]
         tried.want("watch", run(*watched, folder / f"{name}.csv")[0], 0)
     words = ["shift", *journals, "--from", START, "--to", "2099-01-01T00:00Z", "--csv", out]
