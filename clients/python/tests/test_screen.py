@@ -295,8 +295,8 @@ class Screen(unittest.TestCase):
 
     def test_the_last_chips_are_whole(self):
         """Also those without a serial number, of a socket with a long name: no scroll bar, and no time is cut."""
-        cut = """[...document.querySelectorAll('aside, #last td, #last th')].filter((it) =>
-            it.scrollWidth > it.clientWidth || it.getBoundingClientRect().right > innerWidth).map((it) => it.innerText)"""
+        cut = """[...document.querySelectorAll('aside, #last td, #last th')].filter((it) => it.scrollWidth >
+            it.clientWidth || it.getBoundingClientRect().right > innerWidth).map((it) => it.textContent)"""
         for width, height, inches, _ in SCREENS:
             self.browser.size(width, height)
             bench = self.show(1, Display(inches=inches), ended=False)
