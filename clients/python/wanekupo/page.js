@@ -218,7 +218,7 @@
     put(at("question"), asked ? asked.text : socket ? `${chosen + 1} ${socket.name}: ${toldOf(socket)} ${moreOf(socket)}` : "");
     put(at("notice"), board.notice || (own ? say(board.stopped ? "stands" : board.start) : ""));
     at("notice").hidden = !own && !board.notice;
-    put(at("asked"), say(asked ? "answer_asked" : board.start));
+    put(at("asked"), say(asked ? "answer_asked" : board.stopped ? "stands" : board.start));
     put(at("all"), say(asked ? "answer" : "begin_all"));
     put(at("begin"), socket ? say("begin", { socket: socket.name }) : "");
     const shown = { all: own && board.start !== "chip" && !board.stopped, stop: !board.stopped && !socket, shift: own, sound: own, back: socket,
