@@ -50,3 +50,21 @@ def test_each_folder_is_kept_by_itself(tmp_path, keep):
     (day / "pc8").touch()  # so the smallest one can't be kept
     (tmp_path / "all/pc9/3/b.journal").touch()
     assert "rsync error" in keep() and (day / "pc9/3/b.journal").exists()
+
+
+def test_names_that_are_no_stations(tmp_path, keep):
+    """A name with a line feed begins no line of the list, a link is no folder, and no file runs as another user."""
+    (tmp_path / "all/pc7").mkdir(parents=True)
+    (tmp_path / "all/pc7/ship").touch()
+    (tmp_path / "all/pc7/ship").chmod(0o4755)
+    (tmp_path / "own").mkdir()
+    (tmp_path / "own/x.journal").touch()
+    for name in ("b\n2 ..", f"c\n1 {tmp_path}/own", ".hidden", "-n", "d e"):
+        (tmp_path / "all" / name.replace("/", "_")).mkdir()
+    (tmp_path / "all/pc8").symlink_to(tmp_path / "own")
+    (tmp_path / "kept").chmod(0o700)
+    assert keep().count("who made such a name?") == 4  # a name that begins with a point isn't seen
+    (day,) = (tmp_path / "kept").iterdir()
+    assert [it.name for it in day.iterdir()] == ["pc7"]
+    assert (day / "pc7/ship").stat().st_mode & 0o7777 == 0o755
+    assert (tmp_path / "kept").stat().st_mode & 0o777 == 0o700

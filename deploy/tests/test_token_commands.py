@@ -211,6 +211,9 @@ def test_a_known_seat(file, tmp_path, capsys, seat, inner, is_known):
     assert done(file, *text).seats == {seat: Seat(seat, customer, inner)}
     with pytest.raises(TokenError, match="is there already"):
         done(file, *text)
+    for more in ([], ["--server", "127.0.0.1:882"]):
+        with pytest.raises(TokenError, match=f"is {customer}'s, and not zeta's"):
+            done(file, "seat", seat, "--customer", "zeta", *more)
 
 
 @pytest.mark.parametrize("text", ["", "a b", 'a"b', "a$b", "a\\b", "é", "a\nb"])

@@ -11,7 +11,7 @@ from unittest import mock
 from support import DIGEST, FLASH_KEY, MAC, MAP, ORDER, WISHES, StationCase, ran
 
 import wanekupo_station as client
-from wanekupo.files import replace_bytes
+from wanekupo.files import own_path, replace_bytes
 from wanekupo_journal import BadJournal, Journal, lines_of, requests_of
 from wanekupo_station import NoReply, UnsafeFile
 
@@ -57,6 +57,23 @@ class Owners(StationCase):
         status, _, err = ran(*words)
         self.assertEqual((status, "UnsafeFile" in err), (2, True))
         self.assertEqual((self.victim.read_text(encoding="ascii"), self.victim.stat().st_mode & 0o777), ("x", 0o644))
+
+    def test_whose_link_is_followed(self):
+        """The user's own leads to one file with one lock; another user's, also of a folder on the way, leads nowhere."""
+        (self.folder / "own").symlink_to(self.victim)
+        (self.folder / "way").symlink_to(self.folder)
+        names = ("own", "way/own", "way/new.json")
+        wanted = [self.victim, self.victim, self.folder / "new.json"]
+        self.assertEqual([own_path(self.folder / it) for it in names], [it.resolve() for it in wanted])
+        other = mock.patch("os.geteuid", return_value=os.geteuid() + 1)
+        if os.geteuid() == 0:  # whose own links everybody follows
+            other = contextlib.nullcontext()
+            for name in ("own", "way"):
+                os.chown(self.folder / name, 65534, 65534, follow_symlinks=False)
+        with other, mock.patch("wanekupo.files.tested_folder"):
+            for name in names:
+                self.assertRaisesRegex(UnsafeFile, "another user's link", own_path, self.folder / name)
+            self.assertEqual(own_path(self.victim), self.victim.resolve())
 
     def test_a_file_in_the_new_ones_place(self):
         """It goes, whatever its mode was: the state is this process's alone. A hard link's file stays as it is."""

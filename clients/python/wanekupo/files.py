@@ -57,6 +57,18 @@ def tested_folder(folder: Path) -> None:
         raise UnsafeFile(f"others can write the folder {folder}: chmod go-w it, or have these files in another one")
 
 
+def own_path(file: str | os.PathLike[str]) -> Path:
+    """Where a file is, so that its two names have one lock. A link on the way is this user's or root's, in a folder
+    that nobody else writes: another one's may lead to any file that this user can write."""
+    path = Path(os.path.abspath(file))
+    for it in (path, *path.parents):
+        if it.is_symlink():
+            tested_folder(it.parent)
+            if IS_POSIX and it.lstat().st_uid not in (os.geteuid(), 0):
+                raise UnsafeFile(f"{it} is another user's link, and isn't followed")
+    return Path(os.path.realpath(path))
+
+
 def opened_plain(file: str | os.PathLike[str], flags: int, follows_links: bool = False) -> int:
     """Opens a plain file, and makes it with mode 0600 where the flags say so; through no link, but where it is said."""
     try:

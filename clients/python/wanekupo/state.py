@@ -6,12 +6,11 @@ from __future__ import annotations
 import hashlib
 import json
 import os
-from pathlib import Path
 from typing import Any, Mapping, Optional
 
 from wanekupo.chips import redacted
 from wanekupo.errors import BadStateFile
-from wanekupo.files import locked, opened_lock, opened_own, replace_file, tested_folder
+from wanekupo.files import locked, opened_lock, opened_own, own_path, replace_file, tested_folder
 from wanekupo.texts import compact_json
 
 NAMES = ("token", "next", "under_way", "last")
@@ -45,7 +44,7 @@ class State:
 
     def __init__(self, file: Optional[str | os.PathLike[str]], token: str):
         self.token = hashlib.sha256(token.encode()).hexdigest()
-        self.file = None if file is None else Path(os.path.realpath(file))  # two names of one file have one lock
+        self.file = None if file is None else own_path(file)
         self._lock: Optional[int] = None
         self._data: dict[str, Any] = {"token": self.token, "next": None, "under_way": None, "last": None, "late": []}
         if not self.file:
