@@ -53,12 +53,22 @@ class Audits(BooksCase):
             ("below", added, ("no_line", "the entry 7, scrapped", "its entry 7 was written before its entry 6")),
             ("large", "UPDATE ledger SET n = 4611686018427387904 WHERE n = 6", ("lacks the entry 6 to 4611686018427",)),
             ("end", "UPDATE given SET not_after = '20300101000000Z'", ("not_after is 20300101000000Z in the store",)),
+            ("idle", "INSERT INTO orders VALUES ('bolt', 'b', 'bolt-ca', 'B', 3, 1, 5, 0, NULL, 1)", ("order b as",)),
         ):
             with self.subTest(name):
                 shutil.copytree(store.parent, self.folder / name)
                 self.forge(self.folder / name / "books.db", sql)
                 out = self.found(self.folder / name / "books.db", journal)
                 self.assertEqual([it for it in words if it not in out], [], out)
+        shutil.copytree(store.parent, self.folder / "late")
+        late, last = self.folder / "late" / "books.db", json.loads(journal.read_text("ascii").splitlines()[-1])
+        self.forge(late, "INSERT INTO orders VALUES ('acme', 'x', 'acme-ca', 'X', 3, 1, 5, 0, NULL, 1)")
+        asked = {"nr": last["nr"] + 1, "name": "x", "issuer": "acme-ca", "prefix": "X", "width": 3, "first": 1}
+        asked |= {"quantity": 5, "macs": 0}
+        line = {"at": last["at"], "path": "/v1/order", "asked": asked, "digest": request_digest("/v1/order", asked)}
+        with open(journal, "a", encoding="ascii") as out:
+            print(json.dumps(line), file=out)
+        self.assertIn("no line asked for the order x as it is", self.found(late, journal))
 
     def test_lines_behind_the_copy(self):
         """An audit whose end is behind the copy says from when on the journals have what the copy can't know."""

@@ -82,7 +82,7 @@ def counted(audit: Audit) -> str:
         whose = ", ".join(audit.parts)
         told = f"{told}. Orders, maps and imports of {whose} are held to no line, as these journals lack number 1"
     if audit.repeated:
-        said = f"{len(audit.repeated)} maps and imports were asked for again, which changes nothing"
+        said = f"{len(audit.repeated)} maps, imports and orders were asked for again, which changes nothing"
         told = f"{told}. {said} (the first: {audit.repeated[0].place()})"
     return f"{told}."
 

@@ -61,10 +61,11 @@ def counts(it: Seated, step: Step, store: Books, period: Period) -> bool:
 
 
 def whole_customers(spans: Iterable[Span], store: Books) -> set[str]:
-    """The customers of whose seats the journals have the first number of each that has asked for something."""
+    """The customers of whose seats the journals have the first number of each that has asked for something; so is one
+    of whom the store has rows, and no seat that asked."""
     whole = {it.seat for it in spans if it.first == 1}
     parts = {it.customer for it in store.seats.values() if it.last and it.name not in whole}
-    return {it.customer for it in store.seats.values()} - parts
+    return store.customers() - parts
 
 
 def spans_of(journals: Iterable[Seated], store: Books, period: Period) -> list[Span]:

@@ -4,6 +4,7 @@ from __future__ import annotations
 
 import contextlib
 import hashlib
+from collections import defaultdict
 from typing import Any, Callable, Iterable, Iterator, Mapping
 
 from wanekupo.books.matching import Seated
@@ -39,7 +40,7 @@ def unasked(journals: Iterable[Seated], store: Books, whole: set[str]) -> Iterat
     asked: set[tuple[str, ...]] = set()
     for it in journals:
         for step in it.book.steps:
-            if step.status in (None, 200):
+            if step.status in (None, 200) and not step.is_lost:
                 asked.update((it.customer, step.path, *name) for name in _names_of(step))
     for customer, name in store.orders:
         if customer in whole and (customer, "/v1/order", *_order_words(store.orders[customer, name])) not in asked:
@@ -72,15 +73,17 @@ def given_twice(journals: Iterable[Seated]) -> Iterator[Row]:
 
 
 def repeated(journals: Iterable[Seated]) -> list[Step]:
-    """The lines that ask for a map or an import that their seat had asked for: they changed nothing, and the line of a
-    step may have stood there."""
+    """The lines that ask for a map or an import that their seat had asked for, or for their customer's order: they
+    changed nothing, and the line of a step may have stood there."""
     found: list[Step] = []
+    known: dict[str, set[tuple[str, ...]]] = defaultdict(set)
     for it in journals:
-        known: set[tuple[str, ...]] = set()
         for step in it.book.steps:
-            names = {(step.path, *name) for name in _names_of(step) if step.path != "/v1/order" and step.is_stored}
-            found += [step] if names and names <= known else []
-            known |= names
+            if step.path in JUDGES and step.path != "/v1/identity" and step.is_stored:
+                names = {(step.path, *name) for name in _names_of(step)}
+                whose = known[it.customer if step.path == "/v1/order" else f"seat {it.seat}"]
+                found += [step] if names <= whose else []
+                whose |= names
     return found
 
 
