@@ -153,6 +153,8 @@ def changed_in(folder, name, rows):
 
 def tried_sheets(place, tried):
     status, _, told, _ = place.ran("a1", "manifest", "--all", "--out", "sheet.csv", "--xlsx", "sheet.xlsx")
+    if status:
+        raise SystemExit(f"lots: no list was made by {sys.executable}: {told}")
     expected = [shown(row) for row in rows_of(place.copy(), "acme")]
     rows = fields_in(place.folder / "sheet.csv")
     tried.same(f"a list of {len(expected)} devices", (status, rows[1:] == expected), (0, True))
