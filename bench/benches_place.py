@@ -18,8 +18,8 @@ from running import Running, script, toml  # noqa: E402
 from simulated_chip import map_fields, new_chip  # noqa: E402
 from support import SIMULATED, SITE, Program  # noqa: E402
 
-from wanekupo.errors import Refused  # noqa: E402
-from wanekupo.station import Station  # noqa: E402
+from wanekupo.common.errors import Refused  # noqa: E402
+from wanekupo.seat.station import Station  # noqa: E402
 
 FAMILIES = ("esp32", "esp32s3", "esp32c3")
 SEATS, SOCKETS = {"a1": "abc", "a2": "second"}, ("a", "b", "c", "d")

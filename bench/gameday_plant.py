@@ -26,10 +26,10 @@ os.environ.setdefault("STATION_PROGRAM", "")
 from simulated_chip import SimulatedChip  # noqa: E402
 from support import DIGEST, MAP, WISHES, Held, free_port, rows  # noqa: E402
 
-from wanekupo.espefuse import KeyFile  # noqa: E402
-from wanekupo.errors import NoReply, OutOfStep, Refused  # noqa: E402
-from wanekupo.journal import Journal  # noqa: E402
-from wanekupo.station import Station  # noqa: E402
+from wanekupo.chips.espefuse import KeyFile  # noqa: E402
+from wanekupo.common.errors import NoReply, OutOfStep, Refused  # noqa: E402
+from wanekupo.seat.journal import Journal  # noqa: E402
+from wanekupo.seat.station import Station  # noqa: E402
 
 BACKUP, RESTORE = ROOT / "deploy/backup", ROOT / "deploy/restore"
 CUSTOMERS = {"acme": ("a1", "a2", "a3"), "bolt": ("b1", "b2", "b3"), "cord": ("c1", "c2")}

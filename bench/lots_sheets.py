@@ -23,7 +23,7 @@ from tokens_place import ROOT
 
 sys.path.insert(0, str(ROOT / "clients/python"))
 
-from wanekupo.sheets import reading_of  # noqa: E402
+from wanekupo.lots.sheets import reading_of  # noqa: E402
 
 EACH = 22
 

@@ -18,8 +18,8 @@ from typing import Callable
 
 from seal_plant import END, JTAG, MAP, READ_1, START, WRITE_1, chip_of, shown
 
-from wanekupo.journal import request_digest
-from wanekupo.rows import csv_of
+from wanekupo.seat.journal import request_digest
+from wanekupo.seat.rows import csv_of
 
 ONE, TWO, WAITING = chip_of(1), chip_of(2), chip_of(8)
 OF_ONE = f"customer = 'acme' AND chip = '{ONE}'"

@@ -22,11 +22,11 @@ from registrations import MAP as LARGE_MAP  # noqa: E402
 from served import HOST, Server, station  # noqa: E402
 from stores import parts_of  # noqa: E402
 
-from wanekupo import journal as journals  # noqa: E402
-from wanekupo.chips import bit, key, redacted, rlock, wlock  # noqa: E402
-from wanekupo.journal import Journal, request_digest  # noqa: E402
-from wanekupo.rows import csv_of  # noqa: E402
-from wanekupo.station import Station  # noqa: E402
+from wanekupo.seat import journal as journals  # noqa: E402
+from wanekupo.chips.chip import bit, key, redacted, rlock, wlock  # noqa: E402
+from wanekupo.seat.journal import Journal, request_digest  # noqa: E402
+from wanekupo.seat.rows import csv_of  # noqa: E402
+from wanekupo.seat.station import Station  # noqa: E402
 
 MAP = (ROOT / "maps/esp32.toml").read_text(encoding="utf-8")
 NONE = (ROOT / "maps/none.toml").read_text(encoding="utf-8")

@@ -11,8 +11,8 @@ from pathlib import Path
 from seal_places import PERIOD, run
 from seal_plant import END, ROOT, START, TOKENS, chip_of
 
-from wanekupo.errors import OutOfStep
-from wanekupo.station import Station
+from wanekupo.common.errors import OutOfStep
+from wanekupo.seat.station import Station
 
 JQ = r"""
 reduce .[] as $l ({n: {begun: 0, shipped: 0, identified: 0, lost: 0, stray: 0, key: 0, scrapped: 0}};

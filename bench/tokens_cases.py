@@ -357,7 +357,7 @@ def exhaustive(tried):
     """The expression for a later minute, beside a comparison of texts."""
     sys.dont_write_bytecode = True
     sys.path.insert(0, str(ROOT / "deploy"))
-    from token_file import later_than
+    from wanekupo.common.token_file import later_than
 
     times = [f"{y}-{m:02}-{d:02}T{h:02}:{i:02}" for y in (2025, 2026, 2027, 2030, 2100) for m in range(1, 13)
              for d in (1, 9, 10, 19, 28, 30, 31) for h in (0, 9, 19, 23) for i in (0, 9, 10, 58, 59)]  # fmt: skip

@@ -43,7 +43,7 @@ FOLDERS = """bin dev etc/drbd.d etc/station lib/drbd lib64 mnt modules proc root
 
 # Those of Python's modules that the scripts import, and that a restore needs, as a Python says that has imported them.
 IMPORTED = """
-import argparse, encodings.idna, importlib, pathlib, secrets, sys, wanekupo.restore
+import argparse, encodings.idna, importlib, pathlib, secrets, sys, wanekupo.seat.replays
 for folder in sys.argv[1:]:
     for path in pathlib.Path(folder).glob("*.py"):
         importlib.import_module(path.stem)

@@ -14,10 +14,10 @@ from registrations import MAP, blocks_of, key_of
 ROOT = Path(__file__).resolve().parent.parent.parent
 sys.path.insert(0, str(ROOT / "clients/python"))
 
-from wanekupo.errors import Refused  # noqa: E402
-from wanekupo.journal import Journal  # noqa: E402
-from wanekupo.station import Station  # noqa: E402
-from wanekupo.witness import acknowledged  # noqa: E402
+from wanekupo.common.errors import Refused  # noqa: E402
+from wanekupo.seat.journal import Journal  # noqa: E402
+from wanekupo.seat.station import Station  # noqa: E402
+from wanekupo.cli.witness import acknowledged  # noqa: E402
 
 CUSTOMERS, SEATS = 2, 2
 DIGEST = hashlib.sha256(MAP.encode()).hexdigest()

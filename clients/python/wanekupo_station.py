@@ -6,7 +6,7 @@ These are the names of it; the folder `wanekupo` beside this file has what they 
 3.11, with the package beside it.
 """
 
-from wanekupo.chips import (
+from wanekupo.chips.chip import (
     Blocks,
     Espefuse,
     KeyFile,
@@ -23,7 +23,7 @@ from wanekupo.chips import (
     value,
     wlock,
 )
-from wanekupo.errors import (
+from wanekupo.common.errors import (
     BadStateFile,
     NoReply,
     NotTheServer,
@@ -34,7 +34,7 @@ from wanekupo.errors import (
     UnderWay,
     UnsafeFile,
 )
-from wanekupo.replies import (
+from wanekupo.seat.replies import (
     Device,
     Done,
     Entry,
@@ -50,9 +50,9 @@ from wanekupo.replies import (
     identity_of,
     work_of,
 )
-from wanekupo.rows import Rows, csv_of, parts_of, rows_of
-from wanekupo.station import Station
-from wanekupo.texts import shown
+from wanekupo.seat.rows import Rows, csv_of, parts_of, rows_of
+from wanekupo.seat.station import Station
+from wanekupo.common.texts import shown
 
 __all__ = [
     "BadStateFile",
@@ -104,6 +104,6 @@ __all__ = [
 if __name__ == "__main__":
     import sys
 
-    from wanekupo.commands import main
+    from wanekupo.cli.commands import main
 
     sys.exit(main())

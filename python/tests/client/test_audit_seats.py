@@ -1,0 +1,337 @@
+"""The lines of a seat over all its journals, as an audit takes them: their turns and numbers, and what has no reply.
+
+Journals are made up line by line. Beside them are the time stamps of seals, and what a chain of seals tells of gaps.
+"""
+
+from __future__ import annotations
+
+import hashlib
+import json
+import tempfile
+import time
+import unittest
+from collections import Counter
+from pathlib import Path
+from types import SimpleNamespace
+from unittest import mock
+
+from books_case import DAY
+from commanding import ran
+
+from wanekupo.books import steps
+from wanekupo.books.audit import Audit, Left, Unheld, _idle_faults, _journal_faults
+from wanekupo.books.audit_page import counted
+from wanekupo.books.chain import BadChain, Chain, sealed
+from wanekupo.books.clocks import contradictions
+from wanekupo.books.matches import Seated, seated, steps_by_chip
+from wanekupo.books.numbers import Span, counts, spans_of
+from wanekupo.books.papers import given_twice, unasked
+from wanekupo.books.shift import Period
+from wanekupo.books.stamp import verified
+from wanekupo.books.steps import book_of
+from wanekupo.books.store_rows import Seat
+from wanekupo.common.errors import BadJournal
+from wanekupo.seat.journal import request_digest
+
+PERIOD = Period(f"{DAY}06:00:00Z", f"{DAY}14:00:00Z")
+
+
+def asked(at, number, chip, path="/v1/ship", **more):
+    members = {"nr": number, "chip": chip, **more}
+    return {"at": f"{DAY}{at}Z", "path": path, "asked": members, "digest": request_digest(path, members), "seat": "a1"}
+
+
+def answered(at, number, status=200, **reply):
+    return {"at": f"{DAY}{at}Z", "nr": number, "status": status, "reply": reply, "seat": "a1"}
+
+
+def done(at, number, chip, path="/v1/ship"):
+    return [asked(at, number, chip, path), answered(at, number)]
+
+
+def goes_on(at, number):
+    return {"at": f"{DAY}{at}Z", "resynchronized": number, "seat": "a1"}
+
+
+def row(first, last, hour):
+    """Accepted requests of chips that have their numbers' names, one a minute."""
+    return [line for it in range(first, last + 1) for line in done(f"{hour}:{it:02}:00", it, f"c{it}")]
+
+
+class SeatCase(unittest.TestCase):
+    def setUp(self):
+        folder = tempfile.TemporaryDirectory()
+        self.addCleanup(folder.cleanup)
+        self.folder = Path(folder.name)
+
+    def book(self, lines, name="a1"):
+        file = self.folder / f"{name}.journal"
+        file.write_text("".join(json.dumps(it) + "\n" for it in lines), encoding="ascii")
+        return book_of([file])
+
+    def store(self, number=0, chip="", path="/v1/ship"):
+        last = Seat("a1", "acme", number, request_digest(path, {"nr": number, "chip": chip}), "{}")
+        return SimpleNamespace(seats={"a1": last}, records=lambda _: [])
+
+    def spans(self, books, store):
+        """What is told of a seat, and the journals behind it."""
+        journals = [seated(self.book(lines, f"j{place}"), store) for place, lines in enumerate(books)]
+        (span,) = spans_of(journals, store, PERIOD)
+        return [*span.faults, *(told for _, told in span.lost)], journals
+
+
+class Turns(SeatCase):
+    def test_numbers(self):
+        """What is told of a seat's numbers: the journals, the last one of the store and its chip, and the words."""
+        restored = [*row(1, 5, "05"), goes_on("06:30:00", 4), *done("06:31:00", 4, "n4"), *done("06:32:00", 5, "n5")]
+        pc7, pc8 = [*row(1, 3, "07"), *row(6, 6, "09")], row(4, 5, "08")
+        told = [*row(1, 3, "07"), goes_on("09:00:00", 6), *row(6, 6, "09")], [goes_on("08:00:00", 4), *row(4, 5, "08")]
+        late = [*row(1, 3, "07"), goes_on("15:00:00", 2), *done("15:01:00", 2, "n2"), *done("15:02:00", 3, "n3")]
+        over = [*row(1, 2, "05"), asked("05:59:50", 3, "c3"), answered("06:00:10", 3), goes_on("07:00:00", 3),
+                *done("07:01:00", 3, "n3")]
+        cut = [*row(1, 3, "07"), goes_on("07:06:00", 3), *row(7, 7, "07")]
+        for name, books, last, words in (
+            ("whole", [row(1, 5, "07")], (5, "c5"), []),
+            ("a restore in front", [restored], (5, "n5"), []),
+            ("a restore within", [[*row(1, 3, "07"), goes_on("08:00:00", 3), *done("08:01:00", 3, "n3")]], (3, "n3"),
+             ["goes on with the number 3, and line 5 of"]),
+            ("a restore behind a reply of the period", [over], (3, "n3"), ["became an older one"]),
+            ("lines cut behind a made-up restore", [cut], (7, "c7"),
+             ["became an older one", "the numbers 3 to 6 have no line"]),
+            ("the same in front", [[*row(1, 3, "05"), goes_on("06:06:00", 3), *row(7, 7, "07")]], (7, "c7"),
+             ["the numbers 3 to 6 have no line"]),
+            ("a number twice", [[*row(1, 5, "07"), *done("07:06:00", 2, "x")]], (5, "c5"), ["have the number 2, and"]),
+            ("the same in a journal of its own", [row(1, 5, "07"), done("07:06:00", 2, "x")], (5, "c5"),
+             ["became an older one", "the numbers 3 to 5 have no line"]),
+            ("a seat that moves and comes back", [pc7, pc8], (6, "c6"), []),
+            ("the journals the other way round", [pc8, pc7], (6, "c6"), []),
+            ("a person had it go on", list(told), (6, "c6"), []),
+            ("a seat that rests since a restore", [row(1, 5, "05")], (3, "c3"), []),
+            ("an older store", [row(1, 5, "07")], (3, "c3"), ["this is an older store"]),
+            ("a copy of before a restore", [late], (3, "c3"), []),
+            ("a journal that was copied", [row(1, 5, "07"), row(1, 5, "07")], (5, "c5"), []),
+        ):
+            with self.subTest(name):
+                found, _ = self.spans(books, self.store(*last))
+                self.assertEqual([len(found), *(it in " ".join(found) for it in words)],
+                                 [len(words), *(True for _ in words)], found)
+
+    def test_a_clock_that_errs(self):
+        """A line of a time far away, before or behind, lays the others of its journal nowhere else."""
+        for at in ("2001-01-01T00:00:00Z", "2071-01-01T00:00:00Z"):
+            first = row(1, 5, "07")
+            for line in first[4:6]:
+                line["at"] = at
+            found, _ = self.spans([first, [goes_on("08:00:00", 4), *done("08:01:00", 4, "n4")]], self.store(4, "n4"))
+            self.assertEqual(["became an older one" in it for it in found], [True], found)
+
+    def test_many_turns(self):
+        """Time grows with the lines: of a seat that goes on again and again, with numbers that it had and others."""
+        again = [line for it in range(4000) for line in (goes_on("08:00:00", 2), *done("08:00:00", 2, f"n{it}"))]
+        ahead = [line for it in range(1, 4001) for line in done("07:00:00", it, f"c{it}")]
+        ahead += [goes_on("08:00:00", 2**53 - 1) for _ in range(8000)]
+        for books, last, turns in (([[*row(1, 1, "07"), *again]], (2, "n3999"), 3999), ([ahead], (4000, "c4000"), 0)):
+            begun = time.process_time()
+            found, _ = self.spans(books, self.store(*last))
+            self.assertEqual(len(found), turns)
+            self.assertLess(time.process_time() - begun, 6)
+
+    def test_a_folder_is_bounded(self):
+        """All journals of a station's folder together, by its lines and by its bytes."""
+        (self.folder / "pc7").mkdir()
+        files = [self.book(row(1, 2, "07"), f"pc7/{name}").files[0] for name in ("a", "b")]
+        size = sum(Path(it).stat().st_size for it in files)
+        seats = {"pc7": frozenset(["a1"])}
+        for bounds, is_read in (((size, 8), True), ((size, 7), False), ((size - 1, 8), False)):
+            with mock.patch.object(steps.Room.__init__, "__defaults__", bounds):
+                if is_read:
+                    self.assertEqual(len(list(steps.shipped_books(self.folder, seats))), 2)
+                    continue
+                with self.assertRaisesRegex(BadJournal, "with .*pc7/b.journal these journals have more than"):
+                    list(steps.shipped_books(self.folder, seats))
+
+    def test_order(self):
+        """A chip's lines come by their numbers, whatever the journals' order and the clock."""
+        one, two = done("07:00:00", 1, "c"), done("07:10:00", 2, "c", "/v1/plan")
+        back = done("07:09:40", 3, "c", "/v1/scrap")
+        for books in ([one, two, back], [back, two, one], [[*one, *back], two]):
+            _, journals = self.spans(books, self.store(3, "c", "/v1/scrap"))
+            self.assertEqual([it.number for _, it in steps_by_chip(journals)["acme", "c"]], [1, 2, 3])
+
+    def test_replies(self):
+        """A request without a reply holds a place: one at the end, or one behind which a person had the seat go on.
+        Where its number was given to another it wasn't done."""
+        lost = asked("07:02:00", 2, "c2")
+        for name, lines, last, words, left in (
+            ("under way", [*row(1, 1, "07"), lost], 2, "", [1, 2]),
+            ("done", [*row(1, 1, "07"), lost, goes_on("07:02:30", 3), *row(3, 3, "07")], 3, "", [1, 2, 3]),
+            ("not done", [*row(1, 1, "07"), lost, goes_on("07:02:30", 2), *done("07:03:00", 2, "x")], 2, "", [1, 2]),
+            ("a reply is gone", [*row(1, 1, "07"), lost, *row(3, 3, "07")], 3, "was never answered", [1, 2, 3]),
+        ):
+            with self.subTest(name):
+                chip = {"under way": "c2", "not done": "x"}.get(name, "c3")
+                found, journals = self.spans([lines], self.store(last, chip))
+                self.assertEqual((words in " ".join(found), bool(found)), (True, bool(words)), found)
+                self.assertEqual([it.number for it in journals[0].book.steps], left)
+
+    def test_an_order_of_a_dropped_request(self):
+        """Its line holds no order of the store, as another request got its number."""
+        dropped = asked("07:01:00", 1, "", "/v1/order", name="o9")
+        for behind, meant in (([], 0), ([goes_on("07:02:00", 1), *row(1, 1, "08")], 1)):
+            store = self.store(1, "c1")
+            _, journals = self.spans([[dropped, *behind]], store)
+            store.orders, store.maps = {("acme", "o9"): {"name": "o9"}}, []
+            self.assertEqual(len(list(unasked(journals, store, {"acme"}))), meant)
+
+    def test_times_of_what_stands_there_twice(self):
+        """A request that goes on in another journal, or was refused first, was first asked at its first line."""
+        first = [*row(1, 1, "07"), asked("07:02:00", 2, "c2")]
+        refused = [*first, answered("07:02:00", 2, 409, no=36)]
+        for books in ([first, done("09:00:00", 2, "c2")], [[*refused, *done("09:00:00", 2, "c2")]]):
+            _, journals = self.spans(books, self.store(2, "c2"))
+            (step,) = [it for own in journals for it in own.book.steps if it.is_done() and it.number == 2]
+            self.assertEqual((step.at, step.since), (f"{DAY}09:00:00Z", f"{DAY}07:02:00Z"))
+            other = self.book(row(4, 6, "07"), "other").steps
+            self.assertEqual(list(contradictions([(1, step), *enumerate(other, 2)])), [])
+
+    def test_what_counts(self):
+        """Not a line that was answered behind the period under a number that the store hasn't, nor one that a restore
+        took away."""
+        waits = [*row(1, 1, "07"), asked("13:59:59", 2, "c2"), answered("14:00:09", 2)]
+        lost = [*row(1, 1, "05"), goes_on("06:30:00", 1), *done("06:31:00", 1, "n1")]
+        for name, lines, last, meant in (
+            ("waits", waits, (1, "c1"), [True, False]), ("is there", waits, (2, "c2"), [True, True]),
+            ("restored", lost, (1, "n1"), [False, True]),
+        ):
+            with self.subTest(name):
+                store = self.store(*last)
+                found, (own,) = self.spans([lines], store)
+                self.assertEqual(([counts(own, it, store, PERIOD) for it in own.book.steps], found), (meant, []))
+
+
+class Journals(SeatCase):
+    def test_lines(self):
+        """A reply that stands there twice is one, and another one is found, as is a path that the server hasn't."""
+        again = asked("07:02:00", 1, "c1")
+        for name, lines, words in (
+            ("again", [*row(1, 1, "07"), again, answered("07:02:00", 1)], ""),
+            ("again, behind a restore", [*row(1, 1, "07"), again, answered("07:02:00", 1, 409, no=11)], ""),
+            ("otherwise", [*row(1, 1, "07"), again, answered("07:02:00", 1, state="x")], "otherwise than before"),
+            ("twice", [*row(1, 1, "07"), answered("07:02:00", 1)], "isn't asked in front of it"),
+            ("no path", done("07:01:00", 1, "c1", "/v1/none"), "accepts /v1/none, which the server doesn't have"),
+            ("refused", [asked("07:01:00", 1, "c1", "/v1/none"), answered("07:01:00", 1, 404, no=2)], ""),
+        ):
+            with self.subTest(name):
+                book = self.book(lines)
+                self.assertEqual((len(book.steps), len(book.faults)), (1, bool(words)), book.faults)
+                self.assertTrue(words in "".join(it.told for it in book.faults), book.faults)
+
+    def test_whose(self):
+        """A journal without names is that of the seat whose last request it has with the highest number; one without a
+        line is nobody's, and is passed over."""
+        lines = [{name: it for name, it in line.items() if name != "seat"} for line in row(1, 2, "07")]
+        seats = {it.name: it for it in (Seat("a2", "acme", 1, lines[0]["digest"], "{}"),
+                                        Seat("b1", "bolt", 2, lines[2]["digest"], "{}"))}
+        store = SimpleNamespace(seats=seats)
+        self.assertEqual(seated(self.book(lines), store).seat, "b1")
+        self.assertEqual(list(_journal_faults([Seated(self.book([]), "", "", "")], store)), [])
+
+    def test_a_seat_without_a_row(self):
+        """One of the site that was only refused is known; one of no site, or with an accepted line, isn't."""
+        refused = [asked("07:00:00", 1, "c1"), answered("07:00:01", 1, 409, no=17)]
+        for sites, lines, meant in ((("a1",), refused, []), ((), refused, ["no_seat"]),
+                                    (("a1",), row(1, 1, "07"), ["no_seat"])):
+            store = SimpleNamespace(seats={}, site_seats=frozenset(sites))
+            own = Seated(self.book(lines), "a1", "", "")
+            self.assertEqual([it.kind for it in _journal_faults([own], store)], meant)
+
+    def test_entries_from_before_a_journal(self):
+        """Each seat's own first line counts, and as many entries as it had numbers; those of number 1 have none."""
+        pairs = [(5, SimpleNamespace(seat="a1")), (9, SimpleNamespace(seat="a2"))]
+        unheld = Unheld(pairs, [Span("a1", "acme", "", 1), Span("a2", "acme", "", 3)])
+        for number, seat, meant in ((7, "a2", True), (8, "a2", True), (8, "a2", False), (3, "a1", False),
+                                    (3, "a3", True), (6, "a3", False)):
+            left = Left(number, "acme", "c", 1, "shipped", "", seat)
+            self.assertEqual(unheld.has(left), meant, left)
+
+    def test_a_seat_without_a_journal(self):
+        """Its requests are told where it has more of them than entries."""
+        store = SimpleNamespace(seats={name: Seat(name, "acme", 8, "", "") for name in ("a1", "a2")})
+        found = [it.told for it in _idle_faults({"a1", "a2"}, Counter(a1=8, a2=6), store)]
+        self.assertEqual(len(found), 1)
+        self.assertIn("2 of its 8 requests are of no device", found[0])
+
+    def test_what_lines_say_was_given_twice(self):
+        """A serial number, a key of an issuer, an address: of two chips, also where one is in no store."""
+        steps = [("c1", "ca", "S1", "k1", "m1"), ("c1", "ca", "S1", "k1", "m1"), ("c2", "cb", "S1", "k1", "m2"),
+                 ("c3", "ca", "S1", "k3", None), ("c4", "ca", "S4", "k1", None), ("c5", "ca", "S5", "k5", "m2")]
+        lines = []
+        for number, (chip, issuer, serial, key, mac) in enumerate(steps, 1):
+            reply = {"issuer": issuer, "serial": serial, "key_sha256": key, "mac": mac}
+            lines += [asked(f"07:{number:02}:00", number, chip, "/v1/identity"),
+                      answered(f"07:{number:02}:01", number, **reply)]
+        own = Seated(self.book(lines), "a1", "acme", "")
+        found = [("c3", "serial"), ("c4", "key_sha256"), ("c5", "mac")]
+        for turn, meant in ((0, found), (1, found[1:])):
+            own.book.steps[3].turn = turn
+            self.assertEqual([(it[4], it[5].split()[1]) for it in given_twice([own])], meant)
+
+    def test_what_is_held_to_no_line(self):
+        self.assertIn("imports of acme, bolt are held to no line", counted(Audit(PERIOD, parts=["acme", "bolt"])))
+        self.assertNotIn("held to no", counted(Audit(PERIOD)))
+
+
+class Seals(unittest.TestCase):
+    def setUp(self):
+        folder = tempfile.TemporaryDirectory()
+        self.addCleanup(folder.cleanup)
+        self.folder = Path(folder.name)
+
+    def test_gaps(self):
+        """The longest time without a seal is told where it is above a day, and a seal that was kept has to be there."""
+        text = 'map acme 1 {"map":"1","text_sha256":"1"}\n'
+        last, lines = 64 * "0", []
+        for number, day in enumerate((1, 2, 3, 9, 10), 1):
+            digest = hashlib.sha256(text.encode()).hexdigest()
+            it = sealed(last, number, f"2026-01-{day:02}T02:00:00Z", "acme", 1, digest)
+            (self.folder / f"{number:06}.rows").write_text(text)
+            (self.folder / f"{number:06}.seal").write_text(it.line() + "\n")
+            last, lines = it.seal, [*lines, it.line() + "\n"]
+        (self.folder / "chain").write_text("".join(lines))
+        for words, status, told in (
+            ([], 0, "The longest time without a seal: 144 hours, from 000003 of 2026-01-03T02:00:00Z to 000004 of"),
+            ([], 0, "The last time without a seal: 24 hours, from 000004 of 2026-01-09T02:00:00Z to 000005 of"),
+            (["--last", lines[1]], 0, "Nothing found"), (["--last", last], 0, "Nothing found"),
+            (["--last", 64 * "a"], 1, "The seal that --last names isn't in the chain"),
+        ):
+            found, out, _ = ran("seal", "--verify", self.folder, *words)
+            self.assertEqual((found, told in out), (status, True), out)
+
+    def test_the_moment_of_a_stamp(self):
+        """A kept stamp is verified as of its own moment: 1795982400 by `date -u -d 2026-11-29T20:00:00Z +%s`."""
+        (self.folder / "x.tsr").write_bytes(b"x")
+        text = b"Time stamp: Nov 29 20:00:00 2026 GMT\n"
+        service = SimpleNamespace(is_verified=mock.Mock(return_value=True))
+        with mock.patch("wanekupo.books.stamp._openssl", return_value=text):
+            self.assertTrue(verified(self.folder / "x.tsr", "ab", service))
+        words = service.is_verified.call_args.args[1:]
+        self.assertEqual(words, ("-digest", "ab", "-attime", "1795982400"))
+        with mock.patch("wanekupo.books.stamp._openssl", return_value=b"no moment"):
+            self.assertFalse(verified(self.folder / "x.tsr", "ab", service))
+
+    def test_a_service_whose_clock_went_back(self):
+        """A stamp of before the last one isn't taken: `--verify` would find it for ever."""
+        chain = Chain(self.folder)
+        for moment, is_taken in (("02:04:00", True), ("02:01:00", False), ("02:05:00", True)):
+            service = SimpleNamespace(stamped=lambda _, moment=moment: f"2026-01-01T{moment}Z".encode())
+            with mock.patch("wanekupo.books.chain.moment_in", Path.read_text):
+                try:
+                    chain.add(["a"], "2026-01-01T02:01:00Z", "acme", None, service)
+                    self.assertTrue(is_taken, moment)
+                except BadChain as error:
+                    self.assertFalse(is_taken, error)
+        self.assertEqual(len(chain.seals()), 2)
+
+
+if __name__ == "__main__":
+    unittest.main()

@@ -1,0 +1,144 @@
+"""The settings of the command `wanekupo`, and the examples that its package has.
+
+Expected values are those of docs/reference/client.md and docs/how-to/run-a-bench.md.
+"""
+
+from __future__ import annotations
+
+import contextlib
+import os
+import re
+import tempfile
+import unittest
+from pathlib import Path
+
+from support import MAC, ROOT
+
+from wanekupo.seat.settings import Settings, settings_of, token_of
+from wanekupo.common.errors import BadSettings
+
+
+class Config(unittest.TestCase):
+    def test_what_wins(self):
+        """The command line over the environment, that over the user's file, that over the machine's."""
+        for given, expected in (
+            ("line environment user machine", "line"),
+            ("environment user machine", "environment"),
+            ("user machine", "user"),
+            ("machine", "machine"),
+            ("", Settings().seat),
+        ):
+            with self.subTest(given), self.folder() as folder:
+                files = [folder / "user", folder / "machine"]
+                for file in files:
+                    if file.name in given:
+                        file.write_text(f'seat = "{file.name}"\n', encoding="utf-8")
+                line = {"seat": "line" if "line" in given else None, "chip": MAC}
+                environment = {"WANEKUPO_SEAT": "environment"} if "environment" in given else {}
+                self.assertEqual(settings_of(line, environment, files).seat, expected)
+
+    @staticmethod
+    @contextlib.contextmanager
+    def folder():
+        with tempfile.TemporaryDirectory() as folder:
+            yield Path(folder)
+
+    def test_each_setting(self):
+        """As the three say it; a path counts from the folder of the file that has it."""
+        with self.folder() as folder:
+            file = folder / "wanekupo.toml"
+            file.write_text(
+                'url = "https://station.example"\ntoken = "a1.token"\nstate = "/var/a1.json"\njournal = "journals"\n'
+                'ca = "~/ca.pem"\ninsecure = true\npatience = 7\nseat = "a1"\noperator = "Zoë"\nspool = "spool"\n',
+                encoding="utf-8",
+            )
+            home = Path(os.path.expanduser("~"))
+            expected = Settings(
+                "https://station.example",
+                folder / "a1.token",
+                Path("/var/a1.json"),
+                folder / "journals",
+                home / "ca.pem",
+                True,
+                7.0,
+                "a1",
+                "Zoë",
+                folder / "spool",
+            )
+            self.assertEqual(settings_of({}, {}, [file]), expected)
+            named = {f"WANEKUPO_{name.upper()}": str(value) for name, value in vars(expected).items()}
+            self.assertEqual(settings_of({}, named, []), expected)
+            # --config stands in the place of both files
+            other = folder / "other"
+            other.write_text('seat = "other"\n', encoding="utf-8")
+            self.assertEqual(settings_of({"config": str(other)}, {}, [file]), Settings(seat="other"))
+
+    def test_what_is_refused(self):
+        """With the name of the file, and what is wrong with it."""
+        for text, told in (
+            ('tokn = "a1"\n', "'tokn'"),
+            ("url = 7\n", "url"),
+            ('patience = "soon"\n', "patience"),
+            ("patience = true\n", "patience"),
+            ("insecure = 2\n", "insecure"),
+            ('seat = "../a1"\n', "seat"),
+            ("token =\n", "line 1"),
+            ('journal = "journals/"\n', "journal"),
+        ):
+            with self.subTest(text), self.folder() as folder:
+                file = folder / "wanekupo.toml"
+                file.write_text(text, encoding="utf-8")
+                with self.assertRaises(BadSettings) as found:
+                    settings_of({}, {}, [file])
+                self.assertIn(str(file), str(found.exception))
+                self.assertIn(told, str(found.exception))
+        with self.folder() as folder:
+            file = folder / "wanekupo.toml"
+            file.write_text('url = "http://127.0.0.1:1"\n', encoding="utf-8")
+            file.chmod(0o666)
+            with self.assertRaises(BadSettings):
+                settings_of({}, {}, [file])
+            with self.assertRaises(BadSettings):
+                settings_of({"config": str(folder / "none")}, {}, [])
+
+
+    def test_a_token_that_strangers_may_read(self):
+        """It is refused with what to type; the group of a service may read it."""
+        with self.folder() as folder:
+            file = folder / "a1.token"
+            file.write_text("abc\n", encoding="ascii")
+            for mode in (0o600, 0o400, 0o640):
+                file.chmod(mode)
+                self.assertEqual(token_of(Settings(token=file)), "abc")
+            for mode in (0o644, 0o604, 0o660, 0o602):
+                file.chmod(mode)
+                with self.assertRaises(BadSettings) as found:
+                    token_of(Settings(token=file))
+                self.assertIn(f"chmod 600 {file}", found.exception.advice, oct(mode))
+
+
+class Example(unittest.TestCase):
+    """What the package has in its examples, and its man page of a recipe, beside the page on benches."""
+
+    def setUp(self):
+        self.page = (ROOT / "docs" / "how-to" / "run-a-bench.md").read_text(encoding="utf-8")
+
+    def test_its_files(self):
+        """The page shows each of them whole, byte for byte."""
+        for name in ("thermostat.toml", "make-csr", "flash", "label", "read-csr"):
+            lines = (ROOT / "deploy" / "thermostat" / name).read_text(encoding="utf-8").splitlines()
+            indent = "    " if name == "read-csr" else "       "
+            shown = "".join(f"{indent}{line}".rstrip() + "\n" for line in lines)
+            self.assertIn(f"\n\n{shown}\n", self.page, name)
+
+    def test_the_man_page(self):
+        """It has each name that the page's tables of a recipe and of hooks have."""
+        tables = self.page.partition("## The recipe")[2].partition("## How a chip's stay ends")[0]
+        names = set(re.findall(r"`([A-Za-z_0-9]+)`", "".join(re.findall(r"^\|.*$", tables, re.MULTILINE))))
+        self.assertLessEqual({"order", "burnt_as", "lost_in_a_row", "before_ship", "KEY_SHA256"}, names)
+        man = (ROOT / "deploy" / "wanekupo-recipe.5").read_text(encoding="utf-8")
+        self.assertEqual([name for name in sorted(names) if not re.search(rf"\b{name}\b", man)], [])
+
+
+if __name__ == "__main__":
+    unittest.main()

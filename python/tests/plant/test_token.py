@@ -1,0 +1,218 @@
+"""The commands of station-token: days, spans, what ends and what comes in its place, and the files that it writes."""
+
+import os
+import subprocess
+import tomllib
+from pathlib import Path
+
+import pytest
+from wanekupo.common import token_file
+from wanekupo.standby.half import Settings
+from scripts import script
+from wanekupo.common.token_file import LAST, Outer, Seat, TokenError, Tokens, mark_of, tokens_of
+
+token = script("token")
+
+DAY = "2026-11-29"
+
+
+@pytest.fixture(autouse=True)
+def clock(monkeypatch):
+    for module in (token_file, token):
+        monkeypatch.setattr(module, "now", lambda: f"{DAY}T10:00")
+
+
+def args_of(*words):
+    return token.parser().parse_args(words)
+
+
+def tokens_with(*outers):
+    made = Tokens({"a1": Seat("a1", "acme", "inner-of-a1", given=9), "b1": Seat("b1", "bolt", "inner-of-b1", given=9)})
+    made.outers = list(outers)
+    return made
+
+
+def outer(number, seat="a1", **more):
+    kept = {"text": "t" * number, "mark": mark_of("t" * number), "looks": False, "since": f"{DAY}T00:00"}
+    return Outer(token=f"{seat}:{number}", number=number, seat=seat, **{**kept, **more})
+
+
+DAYS = [("2026-11-29", "2026-11-29T23:59"), ("2026-12-24", "2026-12-24T23:59"), ("2028-02-29", "2028-02-29T23:59")]
+NO_DAYS = ["2026-11-28", "2026-02-30", "2027-02-29", "24.12.2026", "2026-12-24T10:00", "20261224", "", "2026-12-24\n"]
+
+
+@pytest.mark.parametrize("day, minute", DAYS)
+def test_last_minute_of_a_day(day, minute):
+    assert token.minute_of(day) == minute
+
+
+@pytest.mark.parametrize("day", NO_DAYS)
+def test_no_day(day):
+    with pytest.raises(TokenError) as error:
+        token.minute_of(day)
+    assert error.value.status == 1
+
+
+SPANS = [("30m", "30 minutes"), ("8h", "8 hours"), ("2d", "48 hours"), ("9999m", "9999 minutes")]
+
+
+@pytest.mark.parametrize("span, said", SPANS)
+def test_minute_behind_a_span(span, said):
+    """As `date` has it; a minute may go by meanwhile."""
+    words = ["date", "-d", said, "+%Y-%m-%dT%H:%M"]
+    before = subprocess.run(words, capture_output=True, text=True, check=True).stdout.strip()
+    found = token.minute_after(span)
+    after = subprocess.run(words, capture_output=True, text=True, check=True).stdout.strip()
+    assert before <= found <= after
+
+
+@pytest.mark.parametrize("span", ["0m", "0h", "0000d"])
+def test_a_span_of_nothing_ends_now(span):
+    assert token.minute_after(span) == ""
+
+
+@pytest.mark.parametrize("span", ["", "30", "m", "-1h", "1.5h", "8 h", "8H", "10000m", "1w", "8h\n"])
+def test_no_span(span):
+    with pytest.raises(TokenError, match="is no span"):
+        token.minute_after(span)
+
+
+def state_of(tokens):
+    return {it.token: (bool(it.text), it.until, it.ended) for it in tokens.outers}
+
+
+def test_revoke_ends_one_or_all_of_a_seat():
+    for name, gone in (("a1:1", ["a1:1"]), ("a1", ["a1:1", "a1:2"]), ("b1", ["b1:3"])):
+        tokens = tokens_with(outer(1), outer(2), outer(3, "b1"), outer(4, "b1", text="", ended="2026-11-01T00:00"))
+        marks = {it.token: it.mark for it in tokens.outers}
+        done = token.revoke(args_of("revoke", name), tokens)
+        ended = {it.token for it in tokens.outers if it.ended == f"{DAY}T10:00"}
+        assert ended == set(gone) and not any(it.text for it in tokens.outers if it.ended)
+        assert {it.token: it.mark for it in tokens.outers} == marks
+        assert done.is_change and all(f"{it} has ended" in done.told for it in gone)
+
+
+@pytest.mark.parametrize("name", ["a1:9", "b1:5", "c1", "", "a1:"])
+def test_nothing_to_revoke(name):
+    tokens = tokens_with(outer(1), outer(4, "b1", text="", ended="2026-11-01T00:00"))
+    with pytest.raises(TokenError, match="there is no outer token"):
+        token.revoke(args_of("revoke", name), tokens)
+
+
+def test_rotate_gives_another_and_ends_the_old_one_now():
+    tokens = tokens_with(outer(1, looks=True, until=f"2026-12-24{LAST}", holder="line 1"), outer(7, "b1"))
+    done = token.rotate(args_of("rotate", "a1:1"), tokens)
+    old, other, new = tokens.outers
+    assert (old.text, old.ended, other.ended) == ("", f"{DAY}T10:00", "")
+    # The new one may what the old one may, has a name and a number that no other had, and another text.
+    assert (new.token, new.number, new.seat) == ("a1:10", 8, "a1")
+    assert (new.looks, new.until, new.holder, new.ended) == (True, f"2026-12-24{LAST}", "line 1", "")
+    assert new.text == done.secret and new.text.startswith("wanekupo_") and len(new.text) == 9 + 64
+    assert new.mark == mark_of(new.text) and tokens.seats["a1"].given == 10
+
+
+def test_rotate_with_grace_has_both_until_then(monkeypatch):
+    monkeypatch.setattr(token, "minute_after", lambda grace: {"8h": f"{DAY}T18:00", "60d": "2027-01-28T10:00"}[grace])
+    for until, grace, ends in (("", "8h", f"{DAY}T18:00"), (f"2026-12-24{LAST}", "8h", f"{DAY}T18:00"),
+                               (f"2026-12-24{LAST}", "60d", f"2026-12-24{LAST}")):  # fmt: skip
+        tokens = tokens_with(outer(1, until=until))
+        token.rotate(args_of("rotate", "a1:1", "--grace", grace), tokens)
+        assert state_of(tokens) == {"a1:1": (True, ends, ""), "a1:10": (True, until, "")}
+
+
+NOT_ROTATED = [
+    ([outer(1, until=f"{DAY}T18:00")], "a1:1", "rotated already"),
+    ([outer(1), outer(2)], "a1", "a1 has 2 outer tokens; which\\? a1:1, a1:2"),
+    ([outer(1, text="", subject="CN=pc7")], "a1:1", "is a certificate's"),
+    ([outer(1, text="", ended="2026-11-01T00:00")], "a1:1", "there is no outer token"),
+]
+
+
+@pytest.mark.parametrize("outers, name, told", NOT_ROTATED)
+def test_not_rotated(outers, name, told):
+    tokens = tokens_with(*outers)
+    with pytest.raises(TokenError, match=told):
+        token.rotate(args_of("rotate", name), tokens)
+    assert tokens.outers == outers
+
+
+def test_add_gives_what_is_asked_for():
+    tokens = tokens_with()
+    token.add(args_of("add", "a1", "--look", "--until", "2026-12-24", "--holder", "office"), tokens)
+    token.add(args_of("add", "b1", "--certificate", "CN=pc7,O=Our plant"), tokens)
+    looks, certificate = tokens.outers
+    assert (looks.token, looks.looks, looks.until, looks.holder) == ("a1:10", True, f"2026-12-24{LAST}", "office")
+    assert (certificate.text, certificate.subject, certificate.number) == ("", "CN=pc7,O=Our plant", 2)
+    for words, told in ((("add", "c1"), "there is no seat"), (("add", "a1", "--until", "2026-11-28"), "is past"),
+                        (("add", "a1", "--certificate", "CN=pc7,O=Our plant"), "has a seat already"),
+                        (("add", "a1", "--certificate", 'CN="x'), "is no subject"),
+                        (("add", "a1", "--holder", "x\x1b"), "is no text")):  # fmt: skip
+        with pytest.raises(TokenError, match=told):
+            token.add(args_of(*words), tokens)
+    assert len(tokens.outers) == 2
+
+
+def test_the_list_shows_no_token():
+    tokens = tokens_with(outer(1), outer(2, until=f"2026-11-28{LAST}"), outer(3, text="", ended="2026-11-01T00:00"))
+    lines = token.show(args_of("list", "--all"), tokens).shown.splitlines()
+    assert [line.split()[0] for line in lines] == ["name", "a1:1", "a1:2", "a1:3"]
+    assert "2026-11-28 past" in lines[2] and "ended 2026-11-01T00:00" in lines[3]
+    assert len(token.show(args_of("list"), tokens).shown.splitlines()) == 3
+
+
+SITE = '[[customer]]\nname = "acme"\nissuer = ["acme-ca"]\n\n[[customer]]\nname = "bolt"\nissuer = []\n'
+
+
+def files(tmp_path):
+    tmp_path.chmod(0o700)
+    site = tmp_path / "new.toml"
+    site.write_text(SITE)
+    site.chmod(0o640)
+    return tmp_path / "tokens.conf", site
+
+
+def test_a_site_file_is_written_whole_with_its_mode(tmp_path, monkeypatch):
+    path, site = files(tmp_path)
+    token.run(args_of("--file", str(path), "--no-reload", "seat", "a1", "--customer", "acme", "--into", str(site)))
+    seat = tokens_of(path.read_text(), path).seats["a1"]
+    printed = subprocess.run(["sha256sum"], input=seat.inner, capture_output=True, text=True, check=True).stdout
+    found = tomllib.loads(site.read_text())["customer"]
+    assert found[0]["seat"] == [{"name": "a1", "token": printed.split()[0]}] and "seat" not in found[1]
+    assert site.stat().st_mode & 0o777 == 0o640 and path.stat().st_mode & 0o777 == 0o600
+    before, replace = site.read_bytes(), os.replace
+
+    def full(source, to):
+        if Path(to) == site:
+            raise OSError(28, "No space left on device")
+        replace(source, to)
+
+    monkeypatch.setattr(os, "replace", full)
+    with pytest.raises(TokenError, match="No space left") as error:
+        token.run(args_of("--file", str(path), "--no-reload", "seat", "a2", "--customer", "acme", "--into", str(site)))
+    assert error.value.status == 7, "of station-token(8): the tokens' file is changed"
+    assert site.read_bytes() == before and sorted(it.name for it in tmp_path.iterdir()) == [
+        "new.toml", "tokens.conf", "tokens.conf.lock"]  # fmt: skip
+
+
+def test_a_link_to_a_site_file_stays_one(tmp_path):
+    path, site = files(tmp_path)
+    link = tmp_path / "link.toml"
+    link.symlink_to(site)
+    token.run(args_of("--file", str(path), "--no-reload", "seat", "a1", "--customer", "acme", "--into", str(link)))
+    assert link.is_symlink() and "a1" in site.read_text()
+
+
+def test_a_list_that_cant_be_left_is_status_6(tmp_path, monkeypatch):
+    path, _ = files(tmp_path)
+    monkeypatch.setattr(token, "SETTINGS", tmp_path)
+    monkeypatch.setattr(token, "read_settings", lambda: Settings(tokens=str(path)))
+    monkeypatch.setattr(token.Half, "is_mounted", lambda self: True)
+    monkeypatch.setattr(token.living, "leave", lambda half, tokens: (_ for _ in ()).throw(token.Refused("frozen.")))
+    with pytest.raises(TokenError, match="the other machine doesn't know it. frozen") as error:
+        token.run(args_of("--file", str(path), "--no-reload", "seat", "a1", "--customer", "acme"))
+    assert error.value.status == 6 and "a1" in tokens_of(path.read_text(), path).seats
+    left = []
+    monkeypatch.setattr(token.living, "leave", lambda half, tokens: left.append(sorted(tokens.seats)))
+    token.run(args_of("--file", str(path), "--no-reload", "seat", "b1", "--customer", "bolt"))
+    token.run(args_of("--file", str(path), "--no-reload", "list"))
+    assert left == [["a1", "b1"]]

@@ -1,0 +1,96 @@
+"""Files that are whole or not there, with a mode that fits, and a lock that one run at a time has."""
+
+import os
+import stat
+
+import pytest
+from wanekupo.common.whole_file import held, make_file, put_whole
+
+
+def mode_of(path):
+    return stat.S_IMODE(path.stat().st_mode)
+
+
+def test_a_new_file_is_its_owners_alone_and_replaces_nothing(tmp_path):
+    path = tmp_path / "new"
+    os.umask(0)
+    make_file(path, "ä\n")
+    assert path.read_bytes() == b"\xc3\xa4\n" and mode_of(path) == 0o600
+    with pytest.raises(FileExistsError):
+        make_file(path, "other")
+    (tmp_path / "link").symlink_to(tmp_path / "elsewhere")
+    with pytest.raises(FileExistsError):
+        make_file(tmp_path / "link", "other")
+    assert path.read_bytes() == b"\xc3\xa4\n" and not (tmp_path / "elsewhere").exists()
+
+
+def test_a_text_comes_in_a_files_place(tmp_path):
+    path, like = tmp_path / "file", tmp_path / "like"
+    like.write_text("x")
+    like.chmod(0o640)
+    for text in ("one\n", "two\n", ""):
+        put_whole(path, text)
+        assert path.read_text() == text and mode_of(path) == 0o600
+    put_whole(path, "three\n", like.stat())
+    assert path.read_text() == "three\n" and mode_of(path) == 0o640
+    assert sorted(it.name for it in tmp_path.iterdir()) == ["file", "like"]
+
+
+def test_what_a_cut_run_left_is_no_trap(tmp_path):
+    path, other = tmp_path / "file", tmp_path / "other"
+    other.write_text("other\n")
+    (tmp_path / "file.new").symlink_to(other)
+    put_whole(path, "text\n")
+    assert (path.read_text(), other.read_text(), path.is_symlink()) == ("text\n", "other\n", False)
+
+
+# Each call of the system that may fail, in its order: the file of before is whole then, and nothing is beside it.
+CALLS = ["fsync", "replace"]
+
+
+@pytest.mark.parametrize("call", CALLS)
+def test_a_failure_leaves_the_file_of_before(tmp_path, monkeypatch, call):
+    path = tmp_path / "file"
+    path.write_text("before\n")
+
+    def fails(*_):
+        raise OSError(28, "No space left on device")
+
+    monkeypatch.setattr(os, call, fails)
+    with pytest.raises(OSError, match="No space left"):
+        put_whole(path, "text\n")
+    assert path.read_text() == "before\n" and [it.name for it in tmp_path.iterdir()] == ["file"]
+
+
+def test_the_file_and_its_folder_are_synced_in_order(tmp_path, monkeypatch):
+    path, done = tmp_path / "file", []
+    fsync, replace = os.fsync, os.replace
+
+    def synced(handle):
+        done.append("folder" if stat.S_ISDIR(os.fstat(handle).st_mode) else "file")
+        fsync(handle)
+
+    def replaced(source, to):
+        done.append("name")
+        replace(source, to)
+
+    monkeypatch.setattr(os, "fsync", synced)
+    monkeypatch.setattr(os, "replace", replaced)
+    put_whole(path, "text\n")
+    assert done == ["file", "name", "folder"]
+
+
+class BusyError(Exception):
+    pass
+
+
+def test_one_run_has_the_lock(tmp_path):
+    lock = tmp_path / "lock"
+    with held(lock, BusyError("busy")):
+        with pytest.raises(BusyError), held(lock, BusyError("busy"), 0.1):
+            pass
+    with held(lock, BusyError("busy")):
+        assert mode_of(lock) == 0o600
+    (tmp_path / "link").symlink_to(lock)
+    with pytest.raises(OSError), held(tmp_path / "link", BusyError("busy")):
+        pass

@@ -1,0 +1,81 @@
+"""The recipe's own commands, as a key pair's, a flash tool's and a label printer's.
+
+A hook is a command with SERIAL, MAC, MACS, CHIP, ORDER, KEY_SHA256 and FOLDER in its environment. It runs in a session
+of its own, so that all that it started ends with it.
+"""
+
+from __future__ import annotations
+
+import contextlib
+import os
+import select
+import signal
+import subprocess
+import tempfile
+import time
+from dataclasses import dataclass
+from pathlib import Path
+from typing import IO, Callable, Mapping, Optional
+
+from wanekupo.bench.endings import Ended
+from wanekupo.bench.recipe import Command
+from wanekupo.common.texts import shown, without_secrets
+
+# What of a hook's output is kept in the log, and what of its last line comes on a screen.
+KEPT_OUTPUT, SHOWN_OUTPUT = 1 << 16, 120
+
+
+@dataclass(frozen=True)
+class Done:
+    """What a hook did: its status, None where its time was out, how long it took, and what it printed."""
+
+    name: str
+    status: Optional[int]
+    seconds: float
+    output: str
+
+
+def run_hook(command: Command, facts: Mapping[str, str], here: Path, log: Callable[[Done], None]) -> None:
+    """Runs a command in the recipe's folder with the facts in its environment, and has its output kept. Raises how it
+    failed. What it leaves running is ended."""
+    begun = time.monotonic()
+    with tempfile.TemporaryFile() as output:
+        try:
+            process = subprocess.Popen(
+                command.words,
+                cwd=here,
+                env={**os.environ, **facts},
+                stdin=subprocess.DEVNULL,
+                stdout=output,
+                stderr=subprocess.STDOUT,
+                start_new_session=True,
+            )
+        except OSError as error:
+            raise Ended("hook_missing", hook=command.name, detail=error.strerror) from error
+        status = _waited(process, command.timeout)
+        said = _output(output)
+    kept = without_secrets(said, (facts.get("KEY_SHA256", ""),))
+    log(Done(command.name, status, round(time.monotonic() - begun, 3), kept))
+    if status is None:
+        raise Ended("hook_late", hook=command.name, detail=f"more than {command.timeout:g} seconds")
+    if status:
+        lines = [line.strip() for line in kept.splitlines() if line.strip()]
+        told = lines[-1][:SHOWN_OUTPUT] if lines else f"status {status}"
+        raise Ended("hook_failed", hook=command.name, detail=shown(told))
+
+
+def _waited(process: subprocess.Popen[bytes], timeout: float) -> Optional[int]:
+    """The status of a process, None where its time was out. What it started is ended before its number is free."""
+    with open(os.pidfd_open(process.pid), "rb") as ended:
+        is_in_time = bool(select.select([ended], [], [], timeout)[0])
+    with contextlib.suppress(ProcessLookupError):
+        os.killpg(process.pid, signal.SIGKILL)
+    status = process.wait()
+    return status if is_in_time else None
+
+
+def _output(output: IO[bytes]) -> str:
+    """The end of what was printed."""
+    size = output.seek(0, os.SEEK_END)
+    output.seek(max(0, size - KEPT_OUTPUT))
+    return output.read().decode("utf-8", errors="replace")

@@ -1,0 +1,108 @@
+"""What an audit looks like: a page that is printed, tables for a terminal, and a file of comma-separated values."""
+
+from __future__ import annotations
+
+from typing import Sequence
+
+from wanekupo.books.audit import Audit
+from wanekupo.books.pages import Table, heading, page, paragraph
+
+FOUND = ("kind", "time", "customer", "seat", "chip", "what")
+HELD = ("customer", "seat", "journal", "known", "lines", "matched", "unanswered", "numbers", "last")
+READ = ("file", "bytes", "sha256")
+NUMBERS = frozenset(("lines", "matched", "unanswered", "last", "bytes"))
+
+# What each kind means, and what to do.
+KINDS = {
+    "clock": "a time that can't be, by the order of the entries or by the auditor's clock: a time was changed, or a "
+    "station's clock was wrong",
+    "device": "a device, its ledger and its record contradict each other: somebody wrote to the store by hand",
+    "exchanged": "an entry is at another place in its ledger than its line in the journal",
+    "import": "an imported serial number isn't in the store as the journal has it",
+    "journal": "a line is none, was changed, answers what isn't asked, has no reply, another's number or an earlier "
+    "time: get the journal anew",
+    "late_copy": "a request that was refused was accepted later: look at what it did",
+    "map": "a fuse map isn't in the store as it was imported, or can't be read here",
+    "no_entry": "a station's step isn't in the store: the store is an older one, or an entry was taken away",
+    "no_journal": "a seat's journal wasn't given: get it, or its entries can't be held to anything",
+    "no_line": "an entry has no line: a foreign hand, or a lost journal",
+    "no_seat": "a journal is of a seat that the store doesn't have",
+    "numbers": "numbers of a seat have no line or were given again, or the store has another last one: a lost "
+    "journal, or an older store",
+    "order": "an order isn't in the store as it was made, or didn't give its least free number",
+    "other_note": "an entry says something else than its line",
+    "other_seat": "an entry is under another seat than its line",
+    "record": "a record isn't in the store as it was given, or isn't of its order or its issuer's customer",
+    "twice": "what is given but once stands twice, or was given to two chips",
+}
+
+HELD_TO = (
+    "Each entry of the store's ledgers is held to the line of a journal of its seat, and each line of a step to its "
+    "entry. A line counts at the time at which it was asked, by its station's clock; an entry has the time of its line."
+)
+ALWAYS = (
+    "Over the whole store: serial numbers, keys and addresses once; each record in its order; each device as its "
+    "ledger and its record say. Over the whole journals: each line as it was written, and no number missing."
+)
+NOT_SHOWN = (
+    "What a store and all journals of a seat say alike isn't found by this: compare a seal of that time. Nor is a "
+    "station that asked nothing, or what a chip is."
+)
+
+
+def read_table(files: Sequence[tuple[str, int, str]]) -> Table:
+    return Table("read", "What was read", READ, files, NUMBERS)
+
+
+def found_table(audit: Audit) -> Table:
+    rows = [(it.kind, it.at, it.customer, it.seat, it.chip, it.told) for it in audit.found]
+    return Table("found", "Found", FOUND, rows, nothing="Nothing.")
+
+
+def held_table(audit: Audit) -> Table:
+    rows = [
+        (it.customer, it.seat, it.journal, it.known, it.lines, it.matched, it.unanswered, it.numbers, it.last)
+        for it in audit.held
+    ]
+    return Table("held", "What was held to what", HELD, rows, NUMBERS)
+
+
+def verdict(audit: Audit) -> str:
+    count = len(audit.found)
+    return f"{count} found." if count else "Nothing found."
+
+
+def counted(audit: Audit) -> str:
+    told = f"{audit.entries} entries of the period, {audit.outside} outside of it"
+    if audit.bare:
+        told = f"{told}, {audit.bare} of which have no line"
+    if audit.unheld:
+        told = f"{told}; {audit.unheld} lie before the first line of these journals, and are held to nothing"
+    if audit.parts:
+        whose = ", ".join(audit.parts)
+        told = f"{told}. Orders, maps and imports of {whose} are held to no line, as these journals lack number 1"
+    if audit.repeated:
+        said = f"{len(audit.repeated)} maps, imports and orders were asked for again, which changes nothing"
+        told = f"{told}. {said} (the first: {audit.repeated[0].place()})"
+    return f"{told}."
+
+
+def as_text(audit: Audit) -> str:
+    period = f"from {audit.period.start} to {audit.period.end}: {counted(audit)}"
+    return "\n".join([period, verdict(audit), "", found_table(audit).as_text(), held_table(audit).as_text()])
+
+
+def as_html(audit: Audit, files: Sequence[tuple[str, int, str]]) -> str:
+    kinds = sorted({it.kind for it in audit.found})
+    meant = [paragraph(f"{kind}: {KINDS[kind]}.") for kind in kinds]
+    parts = [
+        paragraph(f"From {audit.period.start} to {audit.period.end}, by the stations' clocks. {counted(audit)}"),
+        paragraph(verdict(audit), "verdict found" if audit.found else "verdict"),
+        *([heading("What these mean"), *meant] if meant else []),
+        found_table(audit).as_html(),
+        held_table(audit).as_html(),
+        read_table(files).as_html(),
+        heading("What this shows, and what it doesn't"),
+        *map(paragraph, (HELD_TO, ALWAYS, NOT_SHOWN)),
+    ]
+    return page(f"Audit {audit.period.start} to {audit.period.end}", parts)

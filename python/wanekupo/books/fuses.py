@@ -1,0 +1,81 @@
+"""What the columns of fuses of a store mean, by the map of a device (docs/reference/files.md#the-store)."""
+
+from __future__ import annotations
+
+import functools
+import struct
+import tomllib
+from dataclasses import dataclass
+from typing import Any, Optional
+
+from wanekupo.chips import layout as recipe_wishes
+from wanekupo.common.errors import StationError
+
+# A key in a column: whether it is known, and the SHA-256 of its bytes.
+KEY_BYTES = 33
+
+
+class BadMap(StationError):
+    """A map of the store that this program can't read."""
+
+
+@dataclass(frozen=True)
+class Layout:
+    """The words of a map's blocks, its key fields in their order, each with its block, and all of its fields; of a map
+    that can't be read nothing."""
+
+    blocks: tuple[int, ...] = ()
+    keys: tuple[tuple[str, int], ...] = ()
+    fields: Optional[recipe_wishes.Layout] = None
+
+    def bits_length(self) -> int:
+        return 4 * sum(self.blocks)
+
+    def bits(self, column: bytes) -> list[dict[str, Any]]:
+        """Each word outside key fields that isn't zero, as a reply has it."""
+        length = self.bits_length()
+        masks = struct.unpack(f"<{length // 4}I", column[:length].ljust(length, b"\0")) if any(column) else ()
+        return [
+            {"block": block, "mask": f"{mask:08x}", "word": word}
+            for (block, word), mask in zip(self._words, masks)
+            if mask and block not in self._hidden
+        ]
+
+    @functools.cached_property
+    def _words(self) -> list[tuple[int, int]]:
+        """Each word, its block and its number there, in the order of the columns."""
+        return [(block, word) for block, words in enumerate(self.blocks) for word in range(words)]
+
+    @functools.cached_property
+    def _hidden(self) -> frozenset[int]:
+        return frozenset(block for _, block in self.keys)
+
+    def known_keys(self, column: bytes) -> dict[str, str]:
+        """The SHA-256 of each key that is known, by its field."""
+        parts = [column[place : place + KEY_BYTES] for place in range(0, KEY_BYTES * len(self.keys), KEY_BYTES)]
+        return {
+            field: part[1:].ljust(32, b"\0").hex() for (field, _), part in zip(self.keys, parts) if part[:1] == b"\1"
+        }
+
+    def pending(self, column: bytes) -> dict[str, Any]:
+        """What is still to be burnt, as a reply has it."""
+        length = self.bits_length()
+        first, second, keys = column[:length], column[length : 2 * length], column[2 * length :]
+        return {
+            "batch1": {"bits": self.bits(first), "keys": self.known_keys(keys)},
+            "batch2": {"bits": self.bits(second), "keys": {}},
+        }
+
+
+def layout_of(text: str) -> Layout:
+    """The layout of a map's text. The server reads TOML 1.1, and this program 1.0."""
+    try:
+        table = tomllib.loads(text)
+        blocks = tuple(int(block["words"]) for block in table["block"])
+        keys = tuple((str(it["name"]), int(it["block"])) for it in table["field"] if it.get("key"))
+        fields = recipe_wishes.Layout(text)
+        if not all(0 <= it.block and 0 < it.count <= 32 * blocks[it.block] - it.bit for it in fields.fields.values()):
+            raise ValueError("a field lies in no block")
+    except (ValueError, LookupError, TypeError, AttributeError) as error:
+        raise BadMap(str(error)) from error
+    return Layout(blocks, keys, fields)

@@ -1,0 +1,75 @@
+"""The chips that were lost or scrapped, by the stations' logs."""
+
+from __future__ import annotations
+
+from datetime import datetime
+from pathlib import Path
+from typing import Any, Iterable, Iterator, Optional, Sequence
+
+from wanekupo.seat.journal import journals_of, placed_lines_of
+from wanekupo.seat.journal_lines import Name
+from wanekupo.common.moments import tested_period, text_of
+from wanekupo.common.texts import csv_lines, formulas_in, shown
+
+
+def given_up(
+    journals: Iterable[Name], start: Optional[datetime] = None, end: Optional[datetime] = None
+) -> tuple[list[list[str]], list[str]]:
+    """The chips that were lost or scrapped, each once, by the stations' logs: when the reply that said so first was
+    written down, the log, the chip, its order where a log has its registration, and why. And what got no reply, of
+    chips of which nothing is known since."""
+    tested_period(start, end)
+    orders, found, unanswered = {}, [], {}
+    for files in journals_of(journals):
+        for journal, asked, answer in _answers(files):
+            path, chip = asked["path"], asked["asked"].get("chip", "")
+            reply = answer["reply"] if answer and answer["status"] == 200 else {}
+            if path == "/v1/device" and reply:
+                orders[chip] = asked["asked"].get("order", "")
+            elif not answer and path in ("/v1/readback", "/v1/scrap"):
+                unanswered[chip] = (asked["at"], f"{asked['at']} {journal}: no reply to {path} of {chip}")
+            elif reply:
+                unanswered.pop(chip, None)
+            if answer and reply.get("state") in ("quarantined", "scrapped"):
+                why = reply.get("outcome") or asked.get("reason") or "scrapped"
+                found.append((answer["at"], journal, chip, why, path == "/v1/scrap"))
+    firsts: dict[str, tuple[str, str, str, str, bool]] = {}
+    for one in sorted(found, key=lambda it: (it[0], it[4])):
+        firsts.setdefault(one[2], one)
+    lines = [[at, journal, chip, orders.get(chip, ""), why] for at, journal, chip, why, _ in firsts.values()]
+    first, last = text_of(start) if start else "", text_of(end) if end else "~"
+    told = [text for chip, (at, text) in unanswered.items() if chip not in firsts and first <= at < last]
+    return [line for line in lines if first <= line[0] < last], told
+
+
+def _answers(files: Iterable[Path]) -> Iterator[tuple[str, dict[str, Any], Optional[dict[str, Any]]]]:
+    """The requests of a journal, each with its file and the line of its reply. One that was sent again has one."""
+    asked, place = None, ""
+    for file, _, line in placed_lines_of(files):
+        if "asked" in line:
+            if asked and (asked["path"], asked["asked"]) != (line["path"], line["asked"]):
+                yield place, asked, None
+            asked, place = line, file
+        elif "status" in line and asked and asked["asked"]["nr"] == line["nr"]:
+            yield place, asked, line
+            asked = None
+    if asked:
+        yield place, asked, None
+
+
+LOST = ["time", "journal", "chip", "order", "reason"]
+
+
+def lost_text(lines: Sequence[Sequence[str]]) -> str:
+    rows = [LOST, *([shown(str(word)) for word in line] for line in lines)]
+    widths = [max(map(len, column)) for column in zip(*rows)]
+    return "".join(" ".join(word.ljust(width) for word, width in zip(row, widths)).rstrip() + "\n" for row in rows)
+
+
+def lost_csv(lines: Sequence[Sequence[str]]) -> str:
+    return csv_lines([LOST, *lines])
+
+
+def lost_formulas(lines: Sequence[Sequence[str]]) -> list[str]:
+    """What is to be told of fields that a spreadsheet would take for formulas."""
+    return list(dict.fromkeys(formulas_in(LOST, lines)))

@@ -1,0 +1,180 @@
+"""Which line of a journal is which entry of a ledger, and which seat a journal is of.
+
+Entries have no times: each has that of its line. Of one chip and one seat both come in the same order, so they are laid
+beside each other from the first to the last.
+"""
+
+from __future__ import annotations
+
+import difflib
+from collections import defaultdict
+from dataclasses import dataclass, field
+from itertools import takewhile
+from typing import Iterable, Optional
+
+from wanekupo.books.steps import Book, Step
+from wanekupo.books.store_rows import Books, Entry
+
+# A chip of a customer.
+Chip = tuple[str, str]
+NAMED, BY_DIGEST, BY_CHIPS, UNKNOWN = "by its name", "by its last request", "by its chips", "not known"
+
+
+@dataclass
+class Seated:
+    """A journal with its seat, its customer, and how they are known."""
+
+    book: Book
+    seat: str
+    customer: str
+    known: str
+
+
+# A line of a step with the journal that has it.
+Told = tuple[Seated, Step]
+
+
+def seated(book: Book, store: Books) -> Seated:
+    """Which seat a journal is of: the one that its lines name, the one whose last request it has, or the one whose
+    entries most of its chips have."""
+    if book.seat:
+        owner = store.seats.get(book.seat)
+        return Seated(book, book.seat, owner.customer if owner else "", NAMED)
+    digests = {step.digest for step in book.steps if step.status in (None, 200) and step.digest}
+    lasts = [it for it in store.seats.values() if it.digest in digests]
+    if lasts:
+        it = max(lasts, key=lambda it: it.last)
+        return Seated(book, it.name, it.customer, BY_DIGEST)
+    steps = {(step.chip, step.event, step.note) for step in book.steps if step.is_done() and step.event}
+    for name, _ in store.votes(steps).most_common(1):
+        if name in store.seats:
+            return Seated(book, name, store.seats[name].customer, BY_CHIPS)
+    return Seated(book, "", "", UNKNOWN)
+
+
+@dataclass(frozen=True, slots=True)
+class Pair:
+    """An entry and its line. `told` says in what they differ, where they do."""
+
+    entry: Entry
+    step: Step
+    kind: str = ""
+    told: str = ""
+
+
+@dataclass
+class Matched:
+    """The entries and lines of a chip's steps, laid beside each other: the pairs, and what is left over of both."""
+
+    pairs: list[Pair] = field(default_factory=list)
+    entries: list[Entry] = field(default_factory=list)
+    steps: list[Told] = field(default_factory=list)
+
+
+def steps_by_chip(journals: Iterable[Seated]) -> dict[Chip, list[Told]]:
+    """The lines of steps by the chips that they are of, those of a seat in the order of its numbers."""
+    found: dict[Chip, list[Told]] = defaultdict(list)
+    for it in journals:
+        for step in it.book.steps:
+            if step.event:
+                found[it.customer, step.chip].append((it, step))
+    for lines in found.values():
+        lines.sort(key=lambda told: (told[1].turn, told[1].number))
+    return found
+
+
+def matched(entries: Iterable[Entry], steps: Iterable[Told]) -> Matched:
+    """Each entry of a chip's ledger, which come in their order, beside its line. What is left over has none, nor has it
+    one under another seat or with another note."""
+    own: dict[str, list[Entry]] = defaultdict(list)
+    told: dict[str, list[Told]] = defaultdict(list)
+    for entry in entries:
+        own[entry.row["seat"]].append(entry)
+    for it, step in steps:
+        told[it.seat].append((it, step))
+    found = Matched()
+    for seat in sorted(own.keys() | told.keys()):
+        _lay(found, own.get(seat, []), told.get(seat, []))
+    _lay_others(found)
+    return found
+
+
+def _said(entry: Entry) -> tuple[str, str]:
+    return entry.row["event"], entry.row["note"]
+
+
+def _fits(both: tuple[Entry, Told]) -> bool:
+    """Whether an entry can be that of a line; one whose reply was lost has no note."""
+    entry, (_, step) = both
+    return entry.row["event"] == step.event and (not step.is_done() or entry.row["note"] == step.note)
+
+
+def _lay(found: Matched, entries: list[Entry], steps: list[Told]) -> None:
+    """Lays the entries and lines of one chip and seat beside each other: from the first ones on as far as they fit,
+    then those that were answered, those whose reply was lost, and those that were refused."""
+    own = [it for it in steps if it[1].is_stored and it[1].status in (None, 200)]
+    first = [Pair(entry, step) for entry, (_, step) in takewhile(_fits, zip(entries, own))]
+    found.pairs += first
+    rest, own = entries[len(first) :], own[len(first) :]
+    done = [it for it in own if it[1].is_done()]
+    said, asked = [_said(it) for it in rest], [(it.event, it.note) for _, it in done]
+    blocks = difflib.SequenceMatcher(None, said, asked, autojunk=False).get_matching_blocks()
+    places = {block.a + it: block.b + it for block in blocks for it in range(block.size)}
+    found.pairs += [Pair(rest[one], done[other][1]) for one, other in places.items()]
+    laid = {id(done[place][1]) for place in places.values()}
+    maybe = [*own, *(it for it in steps if it[1].status is None and not it[1].is_stored and not it[1].is_lost)]
+    rest = _lay_unanswered(found, [it for place, it in enumerate(rest) if place not in places], maybe, laid)
+    refused = [it for it in steps if it[1].status not in (None, 200)]
+    found.entries += _lay_unanswered(found, rest, refused, laid, "late_copy")
+    lost = (it for it in steps if it[1].is_done() and it[1].is_lost)
+    found.steps += [*(it for it in own if id(it[1]) not in laid), *lost]
+
+
+def _lay_unanswered(
+    found: Matched, entries: list[Entry], steps: list[Told], laid: set[int], kind: str = ""
+) -> list[Entry]:
+    """Lays entries beside lines of the same event whose reply says nothing, and gives those that are left."""
+    free, rest = [it for _, it in steps if not it.is_done()], []
+    for entry in entries:
+        step = next((it for it in free if it.event == entry.row["event"] and id(it) not in laid), None)
+        if step is None:
+            rest.append(entry)
+            continue
+        laid.add(id(step))
+        told = "a late copy of a request that was refused was accepted" if kind else ""
+        found.pairs.append(Pair(entry, step, kind, told))
+    return rest
+
+
+def _lay_others(found: Matched) -> None:
+    """Lays what is left beside what is of the same event, and says in what they differ."""
+    rest, free = [], found.steps
+    for entry in found.entries:
+        place = _fitting(entry, free)
+        if place is None:
+            rest.append(entry)
+            continue
+        it, step = free.pop(place)
+        found.pairs.append(Pair(entry, step, *_difference(entry, it, step)))
+    found.entries = rest
+
+
+def _difference(entry: Entry, it: Seated, step: Step) -> tuple[str, str]:
+    """In what an entry and a line differ: the kind, and the words."""
+    note = entry.row["note"] or "none"
+    if it.seat != entry.row["seat"]:
+        whose = it.seat or "a seat that is not known"
+        return "other_seat", f"the seat is {entry.row['seat']} in the store, and the line is of {whose}"
+    if entry.row["note"] != step.note:
+        return "other_note", f"the note is {note} in the store, and {step.note or 'none'} in the journal"
+    return "exchanged", "it is at another place in its ledger than its line in the journal"
+
+
+def _fitting(entry: Entry, steps: list[Told]) -> Optional[int]:
+    """The place of a line of the same event that can be an entry's: of the same seat with another note, or of another
+    seat."""
+    same = [(place, it, step) for place, (it, step) in enumerate(steps) if step.event == entry.row["event"]]
+    of_seat = (place for place, it, _ in same if it.seat == entry.row["seat"])
+    of_note = (place for place, _, step in same if step.note == entry.row["note"])
+    return next(of_seat, next(of_note, None))
+

@@ -1,0 +1,285 @@
+"""The numbers of a seat's requests: each that the server accepted has its line, and the store has the last one.
+
+The lines of a seat are put in the order of these numbers, over all its journals. Where a journal goes on with a number
+that it had, the store was replaced by an older one, and a turn of the seat begins.
+"""
+
+from __future__ import annotations
+
+import heapq
+import json
+from bisect import bisect_left
+from collections import Counter, defaultdict
+from dataclasses import dataclass, field
+from itertools import accumulate
+from typing import Any, Iterable, Iterator, NamedTuple, Optional, Sequence, Union
+
+from wanekupo.books.clocks import longest_run
+from wanekupo.books.matches import Seated
+from wanekupo.books.shift import Period
+from wanekupo.books.steps import Book, Step
+from wanekupo.books.store_rows import Books, Seat
+
+
+@dataclass
+class Span:
+    """The numbers that a seat's journals have, from the first to the last, and what is missing between. `lost` are
+    lines that can't be, each with its time."""
+
+    seat: str
+    customer: str
+    at: str
+    first: int = 0
+    known: int = 0
+    faults: list[str] = field(default_factory=list)
+    lost: list[tuple[str, str]] = field(default_factory=list)
+
+
+class Turn(NamedTuple):
+    """Where a seat's lines may go on with a number that they had: a person said so, or a journal begins. `digest` is
+    that of the journal's first request."""
+
+    at: str
+    number: int
+    told: str
+    digest: str
+
+
+def counts(it: Seated, step: Step, store: Books, period: Period) -> bool:
+    """Whether the store has to have a line: not one that an older copy can't have. One of before the period counts
+    where no older store took it away, and so does the first of a journal with the one behind it, as nothing contradicts
+    its time. One of behind the period counts as long as the store has its number."""
+    last = store.seats[it.seat].last if it.seat in store.seats else 0
+    if step.turn > 0 or step.answered >= period.end and step.number > last:
+        return False
+    if step.at >= period.end:
+        return step.turn == 0 and step.number <= last
+    first = it.book.steps[:2]
+    return step.at >= period.start or not step.is_lost or (
+        step is first[0] and first[-1].at >= period.start and first[-1].turn == step.turn
+    )
+
+
+def whole_customers(spans: Iterable[Span], store: Books) -> set[str]:
+    """The customers of whose seats the journals have the first number of each that has asked for something; so is one
+    of whom the store has rows, and no seat that asked."""
+    whole = {it.seat for it in spans if it.first == 1}
+    parts = {it.customer for it in store.seats.values() if it.last and it.name not in whole}
+    return store.customers() - parts
+
+
+def spans_of(journals: Iterable[Seated], store: Books, period: Period) -> list[Span]:
+    """The numbers of each seat that has a journal. Each line gets its turn, and what is there twice or wasn't done is
+    taken out of the journals."""
+    books: dict[str, list[Book]] = {}
+    for it in journals:
+        if it.seat in store.seats:
+            books.setdefault(it.seat, []).append(it.book)
+    return [_span_of(store.seats[name], own, period) for name, own in sorted(books.items())]
+
+
+# Turns.
+
+
+# A line of a journal, or where a turn may begin, and the time by which it is laid among those of other journals.
+Laid = tuple[str, Union[Step, Turn]]
+
+
+def _lines_of(book: Book) -> Iterator[Union[Step, Turn]]:
+    """A journal's lines, with where turns may begin."""
+    marks: dict[int, list[Turn]] = defaultdict(list)
+    for it in book.resynchronized:
+        marks[it.behind].append(Turn(it.at, it.number, f"line {it.line} of {it.file}", ""))
+    if book.steps and book.steps[0].is_done():
+        step = book.steps[0]
+        marks[0].append(Turn(step.at, step.number, step.place(), step.digest))
+    for place, step in enumerate(book.steps):
+        yield from marks.pop(place, ())
+        yield step
+    yield from marks.pop(len(book.steps), ())
+
+
+def _laid(book: Book) -> list[Laid]:
+    """The same with their times. That of a line that contradicts most others is the time of one in front, so that times
+    never fall."""
+    lines = list(_lines_of(book))
+    run = longest_run([it.at for it in lines])
+    found, at = list[Laid](), next((it.at for it, is_sure in zip(lines, run) if is_sure), "")
+    for it, is_sure in zip(lines, run):
+        at = it.at if is_sure else at
+        found.append((at, it))
+    return found
+
+
+def _in_turns(books: Sequence[Book]) -> tuple[list[Turn], list[Step]]:
+    """Where the store became an older one, and the lines of all journals of a seat, each with its turn: by one pass
+    over them in the order of time. A store is an older one where a line goes on with a number that was accepted since
+    the turn before; where a journal begins, with one that was another request."""
+    turns, steps = list[Turn](), list[Step]()
+    most, digests = float("-inf"), defaultdict[int, set[str]](set)
+    for _, it in heapq.merge(*map(_laid, books), key=lambda it: it[0]):
+        if isinstance(it, Step):
+            it.turn = len(turns)
+            steps.append(it)
+            if it.is_done():
+                most = max(most, it.number)
+                digests[it.number].add(it.digest)
+            continue
+        same = digests.get(it.number, set())
+        if len(same) > (it.digest in same) if it.digest else most >= it.number:
+            turns.append(it)
+            most, digests = float("-inf"), defaultdict(set)
+    return turns, steps
+
+
+def _own_turn(seat: Seat, steps: Sequence[Step], turns: Sequence[Turn], period: Period) -> int:
+    """Which turn the store is of: the last one. Of those that begin behind the period it may be too early."""
+    own = len(turns)
+    with_last = {it.turn for it in steps if (it.number, it.digest) == (seat.last, seat.digest)}
+    while own and turns[own - 1].at >= period.end and own not in with_last:
+        own -= 1
+    return own
+
+
+def _in_order(seat: Seat, books: Sequence[Book], period: Period) -> tuple[list[Step], list[Turn]]:
+    """A seat's lines by their turns and numbers, and the turns up to the one that the store is of: that is 0 in the
+    lines."""
+    turns, steps = _in_turns(books)
+    own = _own_turn(seat, steps, turns, period)
+    for step in steps:
+        step.turn -= own
+    return sorted(steps, key=lambda it: (it.turn, it.number)), turns[:own]
+
+
+def _settle(seat: Seat, steps: Sequence[Step], turns: Sequence[Turn], span: Span) -> set[int]:
+    """Says which lines the store can't have, lays those with the same number together, and gives those that go: a
+    request that stands there again, and one without a reply whose number was taken by another, which so was not done.
+    """
+    accepted: dict[tuple[int, int], Step] = {}
+    gone: set[int] = set()
+    for it in filter(Step.is_done, steps):
+        first = accepted.setdefault((it.turn, it.number), it)
+        if first.digest != it.digest:
+            told = f"{it.place()} and {first.place()} have the number {it.number}, and both were accepted"
+            span.lost.append((it.at, told))
+        elif first is not it:
+            gone.add(id(it))
+    asked = Counter((it.turn, it.number) for it in steps if not it.is_done())
+    least = list(accumulate((turn.number for turn in reversed(turns)), min))  # of the last turns, by how many
+    for it in steps:
+        done = accepted.get((it.turn, it.number))
+        if done and done.digest == it.digest:
+            done.since = min(done.since or done.at, it.at)
+        is_older = it.turn < 0
+        it.is_lost = it.turn > 0 or it.number >= (least[-it.turn - 1] if is_older else seat.last + 1)
+        is_sure = it.is_done() or it.status is None and asked[it.turn, it.number] == 1
+        it.is_stored = is_sure and not it.is_lost
+        if it.status is None and (done or is_older and it.is_lost):
+            gone.add(id(it))
+    return gone
+
+
+def _span_of(seat: Seat, books: list[Book], period: Period) -> Span:
+    span = Span(seat.name, seat.customer, "")
+    books = sorted(books, key=lambda it: it.times[:1])
+    steps, turns = _in_order(seat, books, period)
+    gone = _settle(seat, steps, turns, span)
+    begun = {id(book.steps[0]) for book in books if book.steps}
+    for book in books:
+        book.steps = [it for it in book.steps if id(it) not in gone]
+    steps = [it for it in steps if id(it) not in gone and it.turn <= 0 and it.status in (None, 200)]
+    span.lost += _unanswered_faults(steps, books, begun, period)
+    _count(span, seat, steps, turns, period)
+    return span
+
+
+def _unanswered_faults(
+    steps: Sequence[Step], books: Sequence[Book], begun: set[int], period: Period
+) -> Iterator[tuple[str, str]]:
+    """Lines without a reply behind which the station went on: it has one request under way, until a person has it go on
+    or a journal is begun."""
+    told_on = {it.number for book in books for it in book.resynchronized}
+    for it, behind in zip(steps, steps[1:]):
+        goes_on = it.status is None and it.turn == behind.turn and behind.at >= period.start and it.at < period.end
+        if goes_on and id(behind) not in begun and not told_on & {it.number, it.number + 1}:
+            told = f"{it.place()} was never answered, and {behind.place()} was asked behind it: a reply is missing"
+            yield it.at, f"{told}, or the station's state file was lost"
+
+
+# Numbers.
+
+
+def _count(span: Span, seat: Seat, steps: list[Step], turns: Sequence[Turn], period: Period) -> None:
+    """What of a seat's numbers is there, and what is wrong with them."""
+    done = [it for it in steps if it.is_done()]
+    if not done:
+        if seat.last:
+            span.faults.append(f"the store has the number {seat.last}, and no journal has a request that was accepted")
+        return
+    own = [it for it in steps if it.turn == 0]
+    times = {it.number: it.at for it in own}
+    if turns:
+        times.setdefault(turns[-1].number - 1, turns[-1].at)
+    numbers = sorted(times)
+    span.first, span.at = min(it.number for it in steps), done[-1].at
+    span.known = max((it.number for it in own if it.is_done()), default=numbers[-1])
+    for before, after in zip(numbers, numbers[1:]):
+        if after > before + 1 and times[before] < period.end:
+            where = f"between {times[before]} and {times[after]}"
+            span.faults.append(f"{_named(before + 1, after - 1)} no line, {where}")
+    span.faults += _older_faults(done, turns, period)
+    end = _end_fault(seat, span, own, numbers[-1], period)
+    span.faults += filter(None, [end, _last_fault(seat, steps)])
+
+
+def _older_faults(done: Sequence[Step], turns: Sequence[Turn], period: Period) -> Iterator[str]:
+    """Accepted lines of the period whose numbers were given again: the store became an older one within it."""
+    greatest = list[Step]()  # those with a number greater than all in front
+    for it in done:
+        is_of = it.at < period.end and it.answered >= period.start
+        if is_of and (not greatest or it.number > greatest[-1].number):
+            greatest.append(it)
+    for place, turn in enumerate(turns, -len(turns)):
+        first = bisect_left(greatest, turn.number, key=lambda it: it.number)
+        gone = next((it for it in greatest[first : first + 1] if it.turn <= place), None)
+        if gone:
+            told = f"{turn.told} goes on with the number {turn.number}, and {gone.place()}, number {gone.number}"
+            yield f"{told}, was accepted at {gone.at}: the store became an older one within the period"
+
+
+def _named(first: int, last: int) -> str:
+    return f"the number {first} has" if first == last else f"the numbers {first} to {last} have"
+
+
+def _end_fault(seat: Seat, span: Span, own: list[Step], asked: int, period: Period) -> Optional[str]:
+    """Whether the store and the journals end with the same number: journals reach as far as the store does. A line of
+    the period that the store doesn't know shows an older store, but for one that was answered behind it."""
+    if seat.last > asked:
+        return f"{_named(asked + 1, seat.last)} no line, behind {span.at}: the journal lacks its end, or a foreign hand"
+    done = (it for it in own if it.is_done() and it.number > seat.last)
+    unknown = next((it for it in done if period.has(it.at) and it.answered < period.end), None)
+    if unknown:
+        told = f"the store's number is {seat.last}, and {unknown.place()}, number {unknown.number}, was accepted"
+        return f"{told} at {unknown.at}: this is an older store"
+    return None
+
+
+def _last_fault(seat: Seat, steps: list[Step]) -> Optional[str]:
+    """Whether the last request that the store has is the one of the journal's line with its number."""
+    lines = [it for it in steps if it.number == seat.last]
+    lines = [it for it in lines if it.turn == lines[-1].turn]
+    if lines and all(it.digest != seat.digest for it in lines):
+        return f"the store's last request, number {seat.last}, isn't that of {lines[-1].place()}"
+    done = [it for it in lines if it.is_done()]
+    if done and not _has(seat.reply, done[-1].reply):
+        return f"the reply that the store keeps of number {seat.last} isn't that of {done[-1].place()}"
+    return None
+
+
+def _has(text: str, reply: dict[str, Any]) -> bool:
+    """Whether a reply's text has these members."""
+    try:
+        kept = json.loads(text)
+    except (ValueError, RecursionError):
+        return False
+    return isinstance(kept, dict) and all(kept.get(name) == it for name, it in reply.items())

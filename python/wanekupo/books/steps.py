@@ -1,0 +1,306 @@
+"""What journals say, read by who judges them: each request with its place, its times and its reply, and what is wrong.
+
+`wanekupo.seat.journal` reads the same lines for a restore, and stops at the first one that isn't right. Here such a line is
+something that was found: it is named, and what stands around it counts.
+"""
+
+from __future__ import annotations
+
+import sys
+from dataclasses import dataclass, field
+from pathlib import Path
+from typing import Any, Iterable, Iterator, Optional, Union
+
+from wanekupo.common.errors import BadJournal
+from wanekupo.seat.journal import journals_of, request_digest
+from wanekupo.metrics.journal_counts import seat_named
+from wanekupo.seat.journal_lines import MOST, MOST_LINES, SUFFIX, Folders, Name, journals_below, lines_of
+from wanekupo.common.moments import moment_of
+from wanekupo.common.texts import brief
+
+# By how many seconds a station's clock may be set back without a word, as a time service does it.
+SET_BACK = 60
+
+# How many faulty lines of a journal are told by who doesn't judge it.
+MOST_TOLD = 5
+
+# The paths of the steps of a device, with the events that they are in its ledger.
+EVENTS = {
+    "/v1/device": "registered",
+    "/v1/plan": "planned",
+    "/v1/readback": "read",
+    "/v1/identity": "identified",
+    "/v1/ship": "shipped",
+    "/v1/scrap": "scrapped",
+}
+
+# The paths of all requests that change something.
+PATHS = frozenset((*EVENTS, "/v1/order", "/v1/map", "/v1/import"))
+
+# Of what such a step asks, and of its reply, what is looked at.
+ASKED = frozenset(("nr", "chip", "order", "map", "wishes", "blocks"))
+REPLIED = frozenset(("state", "outcome", "serial", "no", "error", "expected"))
+
+
+def _once(it: Any) -> Any:
+    """A member whose texts are in memory but once: those of most chips are alike."""
+    if isinstance(it, list):
+        return [_once(part) for part in it]
+    if isinstance(it, dict):
+        return {name: _once(part) for name, part in it.items()}
+    return sys.intern(it) if isinstance(it, str) else it
+
+
+@dataclass(slots=True)
+class Step:
+    """A request of a journal with the place of its line, when it was asked and answered, and what the reply was.
+    Without a status its reply never came. `reason` is why a chip was scrapped, where the station knew it. The last ones
+    are an audit's: a turn of its seat, whether the store is surely one without it, or with it, and when it was first
+    asked where it stands there more than once."""
+
+    file: str
+    line: int
+    at: str
+    path: str
+    asked: dict[str, Any]
+    digest: str
+    seat: str
+    operator: str
+    answered: str = ""
+    status: Optional[int] = None
+    reply: dict[str, Any] = field(default_factory=dict)
+    reason: str = ""
+    turn: int = 0
+    is_lost: bool = False
+    is_stored: bool = True
+    since: str = ""
+
+    @property
+    def number(self) -> int:
+        return int(self.asked["nr"])
+
+    @property
+    def chip(self) -> str:
+        return str(self.asked.get("chip", ""))
+
+    @property
+    def event(self) -> str:
+        """The event of a device's ledger that this is; nothing where it is no step of a device."""
+        return EVENTS.get(self.path, "")
+
+    @property
+    def note(self) -> str:
+        """The note that the ledger has of it."""
+        member = {"read": "outcome", "identified": "serial"}.get(self.event, "")
+        return str(self.reply.get(member, "")) if member else ""
+
+    def slim(self) -> None:
+        """Leaves away what nobody asks for of a step but an identity: journals are long."""
+        if self.event not in ("", "identified"):
+            self.asked = {name: _once(it) for name, it in self.asked.items() if name in ASKED}
+            self.reply = {name: it for name, it in self.reply.items() if name in REPLIED}
+
+    def is_done(self) -> bool:
+        return self.status == 200
+
+    def is_stop(self) -> bool:
+        """Whether the server refused it as 11 or 12: the seat was out of step."""
+        return self.status == 409 and self.reply.get("no") in (11, 12)
+
+    def place(self) -> str:
+        return f"line {self.line} of {self.file}"
+
+
+@dataclass(frozen=True)
+class Resynchronized:
+    """A person had the seat go on with a number; `behind` is how many requests came before."""
+
+    file: str
+    line: int
+    at: str
+    number: int
+    behind: int
+
+
+@dataclass(frozen=True)
+class Fault:
+    """What is wrong with a journal, and in which line."""
+
+    file: str
+    line: int
+    at: str
+    told: str
+
+    def place(self) -> str:
+        return f"line {self.line} of {self.file}"
+
+
+@dataclass
+class Book:
+    """A seat's journal: its files, its requests in their order, what is wrong with it, and who it is of. `seat` is
+    empty where no line has a name."""
+
+    files: list[str]
+    steps: list[Step] = field(default_factory=list)
+    resynchronized: list[Resynchronized] = field(default_factory=list)
+    faults: list[Fault] = field(default_factory=list)
+    times: list[str] = field(default_factory=list)
+    seat: str = ""
+    is_asked: bool = False
+
+    def name(self) -> str:
+        """The seat's name, or where no line has one that of the file."""
+        return self.seat or Path(self.files[0]).name
+
+
+Members = dict[str, Any]
+
+
+def digest_fault(file: str, number: int, line: Members) -> Optional[Fault]:
+    """A request whose digest isn't that of what it asks was changed behind the station's back."""
+    try:
+        found = request_digest(line["path"], line["asked"])
+    except (ValueError, RecursionError):
+        found = ""
+    if line.get("digest") == found:
+        return None
+    told = "was changed: its digest isn't that of what it asks" if "digest" in line else "has no digest"
+    return Fault(file, number, line["at"], told)
+
+
+def _tested_clock(book: Book, file: str, number: int, at: str) -> None:
+    """Tells where a station's clock went back: what is counted by times isn't sure there."""
+    if book.times and at < book.times[-1]:
+        seconds = (moment_of(book.times[-1]) - moment_of(at)).total_seconds()
+        if seconds > SET_BACK:
+            told = f"is {seconds:.0f} seconds before the line in front of it, by the station's clock"
+            book.faults.append(Fault(file, number, at, told))
+
+
+def _answered(last: Optional[Step], line: Members) -> str:
+    """Adds a reply to its request; what is wrong with it. A request that was answered is sent again where its station
+    stopped before it knew so, and gets the reply that the server kept; a store that was restored since refuses it."""
+    if last is None or last.number != line["nr"]:
+        return f"answers number {line['nr']}, which isn't asked in front of it: a line is missing"
+    if last.is_done():
+        is_other = line["status"] == 200 and line["reply"] != last.reply
+        return f"answers number {line['nr']} otherwise than before" if is_other else ""
+    last.answered, last.status, last.reply = line["at"], line["status"], line["reply"]
+    return f"accepts {last.path}, which the server doesn't have" if last.is_done() and last.path not in PATHS else ""
+
+
+def _take(book: Book, file: str, number: int, line: Members) -> None:
+    """Adds a line to a journal's requests."""
+    _tested_clock(book, file, number, line["at"])
+    book.times.append(line["at"])
+    seat = line.get("seat", "")
+    if seat and book.seat and seat != book.seat:
+        book.faults.append(Fault(file, number, line["at"], f"is of the seat {seat}, among lines of {book.seat}"))
+    book.seat = book.seat or seat
+    last = book.steps[-1] if book.steps else None
+    if "asked" in line:
+        fault = digest_fault(file, number, line)
+        if fault:
+            book.faults.append(fault)
+        is_again = last and last.status in (None, 200) and (last.path, last.asked) == (line["path"], line["asked"])
+        is_again = is_again and all(it.behind < len(book.steps) for it in book.resynchronized[-1:])
+        if not is_again:
+            if last:
+                last.slim()
+            names = sys.intern(seat or book.seat), sys.intern(line.get("operator", ""))
+            path, digest = sys.intern(line["path"]), line.get("digest", "")
+            step = Step(file, number, line["at"], path, line["asked"], digest, *names)
+            step.reason = line.get("reason", "")
+            book.steps.append(step)
+        book.is_asked = True
+    elif "status" in line:
+        told = _answered(last if book.is_asked else None, line)
+        if told:
+            book.faults.append(Fault(file, number, line["at"], told))
+        book.is_asked = False
+    else:
+        it = Resynchronized(file, number, line["at"], line["resynchronized"], len(book.steps))
+        book.resynchronized.append(it)
+
+
+def _others(line: Members, file: Path, seats: Optional[frozenset[str]]) -> str:
+    """Says where a line isn't of a seat of its folder; one without a name is of the folder's only one, or of the one
+    that its file names."""
+    if seats is None:
+        return ""
+    line["seat"] = line.get("seat") or (next(iter(seats)) if len(seats) == 1 else seat_named(file))
+    told = f"is of the seat {brief(line['seat'])}, and its folder is of {', '.join(sorted(seats)) or 'none'}"
+    return "" if line["seat"] in seats else told
+
+
+@dataclass
+class Room:
+    """How much of a folder's journals may still be read: all of it is in memory at once."""
+
+    bytes: int = MOST
+    lines: int = MOST_LINES
+
+    def take(self, path: Path, size: int) -> None:
+        self.bytes, self.lines = self.bytes - size, self.lines - 1
+        if self.bytes < 0 or self.lines < 0:
+            told = f"with {path} these journals have more than {MOST >> 20} MB or {MOST_LINES} lines"
+            raise BadJournal(told, "Look whether they are their station's, and move old days away.")
+
+
+def book_of(files: Iterable[Path], seats: Optional[frozenset[str]] = None, room: Optional[Room] = None) -> Book:
+    """A journal of one seat, in the order of its files. Where it is known which seats it may be of a line of another
+    one doesn't count, and the first one of a file is told."""
+    paths, room = list(files), room or Room()
+    book, told = Book([str(it) for it in paths]), set[tuple[Path, str]]()
+    for path in paths:
+        last, end = "", 0
+        for line in lines_of(path, follows_links=seats is None):
+            room.take(path, line.end - end)
+            end = line.end
+            if fault := line.fault or _others(line.members, path, seats):
+                is_told = not line.fault and (path, fault) in told
+                book.faults += [] if is_told else [Fault(str(path), line.number, last, fault)]
+                told.add((path, fault))
+            else:
+                last = line.members["at"]
+                _take(book, str(path), line.number, line.members)
+    return book
+
+
+def books_of(names: Iterable[Name]) -> list[Book]:
+    """The journals that files and folders are."""
+    return [book_of(files) for files in journals_of(names)]
+
+
+def shipped_books(path: Path, folders: Folders) -> Iterator[Book]:
+    """The journals of a folder of all, in which each station has its own."""
+    for it in sorted(path.iterdir()):
+        if it.is_symlink() or it.name not in folders and (it.is_dir() or it.suffix == SUFFIX):
+            told = "Name a folder that has the stations' folders, and say in that file which seats each one has."
+            raise BadJournal(f"{it} is no folder that the file of folders names", told)
+        files, room = journals_below(it) if it.is_dir() else [], Room()
+        yield from (book_of(group, folders[it.name], room) for group in journals_of(files))
+
+
+@dataclass(frozen=True)
+class Named:
+    """A word of the command line: a path, and in front of it the name of the customer, where there is one."""
+
+    customer: str
+    path: Path
+
+
+def named(word: Union[str, Path]) -> Named:
+    """`acme=journals/` is the customer acme's; a path that is there as it stands has no name."""
+    name, equals, path = str(word).partition("=")
+    if not equals or Path(word).exists() or "/" in name:
+        return Named("", Path(word))
+    return Named(name, Path(path))
+
+
+def told_faults(book: Book) -> Iterator[str]:
+    """What is wrong with a journal, for who doesn't judge it: the first lines, and how many more."""
+    for fault in book.faults[:MOST_TOLD]:
+        yield f"{fault.place()} {fault.told}"
+    if len(book.faults) > MOST_TOLD:
+        yield f"{len(book.faults) - MOST_TOLD} more lines of {book.files[0]}: wanekupo audit names them"

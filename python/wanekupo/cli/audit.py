@@ -1,0 +1,107 @@
+"""The command `audit`: a stopped store's ledgers against the journals of its stations, over a period."""
+
+from __future__ import annotations
+
+import argparse
+from datetime import datetime, timezone
+from pathlib import Path
+from typing import Iterable, Optional
+
+from wanekupo.books.audit import audit_of
+from wanekupo.books.audit_page import as_html, as_text, found_table
+from wanekupo.books.matches import seated
+from wanekupo.books.pages import write
+from wanekupo.books.shift import Period, period_of
+from wanekupo.books.steps import Book, books_of, shipped_books
+from wanekupo.books.store import Store
+from wanekupo.books.store_rows import Books
+from wanekupo.seat.command import Command
+from wanekupo.seat.settings import Settings
+from wanekupo.common.errors import BadJournal, BadSettings, NoPeriod
+from wanekupo.seat.journal_lines import folders_at
+from wanekupo.common.moments import tested_period, text_of
+from wanekupo.common.printing import Formulas, say
+from wanekupo.cli.shift import add_period
+from wanekupo.common.signing import add_signer, digest_of_file, signer_of
+
+DONE, FOUND = 0, 1
+
+MORE = """. STORE is a copy that the program has opened, taken before the journals were gathered, and --to is at or
+before that moment. Each entry of a ledger is held to the line of a journal of its seat, and the other way round. Serial
+numbers, keys and addresses have to be there once. Status 1 where something is found."""
+
+
+def _add_arguments(parser: argparse.ArgumentParser) -> None:
+    parser.add_argument("store", metavar="STORE", help="a copy of a stopped store, with its log beside it")
+    parser.add_argument("journals", nargs="+", metavar="JOURNAL", help="a journal, or a folder with journals")
+    add_period(parser)
+    said = "the journals are folders of all stations' folders, of which this file of root's says whose each one is"
+    parser.add_argument("--folders", type=Path, metavar="FILE", help=said)
+    parser.add_argument("--html", metavar="FILE", help="write a page, to be read and printed")
+    parser.add_argument("--csv", metavar="FILE", help="write what is found as comma-separated values")
+    add_signer(parser)
+
+
+def _journals(names: list[str], folders: Optional[Path]) -> list[Book]:
+    """The journals; with a file of folders those of all stations."""
+    if folders is None:
+        return books_of(names)
+    known = folders_at(folders)
+    if not known:
+        raise BadJournal(f"{folders} isn't there, or names no folder", "Name the file that a restore goes by.")
+    return [book for name in names for book in shipped_books(Path(name), known)]
+
+
+def _read(store: Path, books: Iterable[Book]) -> list[tuple[str, int, str]]:
+    """Each file that was read, with its length and its SHA-256."""
+    files = [store, store.with_name(f"{store.name}-wal"), *(Path(it) for book in books for it in book.files)]
+    return [(str(file), file.stat().st_size, digest_of_file(file)) for file in files if file.exists()]
+
+
+def _nothing_of(period: Period, journals: Iterable[Book]) -> tuple[str, str]:
+    """What is told where nothing of a period was held to anything."""
+    times = sorted(at for book in journals for at in book.times)
+    lines = f"These journals have lines of {times[0]} to {times[-1]}." if times else "These journals have no line."
+    happened = f"no entry and no line is of the period from {period.start} to {period.end}, so nothing was compared"
+    return happened, f"Look at --from and --to. {lines}"
+
+
+def _behind(store: Books, journals: Iterable[Book], period: Period) -> str:
+    """A sentence where lines have numbers behind the last one that the store knows of their seat, or nothing."""
+    own = [it for it in (seated(book, store) for book in journals) if it.seat in store.seats]
+    steps = [(it.at, it.number > store.seats[made.seat].last) for made in own for it in made.book.steps]
+    late = sorted(at for at, is_late in steps if is_late and period.has(at))
+    if not late:
+        return ""
+    told = f"{len(late)} lines of the journals, from {late[0]} on, are behind the copy's last request. "
+    return f"{told}The copy may be older than they are: give --to {late[0]}. Else the store is an older one.\n"
+
+
+def _audit(_: Settings, args: argparse.Namespace) -> int:
+    tested_period(args.from_time, args.to_time)
+    path, signer = Path(args.store), signer_of(args)
+    if signer and not args.html:
+        raise BadSettings("there is no page to be signed", "Give --html FILE.")
+    journals, period = _journals(args.journals, args.folders), period_of(args.from_time, args.to_time)
+    with Store(path) as store:
+        books = Books(store)
+        audit = audit_of(books, journals, period, text_of(datetime.now(timezone.utc)))
+        behind = _behind(books, journals, period) if audit.found else ""
+    if args.html:
+        write(Path(args.html), as_html(audit, _read(path, journals)))
+        if signer:
+            signer.sign(Path(args.html))
+    if args.csv:
+        table = found_table(audit)
+        Formulas().warn_of(table.columns, table.texts())
+        write(Path(args.csv), table.as_csv())
+    say(as_text(audit))
+    say(behind)
+    if not audit.found and not audit.entries and not audit.held_lines:
+        raise NoPeriod(*_nothing_of(period, journals))
+    return FOUND if audit.found else DONE
+
+
+COMMANDS = [
+    Command("audit", "hold a store's ledgers to the journals of its stations", _add_arguments, _audit, MORE),
+]

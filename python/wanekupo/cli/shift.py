@@ -1,0 +1,86 @@
+"""The command `shift`: what was done between two moments, over all customers and lines, by the stations' journals."""
+
+from __future__ import annotations
+
+import argparse
+import os
+from datetime import datetime, timezone
+from pathlib import Path
+
+from wanekupo.books.pages import write
+from wanekupo.books.numbers_left import asked, kept, rests
+from wanekupo.books.shift import Owned, period_of, shift_of
+from wanekupo.books.shift_page import as_html, as_text, tables
+from wanekupo.books.steps import books_of, named, told_faults
+from wanekupo.seat.command import Command, told
+from wanekupo.seat.settings import Settings
+from wanekupo.common.errors import BadSettings
+from wanekupo.common.moments import moment_of, tested_period
+from wanekupo.common.printing import Formulas, say, warn
+
+MORE = """. A step counts when its reply was written down, by the station's clock. A journal is a file, or a folder;
+acme=FOLDER says whose it is, which is needed where two customers' orders have one name. The rest of serial numbers is
+asked by --left, or taken from the files of watch."""
+TIME = "as 2026-11-27T06:00 by this machine's clock, 2026-11-27T06:00Z or 2026-11-27T06:00+02:00"
+
+
+def add_period(parser: argparse.ArgumentParser) -> None:
+    for name in ("from", "to"):
+        parser.add_argument(
+            f"--{name}", dest=f"{name}_time", required=True, metavar="TIME", type=told(moment_of), help=TIME
+        )
+
+
+def _add_arguments(parser: argparse.ArgumentParser) -> None:
+    parser.add_argument("journals", nargs="+", metavar="JOURNAL", help="a journal, or a folder with journals")
+    add_period(parser)
+    said = "ask what orders have left, by a customer's token that looks: FILE, or acme=FILE; may come again"
+    parser.add_argument("--left", action="append", default=[], metavar="TOKEN", help=said)
+    said = "take it from what watch kept: the file that watch was given; may come again"
+    parser.add_argument("--watch", action="append", default=[], metavar="FILE", help=said)
+    parser.add_argument("--html", metavar="FILE", help="write a page, to be read and printed")
+    parser.add_argument("--csv", metavar="FOLDER", help="write a file of comma-separated values for each table")
+
+
+def owned(words: list[str]) -> list[Owned]:
+    """The journals of these words, each with its customer, and each once: also where a folder and a file in it are
+    named."""
+    places: dict[str, list[Path]] = {}
+    for it in map(named, words):
+        places.setdefault(it.customer, []).append(it.path)
+    found = [(customer, book) for customer, paths in places.items() for book in books_of(paths)]
+    whose: dict[str, str] = {}
+    for customer, book in found:
+        for file in (os.path.realpath(it) for it in book.files):
+            if whose.setdefault(file, customer) != customer:
+                told = f"{file} is named as a journal of {customer or 'no customer'}, and of {whose[file] or 'none'}"
+                raise BadSettings(told, "Name it once, with its customer.")
+    return found
+
+
+def _shift(settings: Settings, args: argparse.Namespace) -> int:
+    tested_period(args.from_time, args.to_time)
+    end = min(args.to_time, datetime.now(timezone.utc))
+    tested_period(args.from_time, end)
+    folder = Path(args.csv) if args.csv else None
+    if folder and not folder.is_dir():
+        raise BadSettings(f"{folder} is no folder", "Make it first: each table gets a file there.")
+    journals = owned(args.journals)
+    warn(*(f"warning: {it}" for _, book in journals for it in told_faults(book)))
+    shift = shift_of(journals, period_of(args.from_time, end))
+    left = {**kept(args.watch, shift.period.end), **asked(settings, args.left)}
+    shown = tables(shift, rests(shift, left) if args.left or args.watch else None)
+    if args.html:
+        write(Path(args.html), as_html(shift, shown))
+    if folder:
+        formulas = Formulas()
+        for table in shown:
+            formulas.warn_of(table.columns, table.texts())
+            write(folder / f"{table.name}.csv", table.as_csv())
+    say(as_text(shift, shown))
+    return 0
+
+
+COMMANDS = [
+    Command("shift", "show what was done in a shift, over all customers and lines", _add_arguments, _shift, MORE),
+]

@@ -1,0 +1,196 @@
+"""Files that are this user's alone: none is opened through a link, and none in a folder that another user can write.
+
+On Windows, which has neither modes nor `flock`, nothing of it is watched over.
+"""
+
+from __future__ import annotations
+
+import contextlib
+import errno
+import os
+import shutil
+import stat
+from pathlib import Path
+from typing import IO, Iterator
+
+from wanekupo.common.errors import UnsafeFile
+
+try:
+    import fcntl
+except ImportError:  # Windows, where nothing keeps two processes from one state file
+    fcntl = None  # type: ignore[assignment]
+
+IS_POSIX = os.name == "posix"
+NOFOLLOW = getattr(os, "O_NOFOLLOW", 0)
+NONBLOCK = getattr(os, "O_NONBLOCK", 0)  # a pipe in a file's place is opened at once, and refused
+PRIVATE = 0o600
+
+# How much of a file is overwritten at once.
+BLOCK = 1 << 20
+
+# What a person does where another thing than a file is named.
+NAME = "Look at its name, and name a file."
+
+# Who may write a file or a folder beside its owner.
+OTHERS_WRITE = stat.S_IWGRP | stat.S_IWOTH
+
+
+def synced_folder(folder: Path) -> None:
+    """Syncs a folder, so that a name that was made or replaced in it stays."""
+    if IS_POSIX:
+        opened = os.open(folder, os.O_RDONLY)
+        try:
+            os.fsync(opened)
+        finally:
+            os.close(opened)
+
+
+def tested_folder(folder: Path) -> None:
+    """Whether nobody else can put a file into a folder, or take one out of it. One as /tmp is refused too: its sticky
+    bit keeps others from taking a file, and lets them put one there first."""
+    if not IS_POSIX:
+        return
+    found = os.stat(folder)
+    if found.st_uid not in (os.geteuid(), 0):
+        raise UnsafeFile(f"{folder} is another user's folder: have these files in one of your own")
+    if found.st_mode & OTHERS_WRITE:
+        raise UnsafeFile(f"others can write the folder {folder}: chmod go-w it, or have these files in another one")
+
+
+def own_path(file: str | os.PathLike[str]) -> Path:
+    """Where a file is, so that its two names have one lock. A link on the way is this user's or root's, in a folder
+    that nobody else writes: another one's may lead to any file that this user can write."""
+    path = Path(os.path.abspath(file))
+    for it in (path, *path.parents):
+        if it.is_symlink():
+            tested_folder(it.parent)
+            if IS_POSIX and it.lstat().st_uid not in (os.geteuid(), 0):
+                raise UnsafeFile(f"{it} is another user's link, and isn't followed")
+    return Path(os.path.realpath(path))
+
+
+def opened_plain(file: str | os.PathLike[str], flags: int, follows_links: bool = False) -> int:
+    """Opens a plain file, and makes it with mode 0600 where the flags say so; through no link, but where it is said."""
+    try:
+        opened = os.open(file, flags | (0 if follows_links else NOFOLLOW) | NONBLOCK, PRIVATE)
+    except OSError as error:
+        if NOFOLLOW and not follows_links and error.errno == errno.ELOOP:
+            raise UnsafeFile(f"{file} is a link, and isn't followed") from error
+        raise
+    mode = os.fstat(opened).st_mode
+    if not stat.S_ISREG(mode):
+        os.close(opened)
+        raise UnsafeFile(f"{file} is no plain file{', but a folder' if stat.S_ISDIR(mode) else ''}", NAME)
+    return opened
+
+
+def opened_own(file: str | os.PathLike[str], flags: int) -> int:
+    """The same of a file that has to be this user's, and that nobody else can write."""
+    opened = opened_plain(file, flags)
+    try:
+        found = os.fstat(opened)
+        if IS_POSIX and found.st_uid != os.geteuid():
+            raise UnsafeFile(f"{file} is another user's")
+        if IS_POSIX and found.st_mode & OTHERS_WRITE:
+            raise UnsafeFile(f"others can write {file}: look whether it is as it was, then chmod 600 it")
+        return opened
+    except BaseException:
+        os.close(opened)
+        raise
+
+
+def opened_lock(file: str | os.PathLike[str]) -> int:
+    """A lock's file, which has nothing in it. It is made private, as another's lock on it would shut us out."""
+    opened = opened_plain(file, os.O_RDWR | os.O_CREAT)
+    try:
+        if IS_POSIX and os.fstat(opened).st_uid != os.geteuid():
+            raise UnsafeFile(f"{file} is another user's")
+        if IS_POSIX:
+            os.fchmod(opened, PRIVATE)
+        return opened
+    except BaseException:
+        os.close(opened)
+        raise
+
+
+def locked(opened: int) -> None:
+    """Locks an opened file for this process alone, or fails with OSError at once."""
+    if fcntl:
+        fcntl.flock(opened, fcntl.LOCK_EX | fcntl.LOCK_NB)
+
+
+def wait_locked(opened: int) -> None:
+    """The same, once no other process has it."""
+    if fcntl:
+        fcntl.flock(opened, fcntl.LOCK_EX)
+
+
+def tested_unlocked(opened: int) -> None:
+    """Whether no program has a lock of SQLite's on an opened file; else OSError."""
+    if fcntl:
+        fcntl.lockf(opened, fcntl.LOCK_SH | fcntl.LOCK_NB)
+
+
+def replace_file(file: Path, text: str, mode: int = PRIVATE) -> None:
+    """Replaces a file of ASCII: whole or not at all, whenever the power fails. Its mode is this, whatever the umask."""
+    replace_bytes(file, text.encode("ascii"), mode, is_exact=True)
+
+
+def replace_bytes(file: Path, data: bytes, mode: int, is_exact: bool = False) -> None:
+    """The same of bytes, with a mode from which the umask takes unless it is exact."""
+    with replaced(file, mode, is_exact) as out:
+        out.write(data)
+
+
+@contextlib.contextmanager
+def replaced(file: Path, mode: int, is_exact: bool = False) -> Iterator[IO[bytes]]:
+    """The same of what is written to the file that this gives: it takes the other one's place once all is written, and
+    goes where that fails. What stands in the new one's place goes first, so that it is this call's, with its owner and
+    its mode."""
+    new = f"{file}.new"
+    with contextlib.suppress(FileNotFoundError):
+        os.unlink(new)
+    flags = os.O_WRONLY | os.O_CREAT | os.O_EXCL | NOFOLLOW
+    try:
+        with open(os.open(new, flags, mode), "wb") as out:
+            if IS_POSIX and is_exact:
+                os.fchmod(out.fileno(), mode)
+            yield out
+            out.flush()
+            os.fsync(out.fileno())
+        os.replace(new, file)
+    except BaseException:
+        with contextlib.suppress(FileNotFoundError):
+            os.unlink(new)
+        raise
+    synced_folder(file.parent)
+
+
+def removed_folder(folder: Path) -> None:
+    """Removes a folder with all that is in it, and overwrites its files before, as far as their file system lets one:
+    what it wrote elsewhere meanwhile, as on a flash disk, stays there. No link is followed."""
+    if folder.is_symlink():
+        folder.unlink()
+        return
+    for path, _, files in os.walk(folder):
+        for name in files:
+            with contextlib.suppress(OSError):
+                _overwrite(os.path.join(path, name))
+    shutil.rmtree(folder)
+    synced_folder(folder.parent)
+
+
+def _overwrite(file: str) -> None:
+    """Puts zeros in the place of a plain file's bytes. One with another name elsewhere keeps them."""
+    found = os.lstat(file)
+    if not stat.S_ISREG(found.st_mode) or found.st_nlink != 1:
+        return
+    os.chmod(file, PRIVATE)
+    opened = os.open(file, os.O_WRONLY | NOFOLLOW | NONBLOCK)
+    try:
+        left = found.st_size
+        while left > 0:
+            left -= os.write(opened, bytes(min(left, BLOCK)))
+        os.fsync(opened)
+    finally:
+        os.close(opened)

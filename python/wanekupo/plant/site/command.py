@@ -1,0 +1,339 @@
+#!/usr/bin/env python3
+"""Grows a site: makes tokens, writes the new text, says in words what it adds, tests it, and puts it in place.
+
+    site add-customer bolt --issuer bolt-ca --pool 020000020000 65536 --seat b1
+    site add-seat acme a5 a6 --holder 'line 5'
+    site add-pool acme 020000030000 65536
+    site add-issuer acme acme-2
+    site apply                               what was prepared: stops, backs up, puts in place, starts, asks
+    site check FILE                          the line, the member and the cause of a site's or a map's faults
+    site diff OLD NEW                        what NEW adds, in words; 1 where something goes
+
+An `add` prepares: it writes the new text beside the site file, as site.next.toml, tests it, and stops nothing. It may
+be given again, and others add to it. With `--apply` the steps of `apply` follow. To give it all up remove
+site.next.toml and site.growth before `apply`: from then on nothing can be taken back. A run that was cut is begun again
+by the same words, or by `apply`; no token is lost or made twice.
+
+A new seat's inner token is in the tokens' file alone (station-token(8)). Its outer one is in a new file, SEAT.token of
+the folder `--to`, made once the server knows the seat; a seat `health`, or any with --no-token, gets none. With
+--other-site the site of each other store of the house is held against the new text. As root, with Python 3.11, beside
+`token` and `backup`; what is of the store is done as its user. docs/how-to/grow-a-site.md has the steps.
+
+Statuses: 0 done; 1 refused, and nothing runs otherwise than before; 2 the words are wrong; 3 another run has the lock;
+4 the server doesn't start, and which text the store holds is told; 5 it runs with the new text, and a token doesn't go
+through yet: give the same words again.
+"""
+
+import argparse
+import os
+import re
+import signal
+import sys
+from pathlib import Path
+from typing import Any
+
+sys.dont_write_bytecode = True
+
+from wanekupo.plant.site.apply import Stopped, apply, say  # noqa: E402
+from wanekupo.plant.site.difference import given_of  # noqa: E402
+from wanekupo.plant.site.faults import NAME  # noqa: E402
+from wanekupo.plant.site.growth import with_customer, with_items  # noqa: E402
+from wanekupo.plant.site.place import Place, text_in  # noqa: E402
+from wanekupo.plant.site.plan import PREPARED, Plan, Wish, drop_plan, keep_plan, read_plan  # noqa: E402
+from wanekupo.plant.site.trials import checked, is_map, tested_growth, tested_others, tried_over_copy  # noqa: E402
+from wanekupo.common.store_user import ROOMS, UserError  # noqa: E402
+from wanekupo.common.token_file import HEALTH, TokenError, Tokens, alone, put, read, tokens_of  # noqa: E402
+from wanekupo.common.site_file import digest_of  # noqa: E402
+
+NAMED = Path(sys.argv[0]).name
+
+
+# ---- what is added
+
+
+def named(name: str, what: str) -> str:
+    if not NAME.fullmatch(name):
+        raise TokenError(1, f"{name!r} is no name of a {what}: 1 to 32 of A-Z a-z 0-9 . _ -")
+    return name
+
+
+def pool_of(first: str, count: str) -> dict[str, Any]:
+    """A pool as the site has it; whether its numbers are right is the test's to say."""
+    if not re.fullmatch(r"[0-9a-f]{12}", first) or not re.fullmatch(r"[1-9]\d{0,7}", count):
+        raise TokenError(1, f"{first} {count} is no pool: twelve lowercase hexadecimal digits, and a number from 1 on")
+    return {"first": first, "count": int(count)}
+
+
+def known_seats(place: Place) -> Tokens:
+    text = read(place.tokens)
+    return tokens_of(text, place.tokens) if text is not None else Tokens()
+
+
+def seat_of(place: Place, customer: str, name: str, is_trial: bool) -> dict[str, Any]:
+    """A seat with the digest of its inner token, which station-token makes and keeps; of one that it has already, that
+    of before. For a trial nothing is made: a digest stands in that no token has."""
+    there = known_seats(place).seats.get(named(name, "seat"))
+    if not there and is_trial:
+        return {"name": name, "token": digest_of(f"no token of {name}")}
+    if not there:
+        done = place.ran(*place.token_words(), "--no-reload", "seat", name, "--customer", customer)
+        if done.returncode:
+            raise TokenError(1, done.stderr.strip())
+        there = known_seats(place).seats[name]
+    if there.customer != customer:
+        raise TokenError(1, f"the seat {name} is {there.customer}'s in {place.tokens}")
+    return {"name": name, "token": digest_of(there.inner)}
+
+
+def add_wishes(args: argparse.Namespace, place: Place, plan: Plan) -> None:
+    """Which of the new seats get an outer token, and where: in a file that isn't there yet."""
+    there = given_of(text_in(place.site), str(place.site)).seat_names()
+    for seat in (it for it in args.seats if it not in there):
+        file = Path(args.to).absolute() / f"{seat}.token"
+        is_without = args.no_token or seat == HEALTH
+        if not is_without and not file.parent.is_dir():
+            raise TokenError(1, f"{file.parent} is no folder for the token of {seat}: --to FOLDER")
+        if not is_without and os.path.lexists(file):
+            raise TokenError(1, f"{file} is there already, and would be the file of a new token: --to FOLDER")
+        plan.add(Wish(seat, args.customer, "" if is_without else str(file), args.holder))
+
+
+def new_ones(text: str, title: str, customer: str, kind: str, items: list[Any]) -> list[Any]:
+    """Those that the text doesn't have yet of what is to be added."""
+    there = given_of(text, title).customers.get(customer)
+    if not there:
+        raise TokenError(1, f"{title} has no customer {customer}: add-customer makes one")
+    if kind == "issuer":
+        return [it for it in items if it not in there.issuers]
+    if kind == "pool":
+        return [it for it in items if (int(it["first"], 16), it["count"]) not in there.pools]
+    return [it for it in items if it["name"] not in there.seats]
+
+
+def added(text: str, title: str, customer: str, kind: str, items: list[Any]) -> str:
+    """The text with what it doesn't have yet."""
+    items = new_ones(text, title, customer, kind, items)
+    return with_items(text, customer, kind, items, title) if items else text
+
+
+def grown_text(args: argparse.Namespace, place: Place, text: str, is_trial: bool) -> str:
+    """The text with what the words of a command ask for. What it has already stays once."""
+    customer, title = named(args.customer, "customer"), str(place.next if place.next.exists() else place.site)
+    issuers = [named(it, "issuer") for it in args.issuers]
+    pools = [pool_of(*it) for it in args.pools]
+    is_new = args.command == "add-customer" and customer not in given_of(text, title).customers
+    if not is_new and customer not in given_of(text, title).customers:
+        raise TokenError(1, f"{place.site} has no customer {customer}: add-customer makes one")
+    there = given_of(text, title).seat_names()
+    seats = [seat_of(place, customer, it, is_trial) for it in args.seats if there.get(it) != customer]
+    if is_new:
+        parts = {"pool": pools, "seat": seats}
+        made = {"name": customer, "issuer": issuers, **{kind: items for kind, items in parts.items() if items}}
+        return with_customer(text, made, title)
+    for kind, items in (("issuer", issuers), ("pool", pools), ("seat", seats)):
+        text = added(text, title, customer, kind, items)
+    return text
+
+
+# ---- commands
+
+
+def tested(place: Place, plan: Plan, text: str) -> list[str]:
+    """What a new text adds, once it went through all tests but that over a backup."""
+    old = text_in(place.site)
+    if not place.has_program():
+        raise TokenError(1, f"there is no program {place.program}, which tests the new text: --program P")
+    gains = tested_growth(place, old, text, str(place.next))
+    tested_others(place, text, plan.others)
+    return gains
+
+
+def prepare(args: argparse.Namespace, place: Place) -> None:
+    """The new text beside the old one, and what it adds."""
+    plan = read_plan(place.plan)
+    if plan.stage != PREPARED:
+        raise TokenError(1, f"a growth is under way: finish it first, by `{NAMED} apply`")
+    before = text_in(place.next if place.next.exists() else place.site)
+    plan.others = sorted({*plan.others, *(str(Path(it).absolute()) for it in args.other_site)})
+    trial = grown_text(args, place, before, is_trial=True)
+    tested(place, plan, trial)
+    plan.is_tried, over = tried_over_copy(place, text_in(place.site), trial)
+    add_wishes(args, place, plan)
+    text = grown_text(args, place, before, is_trial=False)
+    gains = tested(place, plan, text)
+    if text == text_in(place.site):
+        say(f"{place.site} has all of it already; nothing is to be done")
+        return
+    keep_plan(place.plan, plan)
+    put(place.next, text)
+    tell(place, plan, gains, over)
+
+
+def tell(place: Place, plan: Plan, gains: list[str], over: str) -> None:
+    """What changes, and what was tried."""
+    for gain in gains or ["the same site in other words"]:
+        say(gain)
+    say("nothing is taken away, and nothing of this can be taken back once it is applied")
+    say(f"{place.next} is a site, and a growth of {place.site}; {over}")
+    others = ", ".join(plan.others)
+    say(f"no issuer, pool, seat, token or customer of it is in {others}" if others else
+        "no other store's site was named (--other-site FILE), so none was looked at")  # fmt: skip
+
+
+def look_again(args: argparse.Namespace, place: Place, plan: Plan) -> None:
+    """The tests of what was prepared, as somebody may have changed it since. A seat that went is dropped."""
+    text = text_in(place.next)
+    plan.others = sorted({*plan.others, *(str(Path(it).absolute()) for it in args.other_site)})
+    gains = tested(place, plan, text)
+    plan.is_tried, over = tried_over_copy(place, text_in(place.site), text)
+    tell(place, plan, gains, over)
+    there = given_of(text, str(place.next)).seat_names()
+    plan.wishes = [it for it in plan.wishes if it.seat in there]
+
+
+def carry_out(place: Place) -> None:
+    """The steps that stop and start the server."""
+    apply(place, read_plan(place.plan))
+
+
+def add(args: argparse.Namespace, place: Place) -> None:
+    with alone(place.plan, args.patience):
+        if args.apply and read_plan(place.plan).stage != PREPARED:
+            carry_out(place)
+        prepare(args, place)
+        if args.apply and place.next.exists():
+            carry_out(place)
+        elif place.next.exists():
+            say(f"to put it in place: {NAMED} apply")
+
+
+def apply_command(args: argparse.Namespace, place: Place) -> None:
+    with alone(place.plan, args.patience):
+        plan = read_plan(place.plan)
+        if plan.stage == PREPARED and not place.next.exists():
+            say("nothing is prepared, and nothing is under way")
+            drop_plan(place.plan)
+            return
+        if plan.stage == PREPARED:
+            look_again(args, place, plan)
+        apply(place, plan)
+
+
+def check(args: argparse.Namespace, place: Place) -> None:
+    """The faults of one file; what of a site is another store's too."""
+    path = Path(args.file)
+    text = text_in(path)
+    as_map = is_map(text)
+    if lines := checked(place, path, as_map):
+        raise TokenError(1, "\n".join(lines))
+    if args.other_site and not as_map:
+        tested_others(place, text, args.other_site)
+    by = "the program" if place.has_program() else "this tool alone, as there is no program"
+    say(f"{path} is a {'fuse map' if as_map else 'site'}, says {by}")
+
+
+def diff(args: argparse.Namespace, place: Place) -> None:
+    """What one text adds to another."""
+    gains = tested_growth(place, text_in(Path(args.old)), text_in(Path(args.new)), args.new)
+    for gain in gains or ["the same site in other words"]:
+        say(gain)
+    say("nothing is taken away")
+
+
+COMMANDS = {"add-customer": add, "add-seat": add, "add-pool": add, "add-issuer": add, "apply": apply_command,
+            "check": check, "diff": diff}  # fmt: skip
+
+
+# ---- words
+
+
+def place_words(made: argparse.ArgumentParser) -> None:
+    """Where a store is, and what serves it."""
+    made.add_argument("--site", default="/etc/station/site.toml", help="the site file (%(default)s)")
+    made.add_argument("--db", default="/var/lib/station/books.db", help="the store (%(default)s)")
+    made.add_argument("--backups", default="/var/backups/station", help="the folder of its backups (%(default)s)")
+    made.add_argument("--snapshot", default="", metavar="KIND",
+                      help="where backups are encrypted: lvm, btrfs or zfs (as the last backup's)")  # fmt: skip
+    made.add_argument("--room", default=str(ROOMS), metavar="FOLDER",
+                      help="of root's, where a copy of the store is tried (%(default)s)")  # fmt: skip
+    made.add_argument("--program", default="station", metavar="P", help="the program (%(default)s)")
+    made.add_argument("--tokens", default="/etc/station/tokens.conf", metavar="FILE", help="(%(default)s)")
+    made.add_argument("--token-words", default="", metavar="WORDS",
+                      help="more words for station-token, as --token-words=--no-reload")  # fmt: skip
+    made.add_argument("--stop", default="systemctl stop station", metavar="COMMAND", help="(%(default)s)")
+    made.add_argument("--start", default="systemctl start station", metavar="COMMAND", help="(%(default)s)")
+    made.add_argument("--restarts", default="systemctl show -p NRestarts --value station", metavar="COMMAND",
+                      help="prints how often it was started again (%(default)s)")  # fmt: skip
+    made.add_argument("--port", type=int, default=880, help="the server's (%(default)s)")
+    made.add_argument("--nginx", default="https://127.0.0.1:8443", metavar="URL", help="(%(default)s); '' for none")
+    made.add_argument("--certificate", default="/etc/station/cert.pem", metavar="FILE", help="nginx's (%(default)s)")
+    made.add_argument("--wait", type=float, default=900, metavar="SECONDS", help="for a start (%(default)s)")
+    made.add_argument("--patience", type=float, default=30, metavar="SECONDS", help="for another run (%(default)s)")
+
+
+def parser() -> argparse.ArgumentParser:
+    made = argparse.ArgumentParser(
+        prog=NAMED, description=__doc__, formatter_class=argparse.RawDescriptionHelpFormatter, allow_abbrev=False
+    )
+    place_words(made)
+    commands = made.add_subparsers(dest="command", required=True)
+    under = {name: commands.add_parser(name, allow_abbrev=False) for name in COMMANDS}
+    adding = [name for name in COMMANDS if name.startswith("add-")]
+    for name in adding:
+        under[name].add_argument("customer")
+        under[name].add_argument("--apply", action="store_true", help="the steps of `apply` follow")
+        under[name].set_defaults(seats=[], pools=[], issuers=[], holder="", to=".", no_token=False)
+    under["add-customer"].add_argument("--issuer", dest="issuers", action="append", metavar="NAME")
+    under["add-customer"].add_argument("--pool", dest="pools", nargs=2, action="append", metavar=("FIRST", "COUNT"))
+    under["add-customer"].add_argument("--seat", dest="seats", action="append", metavar="NAME")
+    under["add-seat"].add_argument("seats", nargs="+", metavar="seat")
+    for name in ("first", "count"):
+        under["add-pool"].add_argument(name)
+    under["add-issuer"].add_argument("issuers", nargs="+", metavar="issuer")
+    for name in ("add-customer", "add-seat"):
+        under[name].add_argument("--holder", default="", metavar="TEXT", help="who gets the token, for its list")
+        under[name].add_argument("--to", default=".", metavar="FOLDER", help="where SEAT.token is made (here)")
+        under[name].add_argument("--no-token", action="store_true", help="no outer tokens for these seats")
+    for name in (*adding, "apply", "check"):
+        under[name].add_argument("--other-site", action="append", default=[], metavar="FILE", help="another store's")
+    under["check"].add_argument("file")
+    under["diff"].add_argument("old")
+    under["diff"].add_argument("new")
+    return made
+
+
+SIGNALS = (signal.SIGTERM, signal.SIGINT, signal.SIGHUP)
+
+
+def stopped(number: int, _: object) -> None:
+    """A signal ends a run as an error does; a second one does nothing, as the server may have to be started. It isn't
+    ignored, since what is started then would ignore it too."""
+    for other in SIGNALS:
+        signal.signal(other, lambda *_: None)
+    raise Stopped(number)
+
+
+def main() -> int:
+    args = parser().parse_args()
+    if args.command == "add-pool":
+        args.pools = [(args.first, args.count)]
+    for number in SIGNALS:
+        signal.signal(number, stopped)
+    try:
+        os.umask(0o077)
+        COMMANDS[args.command](args, Place(args))
+    except TokenError as error:
+        print(f"{NAMED}: {error}", file=sys.stderr)
+        return error.status
+    except OSError as error:
+        told = ": ".join(str(it) for it in (error.filename, error.strerror) if it)
+        print(f"{NAMED}: {told or error}", file=sys.stderr)
+        return 1
+    except (UserError, UnicodeError) as error:
+        print(f"{NAMED}: {error}", file=sys.stderr)
+        return 1
+    return 0
+
+
+if __name__ == "__main__":
+    sys.exit(main())

@@ -1,0 +1,123 @@
+"""Where a store and its site are, and the programs that deploy/site runs there.
+
+What is of the store is done as the store's user (store_user.py): whatever a file may bring a program to do is done as
+that user, and never as root (docs/decisions/0015-a-backup-is-the-store-users.md).
+"""
+
+import argparse
+import re
+import shlex
+import shutil
+import subprocess
+import tempfile
+from collections.abc import Iterator
+from contextlib import AbstractContextManager, contextmanager
+from functools import cached_property
+from pathlib import Path
+
+from wanekupo.plant.trial_copy import Backup, copy_files, copy_running, newest_backup
+from wanekupo.common.store_user import Store, StoreUser, room, shown
+from wanekupo.common.token_file import TokenError
+
+
+def text_in(path: Path) -> str:
+    """A text as it is, with its ends of lines."""
+    data = path.read_bytes()
+    try:
+        return data.decode()
+    except UnicodeDecodeError as error:
+        line = data.count(b"\n", 0, error.start) + 1
+        raise TokenError(1, f"{path}:{line}: a byte that is no UTF-8 (the program: cannot read {path})") from None
+
+
+class Place:
+    """The files and the commands of one store."""
+
+    def __init__(self, args: argparse.Namespace):
+        self.site, self.db, self.backups = (Path(it).absolute() for it in (args.site, args.db, args.backups))
+        self.next = self.site.with_name(f"{self.site.stem}.next{self.site.suffix}")
+        self.plan = self.site.with_name(f"{self.site.stem}.growth")
+        self.tokens = Path(args.tokens)
+        self.program = args.program
+        self.parts = Path(__file__).resolve().parent.parent
+        self.args = args
+
+    def token_words(self) -> list[str]:
+        """station-token's own command, which lies beside this one."""
+        return [str(self.parts / "token"), "--file", str(self.tokens), *shlex.split(self.args.token_words)]
+
+    def has_program(self) -> bool:
+        return shutil.which(self.program) is not None
+
+    @cached_property
+    def store(self) -> Store:
+        """The store's folder and its user; the store is there."""
+        found = Store(self.db)
+        found.size()
+        return found
+
+    @property
+    def user(self) -> StoreUser:
+        return self.store.user
+
+    def ran(self, *words: str, given: str = "") -> "subprocess.CompletedProcess[str]":
+        try:
+            return subprocess.run(words, input=given, capture_output=True, text=True, errors="replace", check=False)
+        except OSError as error:
+            raise TokenError(1, f"{words[0]}: {error.strerror}") from None
+
+    def service(self, command: str) -> tuple[bool, str]:
+        """Whether a command of the service did it, and what it said."""
+        done = self.ran(*shlex.split(command))
+        return done.returncode == 0, (done.stderr or done.stdout).strip()
+
+    def replayed(self, site: Path, db: Path | None = None, user: StoreUser | None = None) -> str:
+        """What the program says of a site, or of a store with it; nothing where it takes them."""
+        words = [self.program, "replay", "--site", str(site), *(["--db", str(db), "--existing"] if db else [])]
+        done = user.run(*words) if user else self.ran(*words)
+        return "" if done.returncode == 0 else (shown(done.stderr).strip() or f"status {done.returncode}")
+
+    def newest_backup(self) -> Backup | None:
+        return newest_backup(self.user, self.backups)
+
+    def room(self, needed: int) -> AbstractContextManager[Path]:
+        """A folder of the store's user for a copy, which is gone at the end."""
+        return room(self.user, needed, Path(self.args.room))
+
+    @contextmanager
+    def copied(self, db: Path, size: int) -> Iterator[Path]:
+        """A copy of a store's two files, as the store's user made it."""
+        with self.room(size) as own:
+            yield copy_files(self.user, db, own / "store")
+
+    @contextmanager
+    def copied_running(self) -> Iterator[Path]:
+        """A copy of the store as it is now, though its server runs: by a snapshot, as backups are made."""
+        with self.room(self.size()) as own:
+            yield copy_running(self.db, self.backups, self.args.snapshot, own / "store")
+
+    def size(self) -> int:
+        return self.store.size() + self.store.size("-wal")
+
+    def held_text(self, texts: list[Path]) -> str:
+        """The text that the store holds, whose server is stopped. The program opens a copy first, by one of the texts:
+        so it is a store and nothing else. sqlite3 reads another copy, in its safe mode."""
+        with self.copied(self.db, self.size()) as opened:
+            refused = [self.replayed(text, opened, self.user) for text in texts]
+            if all(refused):
+                raise TokenError(4, f"the program opens no copy of {self.db}: {refused[0]}")
+        with self.copied(self.db, self.size()) as copy:
+            words = ("sqlite3", "-safe", "-readonly", str(copy), "SELECT hex(body) FROM site_text")
+            done = self.user.run(*words)
+        if done.returncode or not re.fullmatch(r"[0-9A-F]+\n", done.stdout):
+            raise TokenError(4, f"sqlite3 can't read {self.db}: {shown(done.stderr).strip()}")
+        return bytes.fromhex(done.stdout.strip()).decode()
+
+
+@contextmanager
+def written(text: str) -> Iterator[Path]:
+    """A text in a file for the program, which is gone at the end."""
+    with tempfile.TemporaryDirectory(prefix="station-site.") as folder:
+        path = Path(folder) / "site.toml"
+        path.write_bytes(text.encode())
+        yield path

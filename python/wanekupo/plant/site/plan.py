@@ -1,0 +1,59 @@
+"""What is prepared and not yet done: the seats that get outer tokens, and how far the steps are.
+
+The plan is a file beside the site file, SITE.growth, root's alone. It has no token. Each step is noted in it before it
+is begun, so a run that was cut is begun again where it was.
+"""
+
+import json
+from dataclasses import asdict, dataclass, field
+from pathlib import Path
+
+from wanekupo.common.token_file import TokenError, put
+from wanekupo.common.whole_file import sync
+
+# PREPARED: the new text lies beside the old one. STOPPING: the server is being stopped, and the old text is in place.
+# PLACED: the new text is in place, and the server is being started.
+PREPARED, STOPPING, PLACED = "prepared", "stopping", "placed"
+
+
+@dataclass
+class Wish:
+    """A new seat; the file of its outer token, or nothing where it gets none; and who gets it."""
+
+    seat: str
+    customer: str
+    to: str = ""
+    holder: str = ""
+
+
+@dataclass
+class Plan:
+    stage: str = PREPARED
+    backup: str = ""
+    is_tried: bool = False  # over a copy of the store
+    others: list[str] = field(default_factory=list)
+    wishes: list[Wish] = field(default_factory=list)
+
+    def add(self, wish: Wish) -> None:
+        self.wishes = [it for it in self.wishes if it.seat != wish.seat] + [wish]
+
+
+def read_plan(path: Path) -> Plan:
+    """The plan, or one with nothing in it."""
+    try:
+        found = json.loads(path.read_text(encoding="utf-8"))
+        wishes = [Wish(**it) for it in found["wishes"]]
+        return Plan(found["stage"], found["backup"], bool(found.get("is_tried")), found["others"], wishes)
+    except FileNotFoundError:
+        return Plan()
+    except (ValueError, KeyError, TypeError) as error:
+        raise TokenError(1, f"{path} isn't what this command writes: {error}") from None
+
+
+def keep_plan(path: Path, plan: Plan) -> None:
+    put(path, json.dumps(asdict(plan), indent=1) + "\n")
+
+
+def drop_plan(path: Path) -> None:
+    path.unlink(missing_ok=True)
+    sync(path.parent)

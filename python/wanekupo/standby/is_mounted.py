@@ -1,0 +1,27 @@
+#!/usr/bin/python3
+"""Ends with status 0 where this machine's half is mounted at its place, and else with 2 and a sentence.
+
+The server's unit asks it before each start (station.service.conf). Without it a server would run over whatever else is
+at that place: an old store, or the volume below DRBD, of which the other machine gets nothing. systemd doesn't start
+the unit again behind a status 2.
+"""
+
+import sys
+from pathlib import Path
+
+sys.dont_write_bytecode = True
+sys.path[:0] = map(str, Path(__file__).resolve().parents[:2])
+
+from wanekupo.standby.half import Half, Refused, read_settings  # noqa: E402
+
+if __name__ == "__main__":
+    if sys.argv[1:] in (["-h"], ["--help"]):
+        print(__doc__)
+        sys.exit(0)
+    try:
+        if Half(read_settings()).is_mounted():
+            sys.exit(0)
+        print("The store's volume isn't mounted here: `takeover` mounts it.", file=sys.stderr)
+    except (Refused, OSError) as refused:
+        print(f"refused: {refused}", file=sys.stderr)
+    sys.exit(2)

@@ -1,0 +1,65 @@
+#!/usr/bin/python3
+"""Says that the other machine is off, so that this one goes on alone.
+
+    other-is-off NAME      NAME is the other machine's, as `uname -n` prints it there
+
+Type it where the cable between the two is dead, this machine has the store, and its writes are frozen. **The other
+machine must have no power, and must stay so until the cable is whole.** Nothing here can look whether that is so. What
+this machine writes from then on, it has alone.
+"""
+
+import argparse
+import shlex
+import sys
+import time
+from pathlib import Path
+
+sys.dont_write_bytecode = True
+sys.path[:0] = map(str, Path(__file__).resolve().parents[:2])
+
+from wanekupo.standby.half import Half, Refused, done, ended, give_word, read_settings, run, take_word, tell, waited_for  # noqa: E402
+
+
+# How long DRBD's handler may take to hear it, if it waits.
+HANDLER = 60
+
+
+def say(name: str) -> int:
+    half = Half(read_settings())
+    other, state = half.other_name(), half.state()
+    if name != other:
+        raise Refused(f"The other machine of this one is {other}, and not {name}.")
+    if state.is_connected():
+        raise Refused(f"{other} is on: the two are connected ({state}).")
+    if state.role != "Primary":
+        told = f"To have it here type `takeover --other-is-off {other}`."
+        raise Refused(f"This machine hasn't the store ({state}). {told}")
+    if not state.is_frozen:
+        raise Refused(f"This machine's writes aren't frozen ({state}): there is nothing to say.")
+    try:
+        give_word()
+        is_heard = waited_for(lambda: not half.state().is_frozen, HANDLER)
+    finally:
+        take_word()
+    if half.state().is_connected():
+        raise Refused(f"The two are connected again ({half.state()}), so {other} is on. Nothing was said.")
+    if not is_heard:
+        # DRBD has ended its handler, as nobody said anything for ten minutes.
+        done(["drbdadm", "resume-io", half.resource])
+        # The process that waited behind it brings the address back too: at the same moment one of the two may fail.
+        if run(shlex.split(half.settings.take_address)).returncode:
+            time.sleep(5)
+            half.command("take_address")
+    tell(f"This machine goes on alone, and {other} has an older half from now on: {half.state()}")
+    return 0
+
+
+def main() -> int:
+    parser = argparse.ArgumentParser(description=__doc__, formatter_class=argparse.RawDescriptionHelpFormatter)
+    parser.add_argument("name", metavar="NAME", help="the other machine's name")
+    args = parser.parse_args()
+    return say(args.name)
+
+
+if __name__ == "__main__":
+    ended("other-is-off", main)

@@ -1,0 +1,60 @@
+#!/usr/bin/python3
+"""Hands the store over: the address goes, the server stops, and the volume is unmounted.
+
+    stepdown              where the other half is up to date: then type `takeover` on the other machine
+    stepdown --alone      also where it isn't, as before this machine is switched off
+
+It stops at what it can't do, and says which step that was; begun again it goes on.
+"""
+
+import argparse
+import sys
+from pathlib import Path
+
+sys.dont_write_bytecode = True
+sys.path[:0] = map(str, Path(__file__).resolve().parents[:2])
+
+from wanekupo.standby.half import (  # noqa: E402
+    FROZEN,
+    SERVER_SECONDS,
+    Half,
+    Refused,
+    alone_at_work,
+    done,
+    ended,
+    read_settings,
+    tell,
+)
+
+
+def step_down(is_alone: bool) -> int:
+    half = Half(read_settings())
+    state = half.state()
+    if state.role != "Primary":
+        raise Refused(f"This machine hasn't the store ({state}).")
+    if state.is_frozen:
+        raise Refused(f"This machine's writes are frozen ({state}), so nothing can be stopped here. {FROZEN}")
+    if not is_alone and not (state.is_connected() and state.other_disk == "UpToDate"):
+        raise Refused(
+            f"The other half isn't up to date ({state}), and `takeover` there would be refused. Wait until it is, or "
+            "type `stepdown --alone`."
+        )
+    half.command("leave_address")
+    half.command("stop", SERVER_SECONDS)
+    if half.is_mounted():
+        half.unmount()
+    done(["drbdadm", "secondary", half.resource])
+    tell(f"stepped down: {half.state()}")
+    return 0
+
+
+def main() -> int:
+    parser = argparse.ArgumentParser(description=__doc__, formatter_class=argparse.RawDescriptionHelpFormatter)
+    parser.add_argument("--alone", action="store_true", help="also where the other half isn't up to date")
+    args = parser.parse_args()
+    with alone_at_work():
+        return step_down(args.alone)
+
+
+if __name__ == "__main__":
+    ended("stepdown", main)
