@@ -12,7 +12,7 @@ from concurrent.futures import ThreadPoolExecutor
 from pathlib import Path
 
 ROOT = Path(__file__).resolve().parent.parent
-sys.path[:0] = [str(ROOT / "clients/python"), str(ROOT / "clients/python/tests")]
+sys.path[:0] = [str(ROOT / "python"), str(ROOT / "python/tests/client")]
 
 from running import Running, script, toml  # noqa: E402
 from simulated_chip import map_fields, new_chip  # noqa: E402
@@ -70,7 +70,7 @@ def wishes_of(family):
 
 def stray_of(family):
     """The words that burn a bit which no wish names."""
-    fields = map_fields(ROOT / f"maps/{family}.toml")
+    fields = map_fields(ROOT / f"python/wanekupo/chips/families/{family}/map.toml")
     names = ("CONSOLE_DEBUG_DISABLE", "DIS_FORCE_DOWNLOAD")
     field = next(it for it in fields if it["name"] in names)
     return f"--chip {family} burn_bit BLOCK0 {field['bit']}"
@@ -133,7 +133,7 @@ class Plant:
         sockets = {name: [self.socket(f"{seat}-{name}")] for name in SOCKETS}
         hooks = {name: {"command": [f"./{file}"]} for name, file in (("before_identity", "make-csr"),
                                                                      ("before_ship", "ship"))}  # fmt: skip
-        top = {"name": family, "order": order, "map": str(ROOT / f"maps/{family}.toml"), "family": family}
+        top = {"name": family, "order": order, "map": str(ROOT / f"python/wanekupo/chips/families/{family}/map.toml"), "family": family}
         lines = [f"{name} = {toml(it)}" for name, it in top.items()]
         tables = (("server", server), ("sockets", sockets), ("hooks", hooks), ("stop", {"lost_in_a_row": 99}))
         for name, table in tables:

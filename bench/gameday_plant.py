@@ -20,7 +20,7 @@ from chip import ROOT, Failed
 from served import Server, station
 
 sys.dont_write_bytecode = True
-sys.path.insert(0, str(ROOT / "clients/python/tests"))
+sys.path.insert(0, str(ROOT / "python/tests/client"))
 os.environ.setdefault("STATION_PROGRAM", "")
 
 from simulated_chip import SimulatedChip  # noqa: E402
@@ -31,7 +31,7 @@ from wanekupo.common.errors import NoReply, OutOfStep, Refused  # noqa: E402
 from wanekupo.seat.journal import Journal  # noqa: E402
 from wanekupo.seat.station import Station  # noqa: E402
 
-BACKUP, RESTORE = ROOT / "deploy/backup", ROOT / "deploy/restore"
+BACKUP, RESTORE = ROOT / "python/bin/station-backup", ROOT / "python/bin/station-restore"
 CUSTOMERS = {"acme": ("a1", "a2", "a3"), "bolt": ("b1", "b2", "b3"), "cord": ("c1", "c2")}
 SECONDS, USER = 120, 65534
 FULL, SPENT, UNKNOWN_MAP = 18, 32, 13
@@ -181,7 +181,7 @@ class Line:
         settings = ["--url", self.plant.url, "--token", str(self.token_file)]
         settings += ["--state-file", str(self.folder / "state.json")]
         settings += ["--journal", str(self.folder / "journals"), "--seat", self.seat]
-        environment = {**os.environ, "PYTHONPATH": str(ROOT / "clients/python"), "HOME": str(self.folder)}
+        environment = {**os.environ, "PYTHONPATH": str(ROOT / "python"), "HOME": str(self.folder)}
         return subprocess.run(
             [sys.executable, "-B", "-m", "wanekupo", *words, *settings], env=environment, cwd=self.folder,
             capture_output=True, text=True, timeout=SECONDS, check=False,

@@ -22,7 +22,7 @@ from registrations import MAP, blocks_of
 from served import HOST, Caller, Server
 
 ROOT = Path(__file__).resolve().parent.parent
-DEPLOYED, TOKEN = ROOT / "deploy/nginx.conf", ROOT / "deploy/token"
+DEPLOYED, TOKEN = ROOT / "deploy/nginx.conf", ROOT / "python/bin/station-token"
 
 # The seats of the customer that attacks, the first of which made the store, and the honest station's seat.
 SEATS, HONEST = [f"a{number}" for number in range(10)], "b0"

@@ -168,7 +168,7 @@ class LotsPlace(Place):
     def ran(self, seat, *words, **named):
         """The command's status, its output, what it told, and its seconds."""
         begun = time.monotonic()
-        environment = {**os.environ, "PYTHONPATH": str(ROOT / "clients/python"), **named}
+        environment = {**os.environ, "PYTHONPATH": str(ROOT / "python"), **named}
         done = subprocess.run(
             self.words(*words, seat=seat),
             cwd=self.folder,

@@ -21,7 +21,7 @@ from lots_place import life, rows_of, shown
 from registrations import MAP
 from tokens_place import ROOT
 
-sys.path.insert(0, str(ROOT / "clients/python"))
+sys.path.insert(0, str(ROOT / "python"))
 
 from wanekupo.lots.sheets import reading_of  # noqa: E402
 

@@ -233,7 +233,7 @@ def test_left_out(bench):
     bench.refuses(f"{told} (line 2 of {file})", journals=[journals], folder=empty)
     bench.refuses(f"line 1 of {file} has number {last + 1} of a2", journals=[journals])
     bench.refuses("--leave-out acme needs the file of station-token", "--leave-out", "acme", journals=[journals])
-    tokens, token = bench.folder / "left.conf", [sys.executable, "-B", ROOT / "deploy/token", "--no-reload", "--file"]
+    tokens, token = bench.folder / "left.conf", [sys.executable, "-B", ROOT / "python/bin/station-token", "--no-reload", "--file"]
     site = ["--site", bench.plant.site]
     for customer in CUSTOMERS:
         own = ["seat", *site, f"restore-{customer}", "--known", bench.plant.folder / f"tokens/restore-{customer}.token"]
@@ -268,7 +268,7 @@ def later(bench, folder):
         files = [own_folder(bench.journals, seat) for seat in CUSTOMERS["acme"]]
         token = plant.folder / "tokens/restore-acme.token"
         words = ["--url", plant.url, "--token", token, "--state-file", folder / "later.json", "restore", *files]
-        environment = {**os.environ, "PYTHONPATH": str(ROOT / "clients/python")}
+        environment = {**os.environ, "PYTHONPATH": str(ROOT / "python")}
         ran(sys.executable, "-B", "-m", "wanekupo", *words, environment=environment)
     finally:
         plant.server.kill()

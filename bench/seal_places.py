@@ -13,7 +13,7 @@ from pathlib import Path
 
 from seal_plant import END, ROOT, START
 
-PYTHON = ROOT / "clients/python"
+PYTHON = ROOT / "python"
 PERIOD = ["--from", START, "--to", END]
 SECONDS = 600
 

@@ -14,7 +14,7 @@ from dataclasses import dataclass, field
 from pathlib import Path
 
 ROOT = Path(__file__).resolve().parent.parent
-sys.path.insert(0, str(ROOT / "clients/python"))
+sys.path.insert(0, str(ROOT / "python"))
 
 from lives import SITE, Orders  # noqa: E402
 from program import Program, send  # noqa: E402
@@ -28,8 +28,8 @@ from wanekupo.seat.journal import Journal, request_digest  # noqa: E402
 from wanekupo.seat.rows import csv_of  # noqa: E402
 from wanekupo.seat.station import Station  # noqa: E402
 
-MAP = (ROOT / "maps/esp32.toml").read_text(encoding="utf-8")
-NONE = (ROOT / "maps/none.toml").read_text(encoding="utf-8")
+MAP = (ROOT / "python/wanekupo/chips/families/esp32/map.toml").read_text(encoding="utf-8")
+NONE = (ROOT / "python/wanekupo/chips/families/none/map.toml").read_text(encoding="utf-8")
 TOKENS = {"a1": "abc", "a2": "abd", "b1": "hello"}
 CUSTOMERS = {"a1": "acme", "a2": "acme", "b1": "bolt"}
 FLASH_KEY = hashlib.sha256(bytes(range(32))).hexdigest()

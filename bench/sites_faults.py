@@ -6,7 +6,7 @@ from chip import ROOT, SITE
 
 A1 = "ba7816bf8f01cfea414140de5dae2223b00361a396177a9cb410ff61f20015ad"
 SAMPLE = SITE.read_text(encoding="utf-8")
-NONE = (ROOT / "maps/none.toml").read_text(encoding="utf-8")
+NONE = (ROOT / "python/wanekupo/chips/families/none/map.toml").read_text(encoding="utf-8")
 
 KEYED = """name = "k"
 wr = "W"

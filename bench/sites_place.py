@@ -1,4 +1,4 @@
-"""A house with a store, its site, a backup of last night and a service, in a folder; and runs of deploy/site over it.
+"""A house with a store, its site, a backup of last night and a service, in a folder; and runs of python/bin/station-site over it.
 
 The service is a script in a session of its own, as a real one is no child of who asks for it. As root the store and its
 backups are another user's, since the tool refuses root's. A run may be killed right before its Nth deed that others see
@@ -19,7 +19,7 @@ from pathlib import Path
 
 from chip import ROOT, SITE, Failed
 
-TOOL = ROOT / "deploy/site"
+TOOL = ROOT / "python/bin/station-site"
 
 OWNER, GROUP = "nobody", "nogroup"
 
@@ -113,7 +113,7 @@ class House:
         made = [*self.as_owner(), self.program, "replay", "--site", self.site, "--db", self.db]
         subprocess.run(made, stdin=subprocess.DEVNULL, check=True)
         words = ["--program", self.program, "--site", self.site, "--db", self.db, self.backups / "night"]
-        subprocess.run([*self.as_owner(), ROOT / "deploy/backup", *words], capture_output=True, check=True)
+        subprocess.run([*self.as_owner(), ROOT / "python/bin/station-backup", *words], capture_output=True, check=True)
 
     def copy(self, folder: Path) -> "House":
         """Another house like this one; no server runs in either."""
@@ -183,7 +183,7 @@ class House:
             text = text.replace(old, new)
         path, pid = self.folder / "nginx.conf", self.folder / "nginx.pid"
         path.write_text(text)
-        made = [ROOT / "deploy/token", "--file", self.tokens, "--no-reload", "write"]
+        made = [ROOT / "python/bin/station-token", "--file", self.tokens, "--no-reload", "write"]
         subprocess.run(made, capture_output=True, check=True)
         nginx = f"nginx -c {path} -e {self.folder}/log -g 'pid {pid};'"
         told = f'--test "{nginx} -t -q" --reload "{nginx} -s reload" --pid {pid}'

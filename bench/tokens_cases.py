@@ -460,11 +460,11 @@ def reloads(place, tried):
 
 
 def client_of(place, asked, least, patience=0):
-    """Requests of clients/python as the seat b1, for two seconds: ok where there were as many, or what went wrong. It
+    """Requests of python as the seat b1, for two seconds: ok where there were as many, or what went wrong. It
     asks once more where a kept connection was closed, and without patience for no 503."""
     text = f"""
 import ssl, sys, time
-sys.path.insert(0, {str(ROOT / "clients/python")!r})
+sys.path.insert(0, {str(ROOT / "python")!r})
 from wanekupo_station import Station
 context = ssl.create_default_context(cafile="etc/cert.pem")
 station = Station("https://localhost:{place.port}", {place.outer["bolt"]!r}, "b1.json", {patience}, context=context)

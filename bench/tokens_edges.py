@@ -33,7 +33,7 @@ def certificates(place, tried):
         tried.same(f"{version} without the word", ask("pc1", version, token=None), STRANGER)
         tried.same(f"{version} came through", place.recorder.heads[asked:], [])
     tried.same("a token without a certificate", ask(None, token=by(place.outer["work"])), NO_ORDER)
-    tried.same("clients/python", client_by_certificate(place, made["pc1"]), NO_ORDER[0])
+    tried.same("python", client_by_certificate(place, made["pc1"]), NO_ORDER[0])
     inner = [re.search(rb"Bearer (\S*)", head)[1].decode() for head in place.recorder.heads]
     tried.same("each is its own seat's", inner[:3], [INNER[it] for it in ("a1", "b1", "a1")])
     ran(["openssl", "ca", "-config", "ca.cnf", "-revoke", "pc1.pem"], ours)
@@ -52,10 +52,10 @@ def certificates(place, tried):
 
 
 def client_by_certificate(place, words):
-    """The status that clients/python is refused with by its certificate, as the page has it."""
+    """The status that python is refused with by its certificate, as the page has it."""
     text = f"""
 import ssl, sys
-sys.path.insert(0, {str(ROOT / "clients/python")!r})
+sys.path.insert(0, {str(ROOT / "python")!r})
 from wanekupo_station import Refused, Station
 context = ssl.create_default_context(cafile="etc/cert.pem")
 context.load_cert_chain({words[1]!r}, {words[3]!r})

@@ -13,7 +13,7 @@ from pathlib import Path
 from served import HOST, Server, station
 
 ROOT = Path(__file__).resolve().parent.parent
-TOOL, CONF = ROOT / "deploy/token", ROOT / "deploy/nginx.conf"
+TOOL, CONF = ROOT / "python/bin/station-token", ROOT / "deploy/nginx.conf"
 SITE, CERTIFICATES = ROOT / "crates/station/data/site.toml", ROOT / "deploy/nginx-certificates.conf"
 
 # The tokens of the sample site's seats, which are inner ones here.

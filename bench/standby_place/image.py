@@ -110,7 +110,7 @@ def libraries_of(program: Path) -> set[Path]:
 
 def python_files() -> set[Path]:
     """The files of Python's modules that the scripts need, and all encodings of its start."""
-    where = f"PYTHONPATH={ROOT}/deploy:{DEPLOYED}:{ROOT}/clients/python"
+    where = f"PYTHONPATH={ROOT}/deploy:{DEPLOYED}:{ROOT}/python"
     words = ["env", where, "/usr/bin/python3.11", "-B", "-S", "-c", IMPORTED, str(ROOT / "deploy"), str(DEPLOYED)]
     found = {Path(line) for line in said_by(*words).split("\n") if line.startswith("/usr/lib")}
     return found | {path for path in Path("/usr/lib/python3.11/encodings").glob("*.py")}

@@ -12,7 +12,7 @@ from typing import Any
 from registrations import MAP, blocks_of, key_of
 
 ROOT = Path(__file__).resolve().parent.parent.parent
-sys.path.insert(0, str(ROOT / "clients/python"))
+sys.path.insert(0, str(ROOT / "python"))
 
 from wanekupo.common.errors import Refused  # noqa: E402
 from wanekupo.seat.journal import Journal  # noqa: E402

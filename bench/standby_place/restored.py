@@ -72,7 +72,7 @@ def stick(place: Place) -> None:
             tar.addfile(found, io.BytesIO(text.encode()))
         for name in TOOLS:
             tar.add(ROOT / "deploy" / name, f"usr/share/wanekupo/{name}")
-        package = ROOT / "clients/python"
+        package = ROOT / "python"
         for path in (package / "wanekupo").rglob("*.py"):
             tar.add(path, f"usr/lib/python3/dist-packages/{path.relative_to(package)}")
     place.second.stick.write_bytes(data.getvalue())

@@ -5,7 +5,7 @@
  * A `Station` is one seat of the site file. Its state file has the number of the next request, the request under way
  * and the last one that was accepted, with its reply. It is synced before a request is sent, so that a station that
  * loses its power sends the same request again: `finish` does that, before anything else is asked for. It is the state
- * file of clients/python.
+ * file of python.
  *
  * `Espefuse` reads and burns a chip by espefuse.py; `commands` are the words of it that burn a batch. Node 18 or later,
  * no package; the program `flock`, which each Linux has.
@@ -399,7 +399,7 @@ function ownName(file) {
 }
 
 /**
- * Locks an opened file for this process, as clients/python does: by flock(2), whose lock ends with the process, however
+ * Locks an opened file for this process, as python does: by flock(2), whose lock ends with the process, however
  * that ends. Node doesn't have the call. The program of that name makes it for the file that is opened here, and the
  * lock stays with that.
  */
@@ -440,7 +440,7 @@ function keptOf(asked) {
   return { ...asked, body: asciiJson(redacted(members)) };
 }
 
-/** JSON in visible ASCII, as the files of clients/python have it. */
+/** JSON in visible ASCII, as the files of python have it. */
 function asciiJson(data) {
   const escape = (unit) => `\\u${unit.charCodeAt(0).toString(16).padStart(4, "0")}`;
   return JSON.stringify(data).replace(/[\u007f-\uffff]/g, escape);
@@ -462,7 +462,7 @@ function cutToLines(opened, file) {
 }
 
 /**
- * The station's own log, in the form that clients/python has and restores by: what is asked is synced before it is
+ * The station's own log, in the form that python has and restores by: what is asked is synced before it is
  * sent, and its answer before the next request. One process has it.
  */
 class Journal {
@@ -704,7 +704,7 @@ export class Station {
       const state = JSON.parse(text);
       if (MEMBERS.some((name) => state[name] === undefined)) throw new RangeError("it lacks a member");
       keptOf(state.last);
-      return state; // with the members that another version or clients/python has there, which stay as they are
+      return state; // with the members that another version or python has there, which stay as they are
     } catch (error) {
       throw new BadStateFile(`${file} is no state file: ${error.message}`);
     }

@@ -1,7 +1,7 @@
-"""A programming station's side of Wanekupo: the protocol of a seat (docs/reference/api.md), the chips at a bench, and
-the command `wanekupo`. The module `wanekupo_station` has the names of the version before, for this one.
+"""What stands around the server of Wanekupo: a station's seat and its bench, a customer's books, and a plant's tools.
 
-Python 3.11, the standard library, and `python3-cryptography` for the keys of identities.
+Its packages import downwards alone: `cli` over `bench`, `lots`, `books`, `metrics`, `plant`, `standby`, over `seat`, over
+`chips`, over `common`. Python 3.11, the standard library, and `python3-cryptography` for the keys of identities.
 """
 
 __version__ = "1.0.0"

@@ -220,7 +220,7 @@ def rows_of_other_sources() -> Iterator[str]:
 def others_at_fault() -> Iterator[str]:
     """What stands twice and isn't the same: the whole map of the ESP32 in a test, and the toolchain on no page."""
     yield from leads_at_fault()
-    text = (TOP / "maps/esp32.toml").read_text("utf-8")
+    text = (TOP / "python/wanekupo/chips/families/esp32/map.toml").read_text("utf-8")
     if f'r#"{text}"#' not in (TOP / "crates/base_tests/src/esp32.rt").read_text("utf-8"):
         yield "crates/base_tests/src/esp32.rt has another text than maps/esp32.toml"
     if kit() and not any(KIT.search(page_text(page)) for page in pages()):

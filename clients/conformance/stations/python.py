@@ -1,5 +1,5 @@
 #!/usr/bin/env python3
-"""A station over clients/python for the kit: the chip on the bench, from registered to shipped (../README.md)."""
+"""A station over python for the kit: the chip on the bench, from registered to shipped (../README.md)."""
 
 import json
 import os

@@ -1,4 +1,4 @@
-"""The client in JavaScript against the program, over the proxies and the simulated chip of clients/python's tests."""
+"""The client in JavaScript against the program, over the proxies and the simulated chip of python's tests."""
 
 from __future__ import annotations
 
@@ -125,7 +125,7 @@ class JavaScript(JavaScriptCase):
         self.assertTrue(all(it.is_done() for it in asked))
 
     def test_javascript_journal(self):
-        """It is as that of clients/python, which knows each request by its digest, and shows no key."""
+        """It is as that of python, which knows each request by its digest, and shows no key."""
         self.begun(2)
         journal = self.folder / "a1.journal"
         driven = self.driven(journal=str(journal))
@@ -353,7 +353,7 @@ class BesidePython(JavaScriptCase):
     site = test_late.Late.site
 
     def test_javascript_leaves_what_it_does_not_know(self):
-        """A request of which a late copy may come, as clients/python keeps it, and a member of a later version. So that
+        """A request of which a late copy may come, as python keeps it, and a member of a later version. So that
         client goes on behind the copy, though this one used the seat in between."""
         self.begun(1)
         wire, told, file = self.proxy(["held"]), [], self.folder / "a1.json"
@@ -376,7 +376,7 @@ class BesidePython(JavaScriptCase):
         self.assertEqual(json.loads(file.read_bytes())["later"], {"a": [1]})
 
     def test_javascript_goes_on_behind_a_refused_request(self):
-        """The request that was refused is of no use behind an accepted one, and clients/python forgets its words."""
+        """The request that was refused is of no use behind an accepted one, and python forgets its words."""
         self.begun(1)
         wire, file = self.proxy(["held"]), self.folder / "a1.json"
         with self.station(wire.url) as station, self.assertRaises(Refused):

@@ -15,7 +15,7 @@ from support import DIGEST, MAC, MAP, ORDER, ROOT, StationCase
 
 from wanekupo.cli.main import main
 
-CLIENT = ROOT / "clients" / "python"
+CLIENT = ROOT / "python"
 OTHER_MAC = "240ac4000002"
 
 

@@ -26,8 +26,8 @@ from support import HOST, LIFE, ROOT, SIMULATED, StationCase, steps
 
 from wanekupo.seat.journal import issued, requests_of
 
-MAP_FILE = ROOT / "maps" / "esp32.toml"
-PYTHONPATH = str(ROOT / "clients" / "python")
+MAP_FILE = ROOT / "python/wanekupo/chips/families/esp32/map.toml"
+PYTHONPATH = str(ROOT / "python")
 SECONDS = 60
 # The states of a socket whose chip has ended.
 ENDED = ("PASS", "FAIL", "LABEL")

@@ -26,7 +26,7 @@ from pathlib import Path
 from simulated_chip import SimulatedChip
 
 ROOT = Path(__file__).resolve().parents[3]
-sys.path.insert(0, str(ROOT / "clients" / "python"))
+sys.path.insert(0, str(ROOT / "python"))
 
 from wanekupo_journal import Journal  # noqa: E402
 from wanekupo_station import (  # noqa: E402
@@ -46,9 +46,9 @@ from wanekupo_station import (  # noqa: E402
 from wanekupo.cli.commands import main  # noqa: E402
 
 PROGRAM = os.environ.get("STATION_PROGRAM", str(ROOT / "crates" / "station" / "out" / "station"))
-SIMULATED = ROOT / "clients" / "python" / "tests" / "simulated_chip.py"
+SIMULATED = ROOT / "python" / "tests" / "client" / "simulated_chip.py"
 SITE = ROOT / "crates" / "station" / "data" / "site.toml"
-MAP = (ROOT / "maps" / "esp32.toml").read_text(encoding="utf-8")
+MAP = (ROOT / "python/wanekupo/chips/families/esp32/map.toml").read_text(encoding="utf-8")
 DIGEST = hashlib.sha256(MAP.encode()).hexdigest()
 
 os.umask(0o077)  # as of a station, whose token nobody else reads

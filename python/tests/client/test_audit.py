@@ -116,7 +116,7 @@ class Audits(BooksCase):
     def test_addresses_within_a_long_span(self):
         """Of a number with four addresses each other record that has one of them is found, not the next one alone."""
         with self.station() as station:
-            station.import_map((ROOT / "maps" / "esp32.toml").read_text(encoding="utf-8"))
+            station.import_map((ROOT / "python/wanekupo/chips/families/esp32/map.toml").read_text(encoding="utf-8"))
             for name, macs in (("o1", 4), ("o2", 2)):
                 quantity = 4 // macs
                 station.make_order(**{**ORDER, "name": name, "prefix": name[1] + "-", "first": 1, "quantity": quantity,

@@ -142,7 +142,7 @@ class Families(BenchCase):
     def shipped(self, name, macs, url=None, killed=lambda starts: 0):
         """Has chips of a family shipped, by as many starts of the bench as it takes, and says how long that took."""
         self.family, begun = name, time.monotonic()
-        file = ROOT / "maps" / f"{name}.toml"
+        file = ROOT / f"python/wanekupo/chips/families/{name}/map.toml"
         recipe = self.recipe(url, top={"map": str(file), "family": name}, wishes=self.wishes_for(name), stop=99)
         robot = Robot(self, macs, lambda starts: Running(recipe, killed=killed(starts)))
         results = robot.work()
@@ -164,7 +164,7 @@ class Families(BenchCase):
         tool = script(self.folder / "tool", f'case "$*" in *scripts*) {other};; esac\nexec {words} "$@"\n')
         self.order()
         sockets = {"a": [tool, "--path-efuse-file", "places/a"]}
-        top = {"map": str(ROOT / "maps" / "esp32s3.toml"), "family": "esp32s3"}
+        top = {"map": str(ROOT / "python/wanekupo/chips/families/esp32s3/map.toml"), "family": "esp32s3"}
         bench = self.run_bench(self.recipe(top=top, wishes=self.wishes_for("esp32s3"), sockets=sockets))
         chip_class("esp32s3")(bytes.fromhex("7cdfa1000001"), str(self.folder / "places" / "a"))
         bench.said("a")
@@ -176,7 +176,7 @@ class Families(BenchCase):
         """Its socket's command prints its name; it is settled at once."""
         command = script(self.folder / "name", "echo 02:00:00:00:00:a1\n")
         self.order()
-        top = {"map": str(ROOT / "maps" / "none.toml"), "family": "none"}
+        top = {"map": str(ROOT / "python/wanekupo/chips/families/none/map.toml"), "family": "none"}
         bench = self.run_bench(self.recipe(top=top, wishes=[], sockets={"left": [command]}))
         bench.said("left")
         self.assertEqual(bench.ended("left"), ("PASS", "passed", f"The chip is shipped as A001: {GREEN}."))

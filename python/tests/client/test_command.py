@@ -195,9 +195,9 @@ class Words(CommandCase):
         self.made_by("make-order o1 acme-ca A --width 3 --first 998 --quantity 2 --yes".split(), {"next": "A998"})
         digests = {}
         for name in ("esp32s3", "none"):
-            text = (ROOT / "maps" / f"{name}.toml").read_bytes()
+            text = (ROOT / f"python/wanekupo/chips/families/{name}/map.toml").read_bytes()
             digests[name] = hashlib.sha256(text).hexdigest()
-            self.made_by(["map", ROOT / "maps" / f"{name}.toml"], {"map": digests[name]})
+            self.made_by(["map", ROOT / f"python/wanekupo/chips/families/{name}/map.toml"], {"map": digests[name]})
         status, _, err = self.ran("register", "o1", digests["esp32s3"], dump, "--family", "esp32")
         self.assertEqual((status, "esp32s3" in err), (2, True), err)
         family, key = ["--family", "esp32s3"], ["--key", f"BLOCK_KEY0={flash_key}:XTS_AES_128_KEY"]

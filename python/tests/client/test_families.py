@@ -39,7 +39,7 @@ needs_espefuse = unittest.skipUnless(TOOL, "the words of espefuse 4 aren't in ES
 
 
 def text_of(name):
-    return (ROOT / "maps" / f"{name}.toml").read_text(encoding="utf-8")
+    return (ROOT / f"python/wanekupo/chips/families/{name}/map.toml").read_text(encoding="utf-8")
 
 
 @functools.cache
@@ -258,7 +258,7 @@ class Lives(StationCase):
         secrets = [it for data in (KEY, KEY[::-1]) for it in (data.hex(), data.hex(" "), data.hex().upper())]
         tool = self.simulated("esp32s3")
         script = (
-            f"import sys; sys.path[:0] = {[str(ROOT / 'clients/python'), str(SIMULATED.parent)]!r}\n"
+            f"import sys; sys.path[:0] = {[str(ROOT / 'python'), str(SIMULATED.parent)]!r}\n"
             "from wanekupo.chips.espefuse import Espefuse, KeyFile\nfrom wanekupo.chips.families import family_of\n"
             "from wanekupo.seat.replies import Work\n"
             f"file = KeyFile({self.file.path!r}, {BURNT_AS!r})\n"

@@ -28,7 +28,7 @@ LOST_MAC = "240ac4000002"
 # What other programs write that the rules and the dashboard ask for.
 PROBED = ("success", "http_status_code", "duration_seconds", "ssl_earliest_cert_expiry")
 OTHERS = {"ALERTS", *(f"probe_{name}" for name in PROBED)}
-OTHERS.add("wanekupo_restart_end_timestamp_seconds")  # of deploy/restart
+OTHERS.add("wanekupo_restart_end_timestamp_seconds")  # of python/bin/station-restart
 STATUS = "Active connections: 2 \nserver accepts handled requests\n 9 9 %d \nReading: 0 Writing: 1 Waiting: 1 \n"
 # A request and its reply, as a journal has them.
 ASKED = {"asked": {"chip": MAC, "nr": 7}, "at": "2026-11-29T06:00:00Z", "digest": "0", "path": "/v1/ship"}
@@ -428,7 +428,7 @@ class Form(unittest.TestCase):
         named = {name for it in asked for name in re.findall(r"\b(?:wanekupo|probe)_\w+|\bALERTS\b", it)}
         self.assertEqual(named - set(METRICS) - OTHERS, set())
         self.assertGreater(len(named), 25)
-        self.assertIn("wanekupo_restart_end_timestamp_seconds", (ROOT / "deploy/restart").read_text(encoding="utf-8"))
+        self.assertIn("wanekupo_restart_end_timestamp_seconds", (ROOT / "python/bin/station-restart").read_text(encoding="utf-8"))
         pages = re.findall(r'page: "\{\{ \$externalLabels.docs \}\}([^#"]+)#([^"]+)"', rules)
         self.assertEqual(len(pages), rules.count("- alert:"))
         for page, section in pages:
@@ -455,7 +455,7 @@ class Form(unittest.TestCase):
     def test_cards(self):
         """A card has nine points at most and then a command, alone, that is there."""
         cards = (ROOT / "docs/how-to/cards.md").read_text(encoding="utf-8").split("\n## ")[1:]
-        tokens = (ROOT / "deploy/token").read_text(encoding="utf-8")
+        tokens = (ROOT / "python/bin/station-token").read_text(encoding="utf-8")
         for card in cards:
             name, _, body = card.partition("\n")
             *points, command = body.strip().split("\n\n")

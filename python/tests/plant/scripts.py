@@ -1,20 +1,17 @@
-"""Loads deploy's scripts whose names have no ending, which no import finds."""
+"""The modules of commands, by the names that tests have for them."""
 
-import importlib.util
-import sys
-from importlib.machinery import SourceFileLoader
+import importlib
 from types import ModuleType
 
-from conftest import DEPLOY
-
-sys.dont_write_bytecode = True
+MODULES = {
+    "token": "wanekupo.plant.token",
+    "site": "wanekupo.plant.site.command",
+    "backup": "wanekupo.plant.backup.command",
+    "restore": "wanekupo.plant.restore.command",
+    "restart": "wanekupo.plant.restart",
+}
 
 
 def script(name: str) -> ModuleType:
-    """The module that a script is, as `token` or `standby/takeover`. Its own `main` isn't run."""
-    title = "script_" + name.replace("/", "_").replace("-", "_")
-    spec = importlib.util.spec_from_loader(title, SourceFileLoader(title, str(DEPLOY / name)))
-    assert spec and spec.loader
-    sys.modules[title] = module = importlib.util.module_from_spec(spec)
-    spec.loader.exec_module(module)
-    return module
+    """The module of a command, as `token` or `standby/takeover`."""
+    return importlib.import_module(MODULES.get(name) or "wanekupo." + name.replace("/", ".").replace("-", "_"))

@@ -8,6 +8,7 @@ import subprocess
 from types import SimpleNamespace
 
 import pytest
+from conftest import TOP
 from wanekupo.plant.site import apply as applying
 from wanekupo.plant.site.apply import Stopped, apply
 from wanekupo.plant.site.plan import PLACED, PREPARED, STOPPING, Plan, Wish, keep_plan, read_plan
@@ -22,7 +23,7 @@ class FakePlace:
 
     def __init__(self, folder):
         self.site, self.next, self.plan = folder / "site.toml", folder / "site.next.toml", folder / "site.growth"
-        self.tokens, self.backups, self.parts = folder / "tokens.conf", folder / "backups", folder / "parts"
+        self.tokens, self.backups = folder / "tokens.conf", folder / "backups"
         self.db = folder / "books.db"
         self.program = "station"
         self.args = argparse.Namespace(stop="STOP it", start="START it", restarts="RESTARTS it", wait=9.0, port=880,
@@ -103,7 +104,7 @@ def test_the_order_of_all_steps(place, monkeypatch):
     plan.wishes = [Wish("a1", "acme"), Wish("b1", "bolt")]
     apply(place, plan)
     done = [it for it in heads(place) if it != ("ROOT", "RESTARTS")]
-    assert done[:6] == [("PLAN", STOPPING), ("SERVICE", "STOP"), ("USER", "backup"), ("PLAN", PLACED),
+    assert done[:6] == [("PLAN", STOPPING), ("SERVICE", "STOP"), ("USER", "station-backup"), ("PLAN", PLACED),
                             ("ROOT", "replace"), ("SYNC", place.site.parent.name)]  # fmt: skip
     assert done[6:9] == [("SERVICE", "START"), ("GIVE", "a1"), ("GIVE", "b1")]
     assert place.site.read_bytes() == NEW.encode() and not place.next.exists() and not place.plan.exists()
@@ -113,7 +114,7 @@ def test_the_order_of_all_steps(place, monkeypatch):
 def test_the_backup_is_made_as_the_user_of_the_old_text(place):
     plan = Plan(is_tried=True)
     applying.stop_and_back_up(place, plan)
-    (call,) = [it for it in place.calls if it[:2] == ("USER", str(place.parts / "backup"))]
+    (call,) = [it for it in place.calls if it[:2] == ("USER", str(TOP / "python/bin/station-backup"))]
     assert list(call[2:]) == ["--program", "station", "--site", str(place.site), "--db", str(place.db), plan.backup]
     assert os.path.dirname(plan.backup) == str(place.backups) and "before-" in plan.backup
 
@@ -130,7 +131,7 @@ def refuse_trial(*_):
     raise TokenError(1, "it refuses")
 
 
-@pytest.mark.parametrize("fails", ["STOP", "backup", "trial"])
+@pytest.mark.parametrize("fails", ["STOP", "station-backup", "trial"])
 def test_what_fails_before_the_new_text_leaves_the_server_with_the_old_one(place, monkeypatch, fails):
     place.fails = {fails}
     if fails == "trial":
@@ -141,7 +142,7 @@ def test_what_fails_before_the_new_text_leaves_the_server_with_the_old_one(place
     assert error.value.status == 1 and place.site.read_bytes() == OLD.encode() and place.next.exists()
     assert heads(place)[-2:] == [("SERVICE", "START"), ("PLAN", PREPARED)]
     assert read_plan(place.plan).backup == "" and not (place.site.parent / "site.toml.new").exists()
-    assert (("USER", "backup") in heads(place)) == (fails != "STOP"), "no backup is made of a server that runs"
+    assert (("USER", "station-backup") in heads(place)) == (fails != "STOP"), "no backup is made of a server that runs"
 
 
 def test_the_backup_of_a_run_that_was_cut_goes(place):

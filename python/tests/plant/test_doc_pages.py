@@ -4,7 +4,9 @@ import re
 import sys
 from pathlib import Path
 
-sys.path.insert(0, str(Path(__file__).resolve().parents[1]))
+from conftest import TOP
+
+sys.path.insert(0, str(TOP / "tools"))
 
 import doc_pages  # noqa: E402
 

@@ -15,7 +15,7 @@ PAST = f"b1:1 {MARK} all 2026-11-28T23:59"
 
 @pytest.fixture(autouse=True)
 def clock(monkeypatch):
-    monkeypatch.setattr("token_file.now", lambda: "2026-11-29T10:00")
+    monkeypatch.setattr("wanekupo.common.token_file.now", lambda: "2026-11-29T10:00")
 
 
 def listed(tmp_path):

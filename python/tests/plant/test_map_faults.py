@@ -1,7 +1,7 @@
 """The faults of a fuse map, by the table of docs/reference/files.md: the number, the line and the member of each."""
 
 import pytest
-from conftest import DEPLOY
+from conftest import FAMILIES
 from wanekupo.plant.site.map_faults import map_faults
 
 MAP = """name = "m"
@@ -26,7 +26,7 @@ def faults_of(text):
 @pytest.mark.parametrize("text", [
     MAP, MAP.replace('coding = "CODING"\n', ""), MAP.replace("key = true", "key = false"),
     MAP.replace("read = 3", "read = 3, more = 1"), MAP.replace('"CODING", block', '"CODING", key = false, block'),
-    *[(DEPLOY.parent / f"maps/{name}.toml").read_text() for name in ("esp32", "esp32s3")],
+    *[(FAMILIES / name / "map.toml").read_text() for name in ("esp32", "esp32s3")],
 ])  # fmt: skip
 def test_maps(text):
     assert faults_of(text) == []

@@ -8,7 +8,7 @@ from types import SimpleNamespace
 
 import pytest
 from wanekupo.plant import trial_copy as store_copy
-from conftest import DEPLOY
+from conftest import TOP
 from wanekupo.plant.site import place as places
 from wanekupo.plant.site.place import Place, text_in, written
 from wanekupo.plant.trial_copy import Backup, NoCopyError, copy_files, copy_running
@@ -55,7 +55,7 @@ def test_the_line_of_what_is_no_text(tmp_path):
 
 def test_names(place, tmp_path):
     assert (place.next, place.plan) == (tmp_path / "site.next.toml", tmp_path / "site.growth")
-    assert place.token_words() == [str(DEPLOY / "token"), "--file", "/t/tokens.conf", "--no-reload", "--wait", "1 2"]
+    assert place.token_words() == [str(TOP / "python/bin/station-token"), "--file", "/t/tokens.conf", "--no-reload", "--wait", "1 2"]
 
 
 @pytest.mark.parametrize("found, has", [(None, False), ("/bin/P", True)])
@@ -217,7 +217,7 @@ def test_copy_running(monkeypatch, capsys, status, err, kind, told):
             copy_running(*words)
     else:
         assert copy_running(*words) == Path("/room/store/books.db") and capsys.readouterr().err == err
-    assert calls == [[str(DEPLOY / "backup"), "--trial", "--db", "/d/books.db", "--into", "/b",
+    assert calls == [[str(TOP / "python/bin/station-backup"), "--trial", "--db", "/d/books.db", "--into", "/b",
         *(["--snapshot", kind] if kind else []),
                       "/room/store"]]  # fmt: skip
 

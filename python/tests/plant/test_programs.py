@@ -1,34 +1,27 @@
-"""What each program of deploy answers to --help, and that it leaves no bytecode beside itself: root runs it there."""
+"""What each command of the project answers to --help, and that it leaves no bytecode beside itself: root runs it there."""
 
 import os
 import shutil
 import subprocess
-import sys
 from pathlib import Path
 
 import pytest
-from conftest import DEPLOY
+from conftest import TOP
 
-PROGRAMS = sorted(
-    path
-    for path in DEPLOY.rglob("*")
-    if path.is_file() and os.access(path, os.X_OK) and "python3" in path.read_text("utf-8").partition("\n")[0]
-)
+COMMANDS = sorted(path.name for path in (TOP / "python/bin").iterdir())
 
 
-def test_there_are_programs():
-    names = {path.name for path in PROGRAMS}
-    assert {"token", "backup", "restore", "site", "takeover", "stepdown", "other-is-off", "fence-peer"} <= names
+def test_there_are_commands():
+    tools = {f"station-{name}" for name in ("token", "site", "backup", "restore", "restart", "standby")}
+    assert set(COMMANDS) == {"wanekupo", *tools}
 
 
-@pytest.mark.parametrize("program", PROGRAMS, ids=lambda path: str(path.relative_to(DEPLOY)))
-def test_help_leaves_no_bytecode(program: Path, tmp_path: Path) -> None:
-    for folder in ("deploy", "clients/python/wanekupo"):
-        left = shutil.ignore_patterns("__pycache__", "tests")
-        shutil.copytree(DEPLOY.parent / folder, tmp_path / folder, ignore=left)
-    its = tmp_path / program.relative_to(DEPLOY.parent)
+@pytest.mark.parametrize("name", COMMANDS)
+def test_help_leaves_no_bytecode(name: str, tmp_path: Path) -> None:
+    left = shutil.ignore_patterns("__pycache__", "tests")
+    shutil.copytree(TOP / "python", tmp_path / "python", ignore=left)
     environment = {name: text for name, text in os.environ.items() if name != "PYTHONDONTWRITEBYTECODE"}
-    words = [sys.executable, str(its), "--help"]
+    words = [str(tmp_path / "python/bin" / name), "--help"]
     done = subprocess.run(words, env=environment, stdin=subprocess.DEVNULL, capture_output=True, text=True)
     assert (done.returncode, done.stderr) == (0, "")
     assert len(done.stdout) > 40

@@ -7,8 +7,9 @@ import subprocess
 from pathlib import Path
 
 import pytest
+from conftest import TOP
 
-PAGE = Path(__file__).parents[2] / "docs/how-to/back-up-and-restore.md"
+PAGE = TOP / "docs/how-to/back-up-and-restore.md"
 
 
 @pytest.fixture

@@ -11,6 +11,7 @@ from contextlib import closing
 from pathlib import Path
 
 import pytest
+from conftest import FAMILIES
 from wanekupo.plant.restore import lost_store as restore_look
 from wanekupo.plant.restore.journals import Source, take_journals
 from wanekupo.plant.restore.plan import Customer, RestoreError, asked_of, named, requests_of_seats
@@ -30,7 +31,7 @@ from wanekupo.common.moments import moment_of
 from wanekupo.cli.witness import acknowledged
 
 AT, MARK = "2026-11-28T00:00:00Z", "@@"
-MAP = (Path(__file__).parents[2] / "maps/none.toml").read_text(encoding="utf-8")
+MAP = (FAMILIES / "none/map.toml").read_text(encoding="utf-8")
 DIGEST, KEY = hashlib.sha256(MAP.encode()).hexdigest(), hashlib.sha256(b"\0").hexdigest()
 CHIP = {"chip": "c1"}
 

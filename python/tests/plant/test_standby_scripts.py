@@ -1,15 +1,15 @@
 """fence-peer, other-is-off, stepdown and is-mounted: what each says and does, in which order, and what it refuses."""
 
-import runpy
+import contextlib
 import sys
 
-from wanekupo.standby import half
 import pytest
-from conftest import DEPLOY
+from wanekupo.standby import command, half, is_mounted, takeover
+from wanekupo.standby import fence_peer as fence
+from wanekupo.standby import other_is_off as other
+from wanekupo.standby import stepdown as down
 from wanekupo.standby.half import Refused, Settings, State
-from scripts import script
 
-fence, other, down = (script(f"standby/{name}") for name in ("fence-peer", "other-is-off", "stepdown"))
 PRIMARY = State("WFConnection", "Primary", "Unknown", "UpToDate", "DUnknown", True)
 
 
@@ -256,10 +256,10 @@ def test_stepdown_stops_at_what_it_cannot_do(monkeypatch):
 @pytest.mark.parametrize("words, is_alone", [([], False), (["--alone"], True)])
 def test_stepdown_words(monkeypatch, words, is_alone):
     calls = []
-    monkeypatch.setattr(sys, "argv", ["stepdown", *words])
     monkeypatch.setattr(down, "step_down", lambda it: calls.append(it) or 0)
-    monkeypatch.setattr(down, "alone_at_work", lambda: pytest.MonkeyPatch.context())
-    assert down.main() == 0 and calls == [is_alone]
+    monkeypatch.setattr(half, "alone_at_work", contextlib.nullcontext)
+    monkeypatch.setattr(half.os, "geteuid", lambda: 0)
+    assert down.main(words) == 0 and calls == [is_alone]
 
 
 # ---- is-mounted
@@ -272,34 +272,39 @@ def test_stepdown_words(monkeypatch, words, is_alone):
 def test_the_server_starts_over_its_volume_alone(monkeypatch, capsys, answer, status, told):
     """systemd starts the unit again behind a status 1, and not behind a 2."""
 
-    def is_mounted(it):
+    def answered(it):
         if isinstance(answer, Exception):
             raise answer
         return answer
 
-    monkeypatch.setattr(half.Half, "is_mounted", is_mounted)
-    monkeypatch.setattr(half, "read_settings", Settings)
-    with pytest.raises(SystemExit) as found:
-        runpy.run_path(str(DEPLOY / "standby/is-mounted"), run_name="__main__")
-    assert found.value.code == status and told in capsys.readouterr().err
+    monkeypatch.setattr(half.Half, "is_mounted", answered)
+    monkeypatch.setattr(is_mounted, "read_settings", Settings)
+    assert is_mounted.main([]) == status and told in capsys.readouterr().err
 
 
 # ---- from their first line to their last
 
 
 def test_fence_peer_that_is_refused_says_nothing_is_off(monkeypatch, capsys):
-    monkeypatch.setattr(half, "read_settings", lambda: (_ for _ in ()).throw(Refused("Why.")))
-    with pytest.raises(SystemExit) as found:
-        runpy.run_path(str(DEPLOY / "standby/fence-peer"), run_name="__main__")
-    assert found.value.code == 1 and capsys.readouterr().err == "fence-peer: Why.\n"
+    monkeypatch.setattr(fence, "read_settings", lambda: (_ for _ in ()).throw(Refused("Why.")))
+    assert fence.main([]) == 1 and capsys.readouterr().err == "fence-peer: Why.\n"
 
 
-@pytest.mark.parametrize("name", ["takeover", "stepdown", "other-is-off"])
-def test_a_script_is_ended_by_what_it_was_called(monkeypatch, name):
+@pytest.mark.parametrize("name, words, is_alone", [
+    ("takeover", [], True), ("look", [], True), ("stepdown", [], True), ("other-is-off", ["there"], False),
+])  # fmt: skip
+def test_a_command_is_ended_by_what_it_was_called(monkeypatch, name, words, is_alone):
     calls = []
-    monkeypatch.setattr(half, "ended", lambda title, call: calls.append((title, call.__name__)))
-    runpy.run_path(str(DEPLOY / "standby" / name), run_name="__main__")
-    assert calls == [(name, "main")]
+    for module in (takeover, down, other):
+        monkeypatch.setattr(module, "ended", lambda title, call, alone=False: calls.append((title, alone)) or 5)
+    monkeypatch.setattr(sys, "argv", ["station-standby", name, *words])
+    assert command.main() == 5
+    assert calls == [("takeover" if name == "look" else name, is_alone)]
+
+
+def test_a_command_that_there_is_not(monkeypatch, capsys):
+    monkeypatch.setattr(sys, "argv", ["station-standby", "go"])
+    assert command.main() == 2 and "takeover" in capsys.readouterr().err
 
 
 def test_the_address_is_taken_again_where_two_took_it_at_once(monkeypatch):
@@ -310,9 +315,8 @@ def test_the_address_is_taken_again_where_two_took_it_at_once(monkeypatch):
 
 
 def test_the_name_is_the_words(monkeypatch):
-    monkeypatch.setattr(sys, "argv", ["other-is-off", "there"])
+    monkeypatch.setattr(half.os, "geteuid", lambda: 0)
     monkeypatch.setattr(other, "say", lambda name: 7 if name == "there" else 0)
-    assert other.main() == 7
-    monkeypatch.setattr(sys, "argv", ["other-is-off"])
+    assert other.main(["there"]) == 7
     with pytest.raises(SystemExit):
-        other.main()
+        other.main([])

@@ -9,8 +9,9 @@ import subprocess
 from pathlib import Path
 
 import pytest
+from conftest import DEPLOY
 
-CONFIGURATION = Path(__file__).resolve().parent.parent / "ca" / "stations.cnf"
+CONFIGURATION = DEPLOY / "ca" / "stations.cnf"
 ASKING = """[req]
 distinguished_name = d
 req_extensions = e

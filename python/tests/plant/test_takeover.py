@@ -74,7 +74,7 @@ def put_in(monkeypatch):
         for name in ("forget_alone", "give_word", "take_word"):
             monkeypatch.setattr(takeover, name, noted(name))
         monkeypatch.setattr(takeover, "fenced_by_command", noted("fence", fenced))
-        monkeypatch.setattr(takeover.needed, "test", noted("needed"))
+        monkeypatch.setattr(takeover.needs, "test", noted("needs"))
         monkeypatch.setattr(takeover.witness, "gathered",
             lambda *words: own.calls.append(("gathered", *words)) or {"a1": 1})
         monkeypatch.setattr(takeover.witness, "compare", noted("compare"))
@@ -240,7 +240,7 @@ SERVED = ["mount", ("start", 900), ("take_address", 60), "here", "leave"]
 def test_behind_a_stepdown(put_in):
     own = put_in(FakeHalf(BOTH))
     assert takeover.take_over(words()) == 0
-    assert own.calls == ["forget_alone", "needed", ("gathered", [], (), None), "look", "living",
+    assert own.calls == ["forget_alone", "needs", ("gathered", [], (), None), "look", "living",
         "drbdadm primary station",
                          "primary", "take_word", "forget_alone", *SERVED]  # fmt: skip
 
@@ -249,19 +249,19 @@ def test_where_the_other_machine_is_dead(put_in):
     """It is known to be off before this half is looked at, and before a witness counts."""
     own = put_in(FakeHalf(ALONE))
     assert takeover.take_over(words(other_is_off="there", witness=["f"])) == 0
-    assert own.calls == ["needed", "fence", ("since", "42"), ("gathered", ["f"], (), SINCE), "look", "compare",
+    assert own.calls == ["needs", "fence", ("since", "42"), ("gathered", ["f"], (), SINCE), "look", "compare",
         "living",
                          "give_word", "drbdadm primary station", "primary", "take_word", "forget_alone",
                          *SERVED]  # fmt: skip
 
 
-@pytest.mark.parametrize("refuses", ["needed", "look", "compare", "living"])
+@pytest.mark.parametrize("refuses", ["needs", "look", "compare", "living"])
 def test_a_refusal_changes_nothing(put_in, refuses):
     own = put_in(FakeHalf(ALONE), fenced=True, refuses=refuses)
     with pytest.raises(Refused):
         takeover.take_over(words(witness=["f"]))
     assert own.calls[-1] == refuses and "drbdadm primary station" not in own.calls and "give_word" not in own.calls
-    assert refuses != "needed" or own.calls == ["needed"], "no machine is switched off for a resource that is unfit"
+    assert refuses != "needs" or own.calls == ["needs"], "no machine is switched off for a resource that is unfit"
 
 
 @pytest.mark.parametrize("now, told", [
@@ -295,18 +295,17 @@ def test_words(monkeypatch, text, called, found):
         locks.append("locked")
         yield
 
-    monkeypatch.setattr(sys, "argv", ["takeover", *text])
-    monkeypatch.setattr(takeover, "alone_at_work", alone)
+    monkeypatch.setattr(half, "alone_at_work", alone)
+    monkeypatch.setattr(half.os, "geteuid", lambda: 0)
     for name in ("take_over", "looked"):
         monkeypatch.setattr(takeover, name, lambda args, name=name: calls.append((name, args)) or 0)
-    assert takeover.main() == 0 and calls == [(called, found)] and locks == ["locked"]
+    assert takeover.main(text) == 0 and calls == [(called, found)] and locks == ["locked"]
 
 
-def test_there_is_no_option_that_overrules_it(monkeypatch, capsys):
-    monkeypatch.setattr(sys, "argv", ["takeover", "--force"])
+def test_there_is_no_option_that_overrules_it():
     with pytest.raises(SystemExit) as error:
-        takeover.main()
-    assert error.value.code == 2 and half.Refused
+        takeover.main(["--force"])
+    assert error.value.code == 2
 
 
 # ---- the list of tokens beside the store

@@ -6,10 +6,11 @@ from dataclasses import replace
 from pathlib import Path
 
 import pytest
+from conftest import DEPLOY
 from wanekupo.common.token_file import PREFIX, Outer, Seat, TokenError, Tokens, is_past, later_than, living, mark_of, read, text_of
 from wanekupo.common.token_file import tokens_of as parsed
 
-CONF = (Path(__file__).resolve().parents[1] / "nginx.conf").read_text(encoding="utf-8")
+CONF = (DEPLOY / "nginx.conf").read_text(encoding="utf-8")
 MAP = re.compile(r"^ *map (\"[^\"]*\"|\S+) (\$\w+) \{\n(.*?)^ *\}", re.MULTILINE | re.DOTALL)
 ROW = re.compile(r'^ *("(?:[^"\\]|\\.)*"|[^\s";]+) +("(?:[^"\\]|\\.)*"|[^\s";]+);$', re.MULTILINE)
 NEVER, END = "2026-11-29T10:00:00+01:00", "2026-12-24T23:59"
@@ -167,13 +168,13 @@ def test_the_file_is_read_again_as_it_was():
 
 
 def test_which_tokens_live(monkeypatch):
-    monkeypatch.setattr("token_file.now", lambda: "2026-12-24T23:59")
+    monkeypatch.setattr("wanekupo.common.token_file.now", lambda: "2026-12-24T23:59")
     marks = {it.number: it.mark for it in sample().outers}
     assert living(sample()) == sorted([
         f"a1:1 {marks[1]} all -", f"a1:2 {marks[2]} look -", f"b1:3 {marks[3]} all {END}", f"b1:5 {marks[5]} all -",
         f"b1:6 {marks[6]} look -", f"a1:8 {marks[8]} all -", f"b1:10 {marks[10]} look {END}",
     ])  # fmt: skip
-    monkeypatch.setattr("token_file.now", lambda: "2026-12-25T00:00")
+    monkeypatch.setattr("wanekupo.common.token_file.now", lambda: "2026-12-25T00:00")
     assert [it.split()[0] for it in living(sample())] == ["a1:1", "a1:2", "a1:8", "b1:5", "b1:6"]
     assert [is_past(it) for it in ("", END, "2026-12-25T00:00")] == [False, True, False]
     assert not any(PREFIX in it or "inner" in it for it in living(sample()))

@@ -7,6 +7,7 @@ from pathlib import Path
 from types import SimpleNamespace
 
 import pytest
+from conftest import TOP
 from wanekupo.standby import witness
 from wanekupo.standby.half import Refused
 from wanekupo.standby.look import SEAT, numbers_of
@@ -166,7 +167,7 @@ def test_a_table_that_is_none(tmp_path, monkeypatch, user, mode, text, told):
 
 
 def test_seats_that_only_look_as_the_page_has_them():
-    page = (Path(__file__).resolve().parents[2] / "docs/how-to/standby.md").read_text(encoding="utf-8")
+    page = (TOP / "docs/how-to/standby.md").read_text(encoding="utf-8")
     (command,) = re.findall(r'`"(date -u [^"]*)"`', page)
     found = gathered([], [tomllib.loads(f'it = "{command}"')["it"]], NOW - timedelta(seconds=1))
     assert {seat: reply.number for seat, reply in found.items()} == {"health": 0, "restore-acme": 0}

@@ -15,12 +15,9 @@ from typing import Any, Callable, Mapping, Optional, Sequence
 
 from wanekupo.chips.chip import bit, rlock, value, wlock
 from wanekupo.common.errors import StationError
-from wanekupo.chips.families import names
+from wanekupo.chips.families import map_of_family, names
 from wanekupo.bench.words import FOLDER as WORDS
 from wanekupo.bench.words import TYPED
-
-# Where maps are beside the recipe's own folder: as the package has them, and as the repository has them.
-MAPS = (Path("/usr/share/wanekupo/maps"), Path(__file__).resolve().parents[3] / "maps")
 
 NAME = re.compile(r"[A-Za-z0-9._-]{1,32}")
 HOOKS = ("before_identity", "before_ship", "label")
@@ -244,10 +241,9 @@ def _sockets(table: Mapping[str, Any], here: Path) -> dict[str, tuple[str, ...]]
 
 
 def _map(name: str, here: Path) -> str:
-    places = [here, *(it for it in MAPS if it.is_dir())]
-    found = next((it / name for it in places if (it / name).is_file()), None)
+    found = here / name if (here / name).is_file() else map_of_family(name)
     if not found:
-        raise ValueError(f"there is no map {name} in {' or '.join(map(str, places))}")
+        raise ValueError(f"there is no map {name} in {here}, and no family has one of this name")
     return found.read_text(encoding="utf-8")
 
 

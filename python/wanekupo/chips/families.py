@@ -1,5 +1,6 @@
 """Chip families as data: which blocks a chip has, which of them the server is told, where its factory MAC lies, and how
-its keys are burnt. Each is a file of the folder `families`, by the name that espefuse's --chip has for it."""
+its keys are burnt. Each is a folder of `families`, by the name that espefuse's --chip has for it: `family.toml` is the
+family, and `map.toml` the fuse map that comes with it."""
 
 from __future__ import annotations
 
@@ -25,7 +26,7 @@ FAILED = re.compile(r"^Error\(s\) in BLOCK(\d+) \[ERRORS:\d+ FAIL:1\]", re.MULTI
 
 
 class UnknownFamily(StationError):
-    """No file of the folder `families` has this name."""
+    """No folder of `families` has this name."""
 
 
 class BadDump(StationError):
@@ -81,7 +82,13 @@ class Family:
 
 def names() -> list[str]:
     """The families that there are."""
-    return sorted(path.stem for path in FOLDER.glob("*.toml"))
+    return sorted(path.parent.name for path in FOLDER.glob("*/family.toml"))
+
+
+def map_of_family(name: str) -> Optional[Path]:
+    """The fuse map that comes with the family of `NAME.toml`, or None where no family has this name."""
+    found = FOLDER / name.removesuffix(".toml") / "map.toml"
+    return found if name.endswith(".toml") and "/" not in name and found.is_file() else None
 
 
 @functools.cache
@@ -89,7 +96,7 @@ def family_of(name: str) -> Family:
     if name not in names():
         known = ", ".join(names())
         raise UnknownFamily(f"{name} is no family of chips that is known here", f"There are {known}.")
-    data = tomllib.loads((FOLDER / f"{name}.toml").read_text(encoding="utf-8"))
+    data = tomllib.loads((FOLDER / name / "family.toml").read_text(encoding="utf-8"))
     return _family(data)
 
 

@@ -1,0 +1,1 @@
+"""The command `wanekupo`: its table of commands."""

@@ -14,11 +14,10 @@ from wanekupo.seat.command import Command, text_of, words
 from wanekupo.seat.settings import Settings, looking_station_of, station_of
 from wanekupo.common.errors import BadKey, BadSettings, Refused, StationError
 from wanekupo.chips.espefuse import TOOLS, Espefuse, KeyFile, NoEspefuse, NoFuses, find_tool, typed_lines, wishes_of
-from wanekupo.chips.families import Blocks, dump_of, family_of, names
+from wanekupo.chips.families import Blocks, dump_of, family_of, map_of_family, names
 from wanekupo.seat.forms import TIME
 from wanekupo.seat.keys import digest_of, keep_csr, public_key_of
 from wanekupo.common.printing import Progress, say, say_json, warn
-from wanekupo.bench.recipe import MAPS
 from wanekupo.seat.replies import identity_of
 from wanekupo.seat.rows import rows_of
 from wanekupo.seat.station import WRONG_STATE, Station
@@ -96,10 +95,8 @@ def make_order(station: Station, args: argparse.Namespace) -> None:
 
 def map_text_of(word: str) -> str:
     """The text of a map: of a file, of standard input, or of a map that comes with the program, by its name."""
-    places = [folder / word for folder in (Path(), *MAPS)]
-    named = "/" not in word and word != "-"
-    found = next((it for it in places if it.is_file()), None) if named else None
-    return text_of(str(found or word))
+    is_named = word != "-" and not Path(word).is_file()
+    return text_of(str((map_of_family(word) if is_named else None) or word))
 
 
 def import_rows(station: Station, args: argparse.Namespace) -> Any:

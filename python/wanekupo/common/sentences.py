@@ -86,7 +86,7 @@ OPENERS = frozenset(
     "these this two wanekupo what without".split()
 )
 
-OURS = os.path.dirname(os.path.abspath(__file__))
+OURS = os.path.dirname(os.path.dirname(os.path.abspath(__file__)))
 
 
 def sentence_of(error: BaseException) -> str:

@@ -1,4 +1,4 @@
-"""One way for root to do the store user's work. deploy/site, restart, restore, backup and standby go by it.
+"""One way for root to do the store user's work. python/bin/station-site, restart, restore, backup and standby go by it.
 
 Whoever has the rights of the store's user may put anything into the store's folder and the backups', rename what is
 there, and hold each process of that user's. So nothing that he writes, names, prints or holds moves root:

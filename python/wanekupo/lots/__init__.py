@@ -1,0 +1,1 @@
+"""What goes with the devices: certificates, lists of lots, and a CA's folder."""

@@ -1,0 +1,1 @@
+"""What a plant watches, as a file for Prometheus."""

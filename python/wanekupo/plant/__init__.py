@@ -1,0 +1,1 @@
+"""The tools of who runs the server: tokens, growths of a site, backups, restores and restarts."""

@@ -1,9 +1,8 @@
-#!/usr/bin/env python3
 """Restarts the server at a moment that a plant chose, if something asks for it, and waits until it answers again.
 
-    restart                    asks, and restarts only if it has to be
-    restart --check            asks, says what it would do and how long the server would be away, and changes nothing
-    restart --now              restarts also where nothing asks for it
+    station-restart          asks, and restarts only if it has to be
+    station-restart --check  asks, says what it would do and how long the server would be away, and changes nothing
+    station-restart --now    restarts also where nothing asks for it
 
 station-restart.timer runs it in a break. What may ask for a restart, each with an option for another number:
   --connections 200000         fewer connections than these are left of the server's --connections
@@ -36,10 +35,9 @@ import time
 from dataclasses import dataclass
 from pathlib import Path
 
-sys.dont_write_bytecode = True
 
-from wanekupo.plant.trial_copy import Backup, copy_files, copy_running, newest_backup  # noqa: E402
-from wanekupo.common.store_user import LONGEST, ROOMS, STOPS, Store, UserError, clear_rooms, read_small, room, shown  # noqa: E402
+from wanekupo.plant.trial_copy import Backup, copy_files, copy_running, newest_backup
+from wanekupo.common.store_user import LONGEST, ROOMS, STOPS, Store, UserError, clear_rooms, read_small, room, shown
 
 # Bytes a second that a start reads, at the least (docs/reference/program.md). How old metrics may be, and how far ahead
 # their clock, in seconds.
@@ -275,7 +273,3 @@ def main() -> int:
     except (NoRestartError, UserError, OSError) as error:
         print(f"restart: {error}", file=sys.stderr)
         return 1
-
-
-if __name__ == "__main__":
-    sys.exit(main())

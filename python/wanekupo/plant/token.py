@@ -1,18 +1,18 @@
-#!/usr/bin/env python3
 """The outer tokens of stations and people, which nginx takes in the place of their seats' own: makes, ends, lists them.
 
-    token seat SEAT --customer C             a new seat: makes its inner token, prints its lines of the site file
-    token seat SEAT --known FILE             one that the site file has: takes its token over from FILE
-    token add SEAT                           an outer token for all that the seat may; it is printed once
-    token add SEAT --look                    one that may only look
-    token add SEAT --until 2026-12-24        one that ends with that day
-    token add SEAT --certificate 'CN=pc7'    a certificate's subject in the place of a token
-    token revoke NAME                        ends one (`a1:2`), or all of a seat (`a1`), now
-    token rotate NAME                        another one in its place; the old one ends now, or after `--grace 8h`
-    token list                               who has which; `--all` with those that have ended
-    token inner SEAT --to FILE               the seat's own token into a file, for a restore on this machine
-    token check                              whether the site file has the seats of the tokens' file, and the other way
-    token write                              the file anew, of its own records, as after an upgrade
+    station-token seat SEAT --customer C           a new seat: makes its inner token, prints its lines of the site file
+    station-token seat SEAT --known FILE           one that the site file has: takes its token over from FILE
+    station-token add SEAT                         an outer token for all that the seat may; it is printed once
+    station-token add SEAT --look                  one that may only look
+    station-token add SEAT --until 2026-12-24      one that ends with that day
+    station-token add SEAT --certificate 'CN=pc7'  a certificate's subject in the place of a token
+    station-token revoke NAME                      ends one (`a1:2`), or all of a seat (`a1`), now
+    station-token rotate NAME                      another one in its place; the old one ends now, or after `--grace 8h`
+    station-token list                             who has which; `--all` with those that have ended
+    station-token inner SEAT --to FILE             the seat's own token into a file, for a restore on this machine
+    station-token check                            whether the site file has the seats of the tokens' file, and the
+                                                   other way
+    station-token write                            the file anew, of its own records, as after an upgrade
 
 SEAT is the name of a seat of the site file, or @manager; managers of several sites have other names with an @. An inner
 token never leaves this machine, and is 401 from outside. Each change writes the file anew, has nginx test it (`nginx
@@ -39,20 +39,17 @@ from dataclasses import dataclass, replace
 from pathlib import Path
 from typing import Optional
 
-sys.dont_write_bytecode = True
-sys.path.insert(1, str(Path(__file__).resolve().parent / "standby"))
 
-from wanekupo.standby import living  # noqa: E402
-from wanekupo.standby.half import SETTINGS, Half, Refused, read_settings  # noqa: E402
-from wanekupo.common.token_file import (  # noqa: E402
+from wanekupo.standby import living
+from wanekupo.standby.half import SETTINGS, Half, Refused, read_settings
+from wanekupo.common.token_file import (
     HEALTH, LAST, MINUTE, PREFIX, Outer, Seat, TokenError, Tokens, alone, inner_of, is_past, mark_of, now, put, read,
     text_of, tokens_of,
 )  # fmt: skip
-from wanekupo.common.site_file import digest_of, digests_of, grown, is_in, lines_of  # noqa: E402
-from wanekupo.common.whole_file import make_file, put_whole  # noqa: E402
+from wanekupo.common.site_file import digest_of, digests_of, grown, is_in, lines_of
+from wanekupo.common.whole_file import make_file, put_whole
 
-# As which it was called: `token`, or `station-token` where it is installed.
-NAMED = Path(sys.argv[0]).name
+NAMED = "station-token"
 
 FILE, SITE, PID = "/etc/station/tokens.conf", "/etc/station/site.toml", "/run/nginx.pid"
 NAME = r"[A-Za-z0-9._-]{1,32}"
@@ -466,7 +463,3 @@ def main() -> int:
         print(f"{NAMED}: {error}", file=sys.stderr)
         return 1
     return 0
-
-
-if __name__ == "__main__":
-    sys.exit(main())

@@ -10,6 +10,7 @@ import sys
 from dataclasses import dataclass
 from pathlib import Path
 
+from wanekupo.common.process import own_command
 from wanekupo.common.store_user import StoreUser, UserError, shown
 
 FILES = ("books.db", "books.db-wal")
@@ -73,10 +74,9 @@ def copy_files(user: StoreUser, db: Path, made: Path) -> Path:
 
 
 def copy_running(db: Path, backups: Path, snapshot: str, made: Path) -> Path:
-    """A copy of the store as it is now, though its server runs: by a snapshot, as `backup` beside this makes it."""
-    tool = Path(__file__).resolve().with_name("backup")
+    """A copy of the store as it is now, though its server runs: by a snapshot, as `station-backup` makes it."""
     kind = ["--snapshot", snapshot] if snapshot else []
-    words = [str(tool), "--trial", "--db", str(db), "--into", str(backups), *kind, str(made)]
+    words = [own_command("station-backup"), "--trial", "--db", str(db), "--into", str(backups), *kind, str(made)]
     done = subprocess.run(
         words, stdin=subprocess.DEVNULL, capture_output=True, text=True, errors="replace", check=False
     )  # fmt: skip

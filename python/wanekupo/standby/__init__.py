@@ -1,0 +1,1 @@
+"""A store on two machines: takeover, stepdown, and DRBD's question."""

@@ -1,4 +1,3 @@
-#!/usr/bin/python3
 """Answers DRBD's question whether the other machine is off, when the cable to it is dead.
 
 DRBD calls it as the handler `fence-peer`, while all writes of this machine are frozen, and before this machine becomes
@@ -13,12 +12,10 @@ import os
 import shlex
 import sys
 import time
-from pathlib import Path
+from collections.abc import Sequence
 
-sys.dont_write_bytecode = True
-sys.path[:0] = map(str, Path(__file__).resolve().parents[:2])
 
-from wanekupo.standby.half import Half, Refused, fenced_by_command, read_settings, run, take_word  # noqa: E402
+from wanekupo.standby.half import Half, Refused, fenced_by_command, read_settings, run, take_word
 
 IS_OFF, IS_UNKNOWN = 7, 1
 # DRBD's own tool ends a handler behind ten minutes. `other-is-off` goes on without it then.
@@ -73,12 +70,12 @@ def wait_on(half: Half) -> None:
     os._exit(0)
 
 
-if __name__ == "__main__":
-    if sys.argv[1:] in (["-h"], ["--help"]):
+def main(words: Sequence[str]) -> int:
+    if list(words) in (["-h"], ["--help"]):
         print(__doc__)
-        sys.exit(0)
+        return 0
     try:
-        sys.exit(answered())
+        return answered()
     except Refused as refused:
         print(f"fence-peer: {refused}", file=sys.stderr)
-        sys.exit(IS_UNKNOWN)
+        return IS_UNKNOWN

@@ -21,7 +21,7 @@ from collections.abc import Callable, Iterator
 from dataclasses import dataclass, fields
 from datetime import datetime, timedelta, timezone
 from pathlib import Path
-from typing import Any, NoReturn, TextIO
+from typing import Any, TextIO
 
 from wanekupo.common.store_user import UserError, shown
 from wanekupo.common.whole_file import put_whole
@@ -131,22 +131,23 @@ def tell(line: str, out: TextIO | None = None) -> None:
         print(shown(line.replace("\n", "; ")), file=out or sys.stdout, flush=True)
 
 
-def ended(name: str, call: Callable[[], int]) -> NoReturn:
-    """Ends a script with its call's status, and with sentences where it is refused or stopped."""
-    status = 1
+def ended(name: str, call: Callable[[], int], *, alone: bool = False) -> int:
+    """The status of a command's call, with sentences where it is refused or stopped. With `alone` a second one that has
+    it too is kept out."""
     for number in (signal.SIGTERM, signal.SIGHUP):
         signal.signal(number, signal.default_int_handler)
     try:
         if os.geteuid() != 0:
             raise Refused("Only root can do that.")
-        status = call()
+        with alone_at_work() if alone else contextlib.nullcontext():
+            return call()
     except (Refused, UserError) as refused:
         tell(f"{name}: refused: {refused}", sys.stderr)
     except OSError as error:
         tell(f"{name}: It failed: {error}. Mend that, and type the same again.", sys.stderr)
     except KeyboardInterrupt:
         tell(f"{name}: It was stopped. Type the same again, and it goes on.", sys.stderr)
-    sys.exit(status)
+    return 1
 
 
 @contextlib.contextmanager

@@ -1,4 +1,3 @@
-#!/usr/bin/python3
 """Ends with status 0 where this machine's half is mounted at its place, and else with 2 and a sentence.
 
 The server's unit asks it before each start (station.service.conf). Without it a server would run over whatever else is
@@ -7,21 +6,20 @@ the unit again behind a status 2.
 """
 
 import sys
-from pathlib import Path
+from collections.abc import Sequence
 
-sys.dont_write_bytecode = True
-sys.path[:0] = map(str, Path(__file__).resolve().parents[:2])
 
-from wanekupo.standby.half import Half, Refused, read_settings  # noqa: E402
+from wanekupo.standby.half import Half, Refused, read_settings
 
-if __name__ == "__main__":
-    if sys.argv[1:] in (["-h"], ["--help"]):
+
+def main(words: Sequence[str]) -> int:
+    if list(words) in (["-h"], ["--help"]):
         print(__doc__)
-        sys.exit(0)
+        return 0
     try:
         if Half(read_settings()).is_mounted():
-            sys.exit(0)
+            return 0
         print("The store's volume isn't mounted here: `takeover` mounts it.", file=sys.stderr)
     except (Refused, OSError) as refused:
         print(f"refused: {refused}", file=sys.stderr)
-    sys.exit(2)
+    return 2

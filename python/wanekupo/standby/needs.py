@@ -25,7 +25,7 @@ NEEDED = {
 }
 # The secret by which the two know each other: the sample's is known to all.
 SAMPLE, SHORTEST = "write-your-own", 16
-HANDLER = Path(__file__).resolve().parent / "fence-peer"
+HANDLER = Path("/usr/share/wanekupo/standby/fence-peer")
 
 
 def test(half: Half) -> None:

@@ -1,4 +1,3 @@
-#!/usr/bin/python3
 """Says that the other machine is off, so that this one goes on alone.
 
     other-is-off NAME      NAME is the other machine's, as `uname -n` prints it there
@@ -10,14 +9,11 @@ this machine writes from then on, it has alone.
 
 import argparse
 import shlex
-import sys
 import time
-from pathlib import Path
+from collections.abc import Sequence
 
-sys.dont_write_bytecode = True
-sys.path[:0] = map(str, Path(__file__).resolve().parents[:2])
 
-from wanekupo.standby.half import Half, Refused, done, ended, give_word, read_settings, run, take_word, tell, waited_for  # noqa: E402
+from wanekupo.standby.half import Half, Refused, done, ended, give_word, read_settings, run, take_word, tell, waited_for
 
 
 # How long DRBD's handler may take to hear it, if it waits.
@@ -54,12 +50,10 @@ def say(name: str) -> int:
     return 0
 
 
-def main() -> int:
-    parser = argparse.ArgumentParser(description=__doc__, formatter_class=argparse.RawDescriptionHelpFormatter)
+def main(words: Sequence[str]) -> int:
+    parser = argparse.ArgumentParser(
+        prog="other-is-off", description=__doc__, formatter_class=argparse.RawDescriptionHelpFormatter
+    )
     parser.add_argument("name", metavar="NAME", help="the other machine's name")
-    args = parser.parse_args()
-    return say(args.name)
-
-
-if __name__ == "__main__":
-    ended("other-is-off", main)
+    args = parser.parse_args(words)
+    return ended("other-is-off", lambda: say(args.name))

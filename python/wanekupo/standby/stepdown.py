@@ -1,4 +1,3 @@
-#!/usr/bin/python3
 """Hands the store over: the address goes, the server stops, and the volume is unmounted.
 
     stepdown              where the other half is up to date: then type `takeover` on the other machine
@@ -8,18 +7,14 @@ It stops at what it can't do, and says which step that was; begun again it goes 
 """
 
 import argparse
-import sys
-from pathlib import Path
+from collections.abc import Sequence
 
-sys.dont_write_bytecode = True
-sys.path[:0] = map(str, Path(__file__).resolve().parents[:2])
 
-from wanekupo.standby.half import (  # noqa: E402
+from wanekupo.standby.half import (
     FROZEN,
     SERVER_SECONDS,
     Half,
     Refused,
-    alone_at_work,
     done,
     ended,
     read_settings,
@@ -48,13 +43,10 @@ def step_down(is_alone: bool) -> int:
     return 0
 
 
-def main() -> int:
-    parser = argparse.ArgumentParser(description=__doc__, formatter_class=argparse.RawDescriptionHelpFormatter)
+def main(words: Sequence[str]) -> int:
+    parser = argparse.ArgumentParser(
+        prog="stepdown", description=__doc__, formatter_class=argparse.RawDescriptionHelpFormatter
+    )
     parser.add_argument("--alone", action="store_true", help="also where the other half isn't up to date")
-    args = parser.parse_args()
-    with alone_at_work():
-        return step_down(args.alone)
-
-
-if __name__ == "__main__":
-    ended("stepdown", main)
+    args = parser.parse_args(words)
+    return ended("stepdown", lambda: step_down(args.alone), alone=True)

@@ -1,4 +1,3 @@
-#!/usr/bin/python3
 """Takes the store over on this machine, or says why this half isn't fit for it, and then changes nothing.
 
     takeover                                     behind `stepdown` on the other machine
@@ -16,24 +15,17 @@ overrules it: who has to go on with an older half restores it (docs/how-to/stand
 """
 
 import argparse
-import sys
+from collections.abc import Sequence
 from datetime import datetime
-from pathlib import Path
 
-sys.dont_write_bytecode = True
-sys.path[:0] = map(str, Path(__file__).resolve().parents[:2])
 
-from wanekupo.standby import living  # noqa: E402
-from wanekupo.standby import look  # noqa: E402
-from wanekupo.standby import needs as needed  # noqa: E402
-from wanekupo.standby import witness  # noqa: E402
-from wanekupo.standby.half import (  # noqa: E402
+from wanekupo.standby import living, look, needs, witness
+from wanekupo.standby.half import (
     FROZEN,
     SERVER_SECONDS,
     Half,
     Refused,
     State,
-    alone_at_work,
     alone_since,
     done,
     ended,
@@ -157,7 +149,7 @@ def take_over(args: argparse.Namespace) -> int:
         raise Refused(f"This machine's writes are frozen ({state}). {FROZEN}")
     if state.role == "Primary":
         return served(half)
-    needed.test(half)
+    needs.test(half)
     if is_alone:
         shut_out(half, args.other_is_off)
     tested_contents(half, args, alone_since(half.received()) if is_alone else None)
@@ -166,17 +158,19 @@ def take_over(args: argparse.Namespace) -> int:
     return served(half)
 
 
-def main() -> int:
-    parser = argparse.ArgumentParser(description=__doc__, formatter_class=argparse.RawDescriptionHelpFormatter)
+def main(words: Sequence[str]) -> int:
+    parser = argparse.ArgumentParser(
+        prog="takeover", description=__doc__, formatter_class=argparse.RawDescriptionHelpFormatter
+    )
     parser.add_argument("--other-is-off", metavar="NAME", help="your word that the machine of this name has no power")
     said = "a witness, as pc7=FILE; - is standard input"
     parser.add_argument("--witness", metavar="FILE", action="append", default=[], help=said)
     parser.add_argument("--ended-tokens-may-ask", action="store_true", help="your word for this machine's tokens")
     parser.add_argument("--look", action="store_true", help="change nothing, and only print what this half has")
-    args = parser.parse_args()
-    with alone_at_work():
-        return looked(args) if args.look else take_over(args)
+    args = parser.parse_args(words)
+    return ended("takeover", lambda: looked(args) if args.look else take_over(args), alone=True)
 
 
-if __name__ == "__main__":
-    ended("takeover", main)
+def look_alone(words: Sequence[str]) -> int:
+    """The command `look`: what this half has, and nothing is changed."""
+    return main(["--look", *words])

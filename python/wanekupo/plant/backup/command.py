@@ -1,13 +1,14 @@
-#!/usr/bin/env python3
 """Backs a store up and tests the backup.
 
-    backup --site SITE --db STORE FOLDER      of a server that is stopped, into a folder that wasn't there: by the
-                                              store's user, or by root, who has all of it done as that user
-    backup --site SITE --db STORE --into ALL  the same, into a folder of its own in ALL, beside the earlier ones
-    backup --snapshot lvm ..                  of a server that runs, as root: by a snapshot of lvm, btrfs or zfs
-    backup --into ALL --db STORE --clean      removes what a run that was killed left, and makes none
-    backup --trial --db STORE --into ALL FOLDER   no backup: both files of a server that runs, to try a start of them
-    backup --program P ..                     another program than `station`, or one that isn't in PATH
+    station-backup --site SITE --db STORE FOLDER
+                                                  of a server that is stopped, into a folder that wasn't there: by the
+                                                  store's user, or by root, who has all of it done as that user
+    station-backup --site SITE --db STORE --into ALL  the same, into a folder of its own in ALL, beside the earlier ones
+    station-backup --snapshot lvm ..              of a server that runs, as root: by a snapshot of lvm, btrfs or zfs
+    station-backup --into ALL --db STORE --clean  removes what a run that was killed left, and makes none
+    station-backup --trial --db STORE --into ALL FOLDER
+                                                  no backup: both files of a server that runs, to try a start of them
+    station-backup --program P ..                 another program than `station`, or one that isn't in PATH
 
 FOLDER has the store's two files, the site file and about.json at the end, which says when it was made, by which program
 and of what SHA-256; where anything fails it is gone again. While it works FOLDER has a second copy of the two files, so
@@ -28,7 +29,7 @@ fifth of the volume, or for --snapshot-size; where more is written meanwhile it 
 --clean removes a snapshot of the kind that --snapshot names, and one of the kind that ALL/last-backup.json has. It
 removes what a killed run began in ALL, which is in plain, too.
 
---trial is for deploy/restart and deploy/site, where the backups are encrypted and their key is elsewhere. It makes
+--trial is for station-restart and station-site, where the backups are encrypted and their key is elsewhere. It makes
 FOLDER as the store's user, by a snapshot, whose kind without --snapshot is that of the last backup. Who asked for it
 removes FOLDER.
 
@@ -53,15 +54,14 @@ import sys
 from collections.abc import Callable, Iterator
 from pathlib import Path
 
-sys.dont_write_bytecode = True
 
-from wanekupo.plant.backup.copies import BackupError, copy_for_trial, copy_store, name_of_user, said_of  # noqa: E402
-from wanekupo.plant.backup.folder import (  # noqa: E402
+from wanekupo.plant.backup.copies import BackupError, copy_for_trial, copy_store, name_of_user, said_of
+from wanekupo.plant.backup.folder import (
     LAST, LOCK, NEW, bytes_of, copy_off, last_snapshot, new_name, note, placed, remove_begun, sole_backup, tidy,
 )  # fmt: skip
-from wanekupo.plant.backup.snapshot import KINDS, SnapshotStaysError, snapshot, volume_of  # noqa: E402
-from wanekupo.common.store_user import Store, StoreUser, UserError, opened, shown, user_of  # noqa: E402
-from wanekupo.common.whole_file import opened_lock  # noqa: E402
+from wanekupo.plant.backup.snapshot import KINDS, SnapshotStaysError, snapshot, volume_of
+from wanekupo.common.store_user import Store, StoreUser, UserError, opened, shown, user_of
+from wanekupo.common.whole_file import opened_lock
 
 
 def tell(*lines: str) -> None:
@@ -352,7 +352,3 @@ def main() -> int:
         if args.into and not args.clean and not args.trial:
             note_failure(args, said_of(error))
         return 1
-
-
-if __name__ == "__main__":
-    sys.exit(main())

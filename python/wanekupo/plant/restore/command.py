@@ -1,12 +1,11 @@
-#!/usr/bin/env python3
 """Restores a store that is lost or damaged, from a backup and the journals of all stations, for all customers.
 
-    restore BACKUP SITE JOURNAL.. --db STORE                        a server that is stopped
-    restore BACKUP SITE JOURNAL.. --db STORE --stop station         stops it first, by systemd
-    restore .. --tokens FOLDER                                      a folder with SEAT.token for one seat a customer
-    restore .. --without a7,b3                                      seats that asked for nothing that isn't known
+    station-restore BACKUP SITE JOURNAL.. --db STORE                 a server that is stopped
+    station-restore BACKUP SITE JOURNAL.. --db STORE --stop station  stops it first, by systemd
+    station-restore .. --tokens FOLDER                               a folder with SEAT.token for one seat a customer
+    station-restore .. --without a7,b3                               seats that asked for nothing that isn't known
 
-BACKUP is a folder that deploy/backup made, SITE the newest site file, JOURNAL a journal, or a folder of journals;
+BACKUP is a folder that station-backup made, SITE the newest site file, JOURNAL a journal, or a folder of journals;
 acme=PATH where neither its lines nor its name have a seat of the site. Name those of all stations of all customers.
 
 It refuses while a server has the store, has its lock, and looks at all of these before it moves anything. Then it puts
@@ -39,30 +38,26 @@ from collections.abc import Iterable
 from pathlib import Path
 from typing import Any
 
-sys.dont_write_bytecode = True
-CLIENT = Path(__file__).resolve().parent.parent / "clients/python"
-if CLIENT.is_dir():
-    sys.path.insert(0, str(CLIENT))
 
-from wanekupo.plant.backup.copies import BackupError, copy_store, counts_of, opened_by, said_of, told_if_full  # noqa: E402
-from wanekupo.plant.restore.journals import half_of_memory, sources_of, take_journals  # noqa: E402
-from wanekupo.plant.restore.lost_store import (  # noqa: E402
+from wanekupo.plant.backup.copies import BackupError, copy_store, counts_of, opened_by, said_of, told_if_full
+from wanekupo.plant.restore.journals import half_of_memory, sources_of, take_journals
+from wanekupo.plant.restore.lost_store import (
     NEEDED, by_customer, contradictions, last_numbers, lost_copy, missing_rows, number_gaps, steps_of,
 )  # fmt: skip
-from wanekupo.plant.restore.place import Place, check_backup, check_folders, free_name, served  # noqa: E402
-from wanekupo.plant.restore.plan import (  # noqa: E402
+from wanekupo.plant.restore.place import Place, check_backup, check_folders, free_name, served
+from wanekupo.plant.restore.plan import (
     Customer, Requests, RestoreError, absolute, asked_of, check_customers, check_left_out, choose_seats, customers_of,
     named, requests_of_seats, tokens_at, told_of,
 )  # fmt: skip
-from wanekupo.common.store_user import Store, UserError  # noqa: E402
+from wanekupo.common.store_user import Store, UserError
 
-from wanekupo.common.errors import StationError  # noqa: E402
-from wanekupo.seat.journal import Journal  # noqa: E402
-from wanekupo.seat.journal_lines import Folders, folders_at  # noqa: E402
-from wanekupo.common.printing import Progress  # noqa: E402
-from wanekupo.seat.replays import restore_requests  # noqa: E402
-from wanekupo.seat.station import Station  # noqa: E402
-from wanekupo.common.texts import shown  # noqa: E402
+from wanekupo.common.errors import StationError
+from wanekupo.seat.journal import Journal
+from wanekupo.seat.journal_lines import Folders, folders_at
+from wanekupo.common.printing import Progress
+from wanekupo.seat.replays import restore_requests
+from wanekupo.seat.station import Station
+from wanekupo.common.texts import shown
 
 ON, REFUSED, KEPT = 0, 1, 3
 SHOWN = 5
@@ -324,7 +319,3 @@ def main() -> int:
     if args.stop:
         print(f"restore: the unit {args.stop} stays stopped, where it was", file=sys.stderr)
     return REFUSED
-
-
-if __name__ == "__main__":
-    sys.exit(main())

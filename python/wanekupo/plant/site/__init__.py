@@ -1,1 +1,1 @@
-"""What deploy/site is made of: readers of sites and maps that know lines, and the steps by which a site grows."""
+"""Growths of a site: readers of sites and maps that know lines, and the steps by which a site grows."""

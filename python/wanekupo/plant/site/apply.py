@@ -15,6 +15,7 @@ import urllib.request
 from pathlib import Path
 
 from wanekupo.plant.trial_copy import Backup
+from wanekupo.common.process import own_command
 from wanekupo.common.store_user import LONGEST, PLAIN, SMALL, UserError, shown
 from wanekupo.common.token_file import HEALTH, PREFIX, TokenError, alone, read, tokens_of
 from wanekupo.common.whole_file import sync
@@ -84,7 +85,7 @@ def stop_and_back_up(place: Place, plan: Plan) -> None:
             raise TokenError(1, f"the server wasn't stopped: {said}")
         say("the server is stopped")
         words = ["--program", place.program, "--site", str(place.site), "--db", str(place.db), plan.backup]
-        done = user.run(str(place.parts / "backup"), *words, seconds=4 * LONGEST)  # it copies, starts and compares
+        done = user.run(own_command("station-backup"), *words, seconds=4 * LONGEST)  # it copies, starts and compares
         if done.returncode:
             raise TokenError(1, f"no backup, so nothing was changed: {shown(done.stderr).strip()}")
         say(shown(done.stdout).strip())

@@ -1,13 +1,12 @@
-#!/usr/bin/env python3
 """Grows a site: makes tokens, writes the new text, says in words what it adds, tests it, and puts it in place.
 
-    site add-customer bolt --issuer bolt-ca --pool 020000020000 65536 --seat b1
-    site add-seat acme a5 a6 --holder 'line 5'
-    site add-pool acme 020000030000 65536
-    site add-issuer acme acme-2
-    site apply                               what was prepared: stops, backs up, puts in place, starts, asks
-    site check FILE                          the line, the member and the cause of a site's or a map's faults
-    site diff OLD NEW                        what NEW adds, in words; 1 where something goes
+    station-site add-customer bolt --issuer bolt-ca --pool 020000020000 65536 --seat b1
+    station-site add-seat acme a5 a6 --holder 'line 5'
+    station-site add-pool acme 020000030000 65536
+    station-site add-issuer acme acme-2
+    station-site apply                             what was prepared: stops, backs up, puts in place, starts, asks
+    station-site check FILE                        the line, the member and the cause of a site's or a map's faults
+    station-site diff OLD NEW                      what NEW adds, in words; 1 where something goes
 
 An `add` prepares: it writes the new text beside the site file, as site.next.toml, tests it, and stops nothing. It may
 be given again, and others add to it. With `--apply` the steps of `apply` follow. To give it all up remove
@@ -16,8 +15,8 @@ by the same words, or by `apply`; no token is lost or made twice.
 
 A new seat's inner token is in the tokens' file alone (station-token(8)). Its outer one is in a new file, SEAT.token of
 the folder `--to`, made once the server knows the seat; a seat `health`, or any with --no-token, gets none. With
---other-site the site of each other store of the house is held against the new text. As root, with Python 3.11, beside
-`token` and `backup`; what is of the store is done as its user. docs/how-to/grow-a-site.md has the steps.
+--other-site the site of each other store of the house is held against the new text. As root, with Python 3.11;
+what is of the store is done as its user. docs/how-to/grow-a-site.md has the steps.
 
 Statuses: 0 done; 1 refused, and nothing runs otherwise than before; 2 the words are wrong; 3 another run has the lock;
 4 the server doesn't start, and which text the store holds is told; 5 it runs with the new text, and a token doesn't go
@@ -32,20 +31,19 @@ import sys
 from pathlib import Path
 from typing import Any
 
-sys.dont_write_bytecode = True
 
-from wanekupo.plant.site.apply import Stopped, apply, say  # noqa: E402
-from wanekupo.plant.site.difference import given_of  # noqa: E402
-from wanekupo.plant.site.faults import NAME  # noqa: E402
-from wanekupo.plant.site.growth import with_customer, with_items  # noqa: E402
-from wanekupo.plant.site.place import Place, text_in  # noqa: E402
-from wanekupo.plant.site.plan import PREPARED, Plan, Wish, drop_plan, keep_plan, read_plan  # noqa: E402
-from wanekupo.plant.site.trials import checked, is_map, tested_growth, tested_others, tried_over_copy  # noqa: E402
-from wanekupo.common.store_user import ROOMS, UserError  # noqa: E402
-from wanekupo.common.token_file import HEALTH, TokenError, Tokens, alone, put, read, tokens_of  # noqa: E402
-from wanekupo.common.site_file import digest_of  # noqa: E402
+from wanekupo.plant.site.apply import Stopped, apply, say
+from wanekupo.plant.site.difference import given_of
+from wanekupo.plant.site.faults import NAME
+from wanekupo.plant.site.growth import with_customer, with_items
+from wanekupo.plant.site.place import Place, text_in
+from wanekupo.plant.site.plan import PREPARED, Plan, Wish, drop_plan, keep_plan, read_plan
+from wanekupo.plant.site.trials import checked, is_map, tested_growth, tested_others, tried_over_copy
+from wanekupo.common.store_user import ROOMS, UserError
+from wanekupo.common.token_file import HEALTH, TokenError, Tokens, alone, put, read, tokens_of
+from wanekupo.common.site_file import digest_of
 
-NAMED = Path(sys.argv[0]).name
+NAMED = "station-site"
 
 
 # ---- what is added
@@ -333,7 +331,3 @@ def main() -> int:
         print(f"{NAMED}: {error}", file=sys.stderr)
         return 1
     return 0
-
-
-if __name__ == "__main__":
-    sys.exit(main())

@@ -1,4 +1,4 @@
-"""Where a store and its site are, and the programs that deploy/site runs there.
+"""Where a store and its site are, and the programs that python/bin/station-site runs there.
 
 What is of the store is done as the store's user (store_user.py): whatever a file may bring a program to do is done as
 that user, and never as root (docs/decisions/0015-a-backup-is-the-store-users.md).
@@ -16,6 +16,7 @@ from functools import cached_property
 from pathlib import Path
 
 from wanekupo.plant.trial_copy import Backup, copy_files, copy_running, newest_backup
+from wanekupo.common.process import own_command
 from wanekupo.common.store_user import Store, StoreUser, room, shown
 from wanekupo.common.token_file import TokenError
 
@@ -39,12 +40,11 @@ class Place:
         self.plan = self.site.with_name(f"{self.site.stem}.growth")
         self.tokens = Path(args.tokens)
         self.program = args.program
-        self.parts = Path(__file__).resolve().parent.parent
         self.args = args
 
     def token_words(self) -> list[str]:
-        """station-token's own command, which lies beside this one."""
-        return [str(self.parts / "token"), "--file", str(self.tokens), *shlex.split(self.args.token_words)]
+        """The command station-token, for this site's tokens."""
+        return [own_command("station-token"), "--file", str(self.tokens), *shlex.split(self.args.token_words)]
 
     def has_program(self) -> bool:
         return shutil.which(self.program) is not None
