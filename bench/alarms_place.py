@@ -23,7 +23,7 @@ DEPLOYED = ROOT / "deploy/prometheus"
 CUSTOMERS = {"acme": "a1", "bolt": "b1", "@manager": "@manager"}
 DAYS, DAYS_LEFT = "2", "825"
 PAUSE = 1.5
-# How long the server is away in a restart by python/bin/station-restart, beside its starts.
+# How long the server is away in a restart by station-restart, beside its starts.
 AWAY = 4
 
 # A `systemctl` that shows what a file says, and asks the bench for a restart.

@@ -1,4 +1,4 @@
-"""A house with a store, its site, a backup of last night and a service, in a folder; and runs of python/bin/station-site over it.
+"""A house with a store, its site, a backup of last night and a service, in a folder; and runs of station-site over it.
 
 The service is a script in a session of its own, as a real one is no child of who asks for it. As root the store and its
 backups are another user's, since the tool refuses root's. A run may be killed right before its Nth deed that others see

@@ -21,7 +21,7 @@ PORT = 18880
 PLACE = Path("/run/station-backup")
 NAME = "station_backup"
 
-# Runs python/bin/station-backup, and kills it before the call with this number: of a command, of a sync, of a new name. With
+# Runs station-backup, and kills it before the call with this number: of a command, of a sync, of a new name. With
 # `all` what it started dies with it, and with `machine` the machine starts anew, without a sync. With `asked` it is
 # asked to end, in the middle of a command of root's. With `count` it prints how many calls there are.
 KILLED = """
@@ -155,7 +155,7 @@ class Bench:
         raise NotImplementedError
 
     def backup(self, *more, program=None, killed=(), within=()):
-        """Runs python/bin/station-backup; `within` are words before it."""
+        """Runs station-backup; `within` are words before it."""
         words = ["--program", str(program or self.program), "--site", str(SITE), "--db", str(self.db)]
         words += ["--into", str(self.all), "--snapshot", self.kind, *self.words, *more]
         before = [sys.executable, "-B", "-c", KILLED, *map(str, killed)] if killed else []

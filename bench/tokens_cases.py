@@ -356,7 +356,7 @@ def days(place, tried):
 def exhaustive(tried):
     """The expression for a later minute, beside a comparison of texts."""
     sys.dont_write_bytecode = True
-    sys.path.insert(0, str(ROOT / "deploy"))
+    sys.path.insert(0, str(ROOT / "python"))
     from wanekupo.common.token_file import later_than
 
     times = [f"{y}-{m:02}-{d:02}T{h:02}:{i:02}" for y in (2025, 2026, 2027, 2030, 2100) for m in range(1, 13)

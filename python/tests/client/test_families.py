@@ -26,7 +26,7 @@ from wanekupo.chips.chip import bit, checked, key, rlock, shows, value, wlock
 from wanekupo.common.errors import Refused, StationError
 from wanekupo.chips.espefuse import ChangedUnasked, Espefuse, KeyFile, NoFuses, find_tool, version_of, wishes_of
 from wanekupo.chips.families import dump_of, family_of, names
-from wanekupo.seat.replies import Work
+from wanekupo.chips.work import Work
 
 TOOL = shlex.split(os.environ.get("ESPEFUSE", ""))
 MAC = "7cdfa1000001"
@@ -260,7 +260,7 @@ class Lives(StationCase):
         script = (
             f"import sys; sys.path[:0] = {[str(ROOT / 'python'), str(SIMULATED.parent)]!r}\n"
             "from wanekupo.chips.espefuse import Espefuse, KeyFile\nfrom wanekupo.chips.families import family_of\n"
-            "from wanekupo.seat.replies import Work\n"
+            "from wanekupo.chips.work import Work\n"
             f"file = KeyFile({self.file.path!r}, {BURNT_AS!r})\n"
             f"chip = Espefuse({tool!r}, {{'BLOCK_KEY0': file}}, family_of('esp32s3'))\n"
             "chip.burn(Work((), {'BLOCK_KEY0': file.digest()}))\n"

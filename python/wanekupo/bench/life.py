@@ -23,7 +23,8 @@ from wanekupo.seat.records import addresses_of
 from wanekupo.bench.parts import Part
 from wanekupo.bench.recipe import Command, Recipe, Wish
 from wanekupo.chips.layout import Layout, Place, places_of, wanted_of
-from wanekupo.seat.replies import Device, Identity, Order, Verdict, Work
+from wanekupo.chips.work import Work
+from wanekupo.seat.replies import Device, Identity, Order, Verdict
 from wanekupo.seat.station import Station
 from wanekupo.bench.supply import Supply
 from wanekupo.bench.turns import Leaving

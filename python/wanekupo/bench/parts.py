@@ -9,7 +9,7 @@ from typing import Mapping, Sequence, Union
 from wanekupo.bench.endings import Ended
 from wanekupo.chips.espefuse import Espefuse, KeyFile, NoFuses
 from wanekupo.chips.families import Told, family_of
-from wanekupo.seat.replies import Work
+from wanekupo.chips.work import Work
 
 # The family of parts without fuses, and how many seconds a command has that prints a part's name.
 NO_FUSES, LONGEST_NAME = "none", 30

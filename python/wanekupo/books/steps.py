@@ -12,8 +12,7 @@ from pathlib import Path
 from typing import Any, Iterable, Iterator, Optional, Union
 
 from wanekupo.common.errors import BadJournal
-from wanekupo.seat.journal import journals_of, request_digest
-from wanekupo.metrics.journal_counts import seat_named
+from wanekupo.seat.journal import journals_of, request_digest, seat_named
 from wanekupo.seat.journal_lines import MOST, MOST_LINES, SUFFIX, Folders, Name, journals_below, lines_of
 from wanekupo.common.moments import moment_of
 from wanekupo.common.texts import brief

@@ -8,7 +8,7 @@ from typing import Any, Iterator, Mapping
 
 from wanekupo.chips.espefuse import Espefuse, KeyFile
 from wanekupo.chips.families import Blocks, Told, bytes_of, crc8
-from wanekupo.seat.replies import Work
+from wanekupo.chips.work import Work
 from wanekupo.common.texts import shown
 
 # What stands in other modules now, and is found here for one version more.

@@ -22,7 +22,7 @@ from typing import Any, Iterator, Mapping, Optional, Protocol, Sequence
 
 from wanekupo.common.errors import StationError
 from wanekupo.chips.families import VERSION, Blocks, Dump, Family, Told, bytes_of, dump_of, family_of, reversed_names
-from wanekupo.seat.replies import Work
+from wanekupo.chips.work import Work
 from wanekupo.common.texts import shown, without_secrets
 
 # The names of the program: Debian's and version 5's, and that of version 4 as Python's own packages have it.

@@ -10,7 +10,7 @@ import tomllib
 from dataclasses import dataclass
 from typing import Any, Iterable, Mapping, Optional, Sequence
 
-from wanekupo.seat.replies import Word, Work
+from wanekupo.chips.work import Word, Work
 
 # A bit of the chip: its block in the map, and its place in that block.
 Place = tuple[int, int]

@@ -14,7 +14,7 @@ from typing import Any, Optional
 
 from wanekupo.common.errors import BadJournal, UnsafeFile
 from wanekupo.metrics.exposition import Samples
-from wanekupo.seat.journal import OF_A_DAY
+from wanekupo.seat.journal import seat_named
 from wanekupo.seat.journal_lines import SUFFIX, Folders, folders_at, journals_below, lines_of
 from wanekupo.common.moments import moment_of, text_of
 from wanekupo.common.printing import warn
@@ -30,12 +30,6 @@ OUT_OF_STEP = (11, 12)
 # How many seats have metrics of their own; a site has 64 of each of 64 customers. The others are counted as one.
 MOST_SEATS = 500
 OTHERS = "others"
-
-
-def seat_named(file: Path) -> str:
-    """The seat of a journal whose lines don't name it, by the file's name."""
-    day = OF_A_DAY.fullmatch(file.name)
-    return (day[1].rstrip("-") if day else file.name.removesuffix(SUFFIX)) or file.parent.name
 
 
 def now() -> str:

@@ -7,6 +7,7 @@ import json
 from dataclasses import dataclass, fields
 from typing import Any, Callable, Mapping, Optional, TypeVar
 
+from wanekupo.chips.work import Word, Work
 from wanekupo.common.errors import NotTheServer, Refused
 from wanekupo.seat.forms import COUNT, REPLIES, wrong_in
 
@@ -14,26 +15,6 @@ from wanekupo.seat.forms import COUNT, REPLIES, wrong_in
 ECHOED = ("chip", "name")
 
 Made = TypeVar("Made")
-
-
-@dataclass(frozen=True)
-class Word:
-    """Burnt or awaited bits of one word."""
-
-    block: int
-    word: int
-    mask: int
-
-
-@dataclass(frozen=True)
-class Work:
-    """Bits, and keys by the names of their fields, which are known by their SHA-256."""
-
-    bits: tuple[Word, ...]
-    keys: dict[str, str]
-
-    def __bool__(self) -> bool:
-        return bool(self.bits or self.keys)
 
 
 @dataclass(frozen=True)
