@@ -40,7 +40,7 @@ def rows_of(file):
 
 
 def try_shift(tried, made, folder):
-    """The counts of each station by jq; what is left by a token and by watch; a seat that is out of step."""
+    """The counts of each station by jq; what is left by a token; a seat that is out of step."""
     out, journals = folder / "shift", [f"{name}={folder / name}" for name in ("acme", "bolt")]
     out.mkdir()
     for start, end in ((START, END), ("2026-11-27T06:10:00Z", "2026-11-27T07:21:00Z")):
@@ -66,13 +66,11 @@ def try_shift(tried, made, folder):
 
 
 def try_rest(tried, made, folder, journals, out):
-    """What is left, which is the same by a token and by what watch kept."""
+    """What is left, asked by a token that looks of each customer."""
     for name, seat in (("acme", "a1"), ("bolt", "b1")):
         look = folder / f"{name}.look"
         look.touch(0o600)
         look.write_text(TOKENS[seat])
-        watched = ["watch", "--url", made.url, "--token", folder / f"{name}.look", "--times", "1", "--customer", name]
-        tried.want("watch", run(*watched, folder / f"{name}.csv")[0], 0)
     words = ["shift", *journals, "--from", START, "--to", "2099-01-01T00:00Z", "--csv", out]
     left = [word for name in ("acme", "bolt") for word in ("--left", f"{name}={folder / f'{name}.look'}")]
     tried.want("left by tokens", run(*words, *left, "--url", made.url)[0], 0)
@@ -80,11 +78,6 @@ def try_rest(tried, made, folder, journals, out):
     report = run("report", "--url", made.url, "--token", folder / "acme.look", "--order", "gate-40")[1]
     wanted = report.split(",")[-1].strip()
     tried.want("left as the report says", [row["left"] for row in asked if row["order"] == "gate-40"][0], wanted)
-    kept = [word for name in ("acme", "bolt") for word in ("--watch", folder / f"{name}.csv")]
-    tried.want("left by watch", run(*words, *kept)[0], 0)
-    columns = ("customer", "order", "left", "identified", "what")  # hours go on with the clock
-    both = [[[row[name] for name in columns] for row in rows] for rows in (rows_of(out / "rest.csv"), asked)]
-    tried.want("both are the same", *both)
 
 
 def try_stopped(tried, made, folder):

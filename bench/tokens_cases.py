@@ -465,7 +465,7 @@ def client_of(place, asked, least, patience=0):
     text = f"""
 import ssl, sys, time
 sys.path.insert(0, {str(ROOT / "python")!r})
-from wanekupo_station import Station
+from wanekupo.seat.station import Station
 context = ssl.create_default_context(cafile="etc/cert.pem")
 station = Station("https://localhost:{place.port}", {place.outer["bolt"]!r}, "b1.json", {patience}, context=context)
 end, count, least = time.time() + 2, 0, {least}

@@ -56,7 +56,8 @@ def client_by_certificate(place, words):
     text = f"""
 import ssl, sys
 sys.path.insert(0, {str(ROOT / "python")!r})
-from wanekupo_station import Refused, Station
+from wanekupo.common.errors import Refused
+from wanekupo.seat.station import Station
 context = ssl.create_default_context(cafile="etc/cert.pem")
 context.load_cert_chain({words[1]!r}, {words[3]!r})
 try:

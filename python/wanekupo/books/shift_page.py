@@ -24,7 +24,7 @@ STOPPED = ("time", "customer", "station", "what", "went_on")
 RESTS = ("customer", "order", "left", "identified", "lasts_hours", "what")
 
 FIRST = "First: shipped, each read-back matched at once, and no stay at a bench failed before."
-NO_REST = "Not asked: give --left or --watch, and this says what the next shift runs out of."
+NO_REST = "Not asked: give --left, and this says what the next shift runs out of."
 
 
 def tables(shift: Shift, rests: Optional[Sequence[Rest]]) -> list[Table]:

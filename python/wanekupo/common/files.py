@@ -119,12 +119,6 @@ def locked(opened: int) -> None:
         fcntl.flock(opened, fcntl.LOCK_EX | fcntl.LOCK_NB)
 
 
-def wait_locked(opened: int) -> None:
-    """The same, once no other process has it."""
-    if fcntl:
-        fcntl.flock(opened, fcntl.LOCK_EX)
-
-
 def tested_unlocked(opened: int) -> None:
     """Whether no program has a lock of SQLite's on an opened file; else OSError."""
     if fcntl:

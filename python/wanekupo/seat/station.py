@@ -15,9 +15,11 @@ import threading
 from typing import Any, Callable, Iterable, Iterator, Mapping, NoReturn, Optional, Sequence, TypeVar
 from urllib.parse import quote
 
-from wanekupo.chips.chip import Blocks, Espefuse, checked, shows
+from wanekupo.chips.chip import checked, shows
 from wanekupo.seat.connection import Server
 from wanekupo.common.errors import BadStateFile, NotTheServer, OutOfStep, Refused, UnderWay
+from wanekupo.chips.espefuse import Bench
+from wanekupo.chips.families import Blocks
 from wanekupo.common.printing import warn
 from wanekupo.seat.replies import (
     Device,
@@ -433,7 +435,7 @@ class Station(Seat):
         """The counts of each customer, by its name; the manager's alone."""
         return self.report("/v1/site/report")
 
-    def settle(self, chip: str, chip_io: Espefuse, tries: int = 3) -> Device:
+    def settle(self, chip: str, chip_io: Bench, tries: int = 3) -> Device:
         """Burns and reads back what a device awaits. It is then settled or quarantined, or still awaits what the chip
         doesn't take in so many tries.
 
