@@ -12,6 +12,7 @@ from conftest import TOP
 from wanekupo.plant.site import apply as applying
 from wanekupo.plant.site.apply import Stopped, apply
 from wanekupo.plant.site.plan import PLACED, PREPARED, STOPPING, Plan, Wish, keep_plan, read_plan
+from wanekupo.common.store_user import UserError
 from wanekupo.common.token_file import Outer, Seat, TokenError, Tokens, put, text_of
 
 OLD, NEW = "customer = [] # old\r\n", "customer = [] # new\r\n"
@@ -460,6 +461,20 @@ def test_the_new_text_lies_with_the_backup(place):
     assert [str(place.site) in it and "told" in it for it in told(place)] == [True]
     applying.keep_with_backup(place, Plan(PLACED, ""))
     assert len(place.calls) == 3
+
+
+def test_a_pipe_in_the_place_of_that_copy_ends_no_growth(place, monkeypatch):
+    """It lies in the store user's folder: the command is ended in a minute, and the growth goes on."""
+    place.site.write_bytes(NEW.encode())
+    bounds = []
+
+    def run(*_, given, seconds):
+        bounds.append(seconds)
+        raise UserError("took too long")
+
+    monkeypatch.setattr(place.user, "run", run)
+    applying.keep_with_backup(place, Plan(PLACED, str(place.backups / "before-1")))
+    assert (bounds, ["took too long" in it for it in told(place)]) == ([60], [True])
 
 
 def test_say_is_seen_at_once(capsys, monkeypatch):

@@ -426,3 +426,14 @@ def test_what_asks_may_fail(monkeypatch, tmp_path):
     with pytest.raises(KeyboardInterrupt), restore_place.served("P", tmp_path, tmp_path):
         raise KeyboardInterrupt
     assert server.calls == ["kill", "wait"]
+
+
+def test_a_pipe_in_a_files_place_keeps_nobody_waiting(tmp_path):
+    """Of a backup, whose other files may be its user's own, and of what an earlier run left."""
+    os.mkfifo(tmp_path / "about.json")
+    with pytest.raises(RestoreError, match="damaged"):
+        said_in(tmp_path)
+    (tmp_path / "about.json").unlink()
+    (tmp_path / "about.json").write_text(5000 * "[")
+    with pytest.raises(RestoreError, match="damaged"):
+        said_in(tmp_path)

@@ -1,6 +1,7 @@
 """What a restore goes by: requests that stand, tokens, seats, and who may be left out."""
 
 import hashlib
+import os
 import time
 from pathlib import Path
 
@@ -253,3 +254,27 @@ def test_a_customer_without_a_token_is_told_and_one_without_journals_needs_none(
     with pytest.raises(RestoreError, match="no token of acme is in tokens"):
         choose_seats({"acme": acme, "bolt": bolt}, {"a1": "another's"}, [], Path("tokens"))
     assert choose_seats({"bolt": bolt}, {}, [], Path("tokens")) == [] and not bolt.seat
+
+
+@pytest.mark.parametrize("text", ["x = " + 5000 * "[" + 5000 * "]", "customer = [1]", "customer = 5"])
+def test_what_is_no_site_is_told_in_a_sentence(tmp_path, text):
+    (tmp_path / "site.toml").write_text(text)
+    with pytest.raises(RestoreError, match="is no site file that can be read"):
+        customers_of(tmp_path / "site.toml")
+
+
+def test_a_folder_of_tokens_has_plain_files_of_its_users_own(tmp_path):
+    """Root reads them: it follows no link there, and waits for no pipe."""
+    (tmp_path / "a1.token").write_text("abc\n")
+    assert tokens_at(tmp_path) == ({"a1": "abc"}, [])
+    os.mkfifo(tmp_path / "b1.token")
+    with pytest.raises(RestoreError, match="is no plain file"):
+        tokens_at(tmp_path)
+    (tmp_path / "b1.token").unlink()
+    (tmp_path / "b1.token").symlink_to("a1.token")
+    with pytest.raises(RestoreError):
+        tokens_at(tmp_path)
+    (tmp_path / "b1.token").unlink()
+    tmp_path.chmod(0o777)
+    with pytest.raises(RestoreError, match="others may write it"):
+        tokens_at(tmp_path)

@@ -22,6 +22,13 @@ def test_shown(text: str, wanted: str) -> None:
     assert shown(text) == wanted
 
 
+def test_shown_is_bounded() -> None:
+    """Whoever wrote it could fill a screen for a day."""
+    assert shown("x" * 4000) == "x" * 4000
+    assert shown("\x1b" * 4001) == "?" * 4000 + ".. (4001 letters)"
+    assert shown("abc", 2) == "ab.. (3 letters)"
+
+
 # The owner and the mode of a folder, the owner of what is in it, who may hold it, and whether it is held.
 ROOT, USER, OTHER = 0, 990, 991
 HELD = [

@@ -316,7 +316,7 @@ def left(monkeypatch, tmp_path, now, error=None):
     living, calls = takeover.living, []
     own = FakeHalf(now)
     own.folder = tmp_path
-    user = SimpleNamespace(call=lambda call: calls.append("as the user") or call())
+    user = SimpleNamespace(call=lambda call, seconds: calls.append("as the user") or call())
     handle = os.open(tmp_path, os.O_RDONLY)
     monkeypatch.setattr(living, "Store", lambda db: {tmp_path / "books.db": SimpleNamespace(user=user,
         handle=handle)}[db])

@@ -91,3 +91,15 @@ NOWHERE = [
 def test_no_place_that_is_sure(site, seat, told):
     with pytest.raises(TokenError, match=told):
         grown(site, seat, "f")
+
+
+DEEP = "x = " + 5000 * "[" + 5000 * "]" + "\n"
+NO_SITES = [DEEP, "x = " + 5000 * "9" + "\n", "customer = 1\n", "customer = [1]\n", 'customer = ["a"]\n',
+            '[[customer]]\nname = "acme"\nseat = 5\n', '[[customer]]\nseat = [{name = "a1", token = 5}]\n',
+            "manager = 5\n", "[manager]\ntoken = 5\n"]  # fmt: skip
+
+
+@pytest.mark.parametrize("text", NO_SITES, ids=lambda text: text[:30])
+def test_what_is_no_site_is_told_in_a_sentence(text):
+    with pytest.raises(TokenError, match="^site.toml"):
+        digests_of(text, "site.toml")

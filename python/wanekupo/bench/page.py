@@ -93,7 +93,9 @@ class Handler(http.server.BaseHTTPRequestHandler):
         """Whether the browser took this machine for what it asks, and asks for a page from here."""
         origin = self.headers.get("Origin")
         hosts = [f"{name}:{self.server.server_address[1]}" for name in (HOST, "localhost")]
-        return self.headers.get("Host") in hosts and origin in (None, *(f"http://{it}" for it in hosts))
+        named = self.headers.get_all("Host", [])
+        is_here = len(named) == 1 and named[0] in hosts
+        return is_here and origin in (None, *(f"http://{it}" for it in hosts))
 
     def _told(self) -> tuple[int, dict[Any, Any]]:
         """The status of a POST and what it says: 403 where another page could send it without asking."""

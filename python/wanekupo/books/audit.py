@@ -231,7 +231,7 @@ def _journal_faults(journals: Iterable[Seated], store: Books) -> Iterator[Found]
         for fault in it.book.faults:
             yield Found("journal", fault.at, it.customer, it.seat, "", f"{fault.place()} {fault.told}")
         is_bare = not any(map(Step.is_done, it.book.steps))  # a seat that was only refused has no row
-        if it.seat in store.seats or not it.book.times and not it.book.faults:
+        if it.seat in store.seats or not it.book.times and not any(fault.line for fault in it.book.faults):
             continue
         if not is_bare or it.seat not in store.site_seats:
             told = f"{it.book.files[0]} is of a seat that the store doesn't have"

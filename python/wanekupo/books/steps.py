@@ -11,9 +11,9 @@ from dataclasses import dataclass, field
 from pathlib import Path
 from typing import Any, Iterable, Iterator, Optional, Union
 
-from wanekupo.common.errors import BadJournal
+from wanekupo.common.errors import BadJournal, StationError
 from wanekupo.seat.journal import journals_of, request_digest, seat_named
-from wanekupo.seat.journal_lines import MOST, MOST_LINES, SUFFIX, Folders, Name, journals_below, lines_of
+from wanekupo.seat.journal_lines import MOST, MOST_LINES, Folders, Name, journals_below, lines_of, stations_folders
 from wanekupo.common.moments import moment_of
 from wanekupo.common.texts import brief
 
@@ -131,7 +131,7 @@ class Fault:
     told: str
 
     def place(self) -> str:
-        return f"line {self.line} of {self.file}"
+        return f"line {self.line} of {self.file}" if self.line else self.file
 
 
 @dataclass
@@ -272,13 +272,15 @@ def books_of(names: Iterable[Name]) -> list[Book]:
 
 
 def shipped_books(path: Path, folders: Folders) -> Iterator[Book]:
-    """The journals of a folder of all, in which each station has its own."""
-    for it in sorted(path.iterdir()):
-        if it.is_symlink() or it.name not in folders and (it.is_dir() or it.suffix == SUFFIX):
-            told = "Name a folder that has the stations' folders, and say in that file which seats each one has."
-            raise BadJournal(f"{it} is no folder that the file of folders names", told)
-        files, room = journals_below(it) if it.is_dir() else [], Room()
-        yield from (book_of(group, folders[it.name], room) for group in journals_of(files))
+    """The journals of a folder of all, in which each station has its own. What one station wrote keeps nobody from
+    reading the others': a folder that can't be read is a journal with that fault."""
+    for it in stations_folders(path, folders):
+        room = Room()
+        try:
+            for group in journals_of(journals_below(it), is_shipped=True):
+                yield book_of(group, folders[it.name], room)
+        except (StationError, OSError) as error:
+            yield Book([str(it)], faults=[Fault(str(it), 0, "", f"isn't read to its end: {error}")])
 
 
 @dataclass(frozen=True)

@@ -10,6 +10,7 @@ from wanekupo.seat.command import Command, text_of, told
 from wanekupo.seat.settings import Settings, looking_station_of
 from wanekupo.common.errors import NotTheServer, StationError
 from wanekupo.seat.journal import issued, merged
+from wanekupo.seat.journal_lines import add_folders, named_folders
 from wanekupo.books.lost import LOST, given_up, lost_csv, lost_formulas, lost_text
 from wanekupo.common.moments import moment_of
 from wanekupo.common.printing import Formulas, Progress, say, table_lines, warn
@@ -56,13 +57,15 @@ def _add_times(parser: argparse.ArgumentParser) -> None:
 
 def _add_lost(parser: argparse.ArgumentParser) -> None:
     _add_journals(parser)
-    _add_times(parser)
+    _add_times(parser, required=False)
+    add_folders(parser)
     parser.add_argument("--csv", metavar="FILE", help="write it as comma-separated values too")
     parser.add_argument("--json", action="store_true", help="a line of JSON each, in place of a table")
 
 
 def _lost(_: Settings, args: argparse.Namespace) -> int:
-    lines, unanswered = given_up(args.journals, args.from_time, args.to_time)
+    folders = named_folders(args.folders) if args.folders else None
+    lines, unanswered = given_up(args.journals, args.from_time, args.to_time, folders)
     warn(*(f"warning: {it}" for it in [*unanswered, *(lost_formulas(lines) if args.csv else [])]))
     if args.csv:
         Path(args.csv).write_text(lost_csv(lines), encoding="utf-8")

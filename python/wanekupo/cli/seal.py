@@ -96,7 +96,7 @@ def _now() -> str:
 def rows_of(file: Path) -> Text:
     """The rows of a file of a seal, or of a copy of a store."""
     if not is_store(file):
-        return folder.rows_of(file.read_bytes(), file)
+        return folder.rows_of(file)
     with Store(file) as store:
         return Text.of(_lines_of(store))
 

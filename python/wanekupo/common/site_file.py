@@ -24,20 +24,24 @@ def lines_of(seat: Seat) -> str:
 def _parsed(text: str, path: str) -> dict[str, Any]:
     try:
         return tomllib.loads(text)
-    except tomllib.TOMLDecodeError as error:
+    except (ValueError, RecursionError) as error:  # a number of too many digits is a ValueError, too
         raise TokenError(1, f"{path}: {error}") from None
 
 
 def digests_of(text: str, path: str) -> dict[str, tuple[str, str]]:
     """The digest of each seat with its customer, and of the manager, by name."""
     site = _parsed(text, path)
-    found = {
-        seat["name"]: (customer["name"], seat["token"].lower())
-        for customer in site.get("customer", [])
-        for seat in customer.get("seat", [])
-    }
-    if "manager" in site:
-        found[MANAGER] = (MANAGER, site["manager"]["token"].lower())
+    try:
+        found = {
+            seat["name"]: (customer["name"], seat["token"].lower())
+            for customer in site.get("customer", [])
+            for seat in customer.get("seat", [])
+        }
+        if "manager" in site:
+            found[MANAGER] = (MANAGER, site["manager"]["token"].lower())
+    except (KeyError, TypeError, AttributeError) as error:
+        told = "`station-site check` names the line"
+        raise TokenError(1, f"{path} is no site file ({type(error).__name__}: {error}): {told}") from None
     return found
 
 
@@ -100,5 +104,5 @@ def _names(lines: list[str], customer: str) -> bool:
 def _parsed_or_none(text: str) -> Optional[dict[str, Any]]:
     try:
         return tomllib.loads(text)
-    except tomllib.TOMLDecodeError:
+    except (ValueError, RecursionError):
         return None

@@ -39,14 +39,16 @@ from pathlib import Path
 from wanekupo.common.process import end_tool
 from wanekupo.common.errors import PlantError
 from wanekupo.plant.trial_copy import Backup, copy_files, copy_running, newest_backup
-from wanekupo.common.store_user import LONGEST, ROOMS, STOPS, Store, UserError, clear_rooms, read_small, room, shown
+from wanekupo.common.store_user import (
+    LONGEST, MINUTE, ROOMS, STOPS, Store, UserError, clear_rooms, read_small, room, shown,
+)  # fmt: skip
 
 # Bytes a second that a start reads, at the least (docs/reference/program.md). How old metrics may be, and how far ahead
 # their clock, in seconds.
 SLOWEST, OLDEST, AHEAD = 20_000_000, 1200, 60
 TRIED_BY_BYTES = "reckoned by its bytes, as no start was tried"
 # The folder is the store user's, so that user writes the file, whole.
-WRITTEN = 'umask 022; cat > "$1.new"; mv "$1.new" "$1"'
+WRITTEN = 'umask 022; rm -f "$1.new"; cat > "$1.new"; mv "$1.new" "$1"'
 
 
 class NoRestartError(PlantError):
@@ -172,7 +174,8 @@ def planned_until(args: argparse.Namespace, store: Store, moment: float) -> None
     name = "wanekupo_restart_end_timestamp_seconds"
     text = f"# HELP {name} When the last restart that was planned is over at the latest.\n# TYPE {name} gauge\n"
     path = args.metrics.parent / "restart.prom"
-    done = store.user.run("sh", "-c", WRITTEN, "sh", str(path), given=f"{text}{name} {int(moment)}\n")
+    given = f"{text}{name} {int(moment)}\n"
+    done = store.user.run("sh", "-c", WRITTEN, "sh", str(path), given=given, seconds=MINUTE)
     if done.returncode:
         raise NoRestartError(f"{path} can't be written as {store.user.name}: {shown(done.stderr).strip()}")
 

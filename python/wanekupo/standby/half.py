@@ -25,6 +25,7 @@ from typing import Any, TextIO
 
 from wanekupo.common.errors import PlantError
 from wanekupo.common.store_user import UserError, shown
+from wanekupo.common.store_words import clean_words
 from wanekupo.common.whole_file import put_whole
 
 SETTINGS = Path("/etc/station/standby.toml")
@@ -92,7 +93,7 @@ def read_settings(file: Path = SETTINGS) -> Settings:
         values = tomllib.loads(text)
     except FileNotFoundError:
         return Settings()
-    except (UnicodeDecodeError, tomllib.TOMLDecodeError) as error:
+    except (UnicodeDecodeError, tomllib.TOMLDecodeError, RecursionError) as error:
         raise Refused(f"{file} is no TOML: {error}.") from None
     if found.st_uid != 0 or found.st_mode & 0o022:
         raise Refused(f"Others than root can write {file}, whose commands root runs: chown root, and chmod go-w.")
@@ -135,6 +136,7 @@ def tell(line: str, out: TextIO | None = None) -> None:
 def ended(name: str, call: Callable[[], int], *, alone: bool = False) -> int:
     """The status of a command's call, with sentences where it is refused or stopped. With `alone` a second one that has
     it too is kept out."""
+    clean_words()
     for number in (signal.SIGTERM, signal.SIGHUP):
         signal.signal(number, signal.default_int_handler)
     try:

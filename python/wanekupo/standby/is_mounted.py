@@ -9,7 +9,7 @@ import sys
 from collections.abc import Sequence
 
 
-from wanekupo.standby.half import Half, Refused, read_settings
+from wanekupo.standby.half import Half, Refused, read_settings, tell
 
 
 def main(words: Sequence[str]) -> int:
@@ -21,5 +21,5 @@ def main(words: Sequence[str]) -> int:
             return 0
         print("The store's volume isn't mounted here: `takeover` mounts it.", file=sys.stderr)
     except (Refused, OSError) as refused:
-        print(f"refused: {refused}", file=sys.stderr)
+        tell(f"refused: {refused}", sys.stderr)
     return 2

@@ -12,7 +12,7 @@ import re
 from pathlib import Path
 
 from wanekupo.standby.half import Half, Refused, tell
-from wanekupo.common.store_user import Store, UserError, read_small
+from wanekupo.common.store_user import MINUTE, Store, UserError, read_small
 from wanekupo.common.token_file import Tokens, TokenError, is_past, living, read, tokens_of
 from wanekupo.common.whole_file import put_whole
 
@@ -56,7 +56,7 @@ def leave(half: Half, tokens: Tokens) -> None:
     try:
         store = Store(half.folder / "books.db")
         try:
-            store.user.call(lambda: put_whole(half.folder / NOTE, text))
+            store.user.call(lambda: put_whole(half.folder / NOTE, text), seconds=MINUTE)
         finally:
             os.close(store.handle)
     except (UserError, OSError) as error:

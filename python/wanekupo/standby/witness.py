@@ -93,7 +93,7 @@ def owners_in(table: Path) -> dict[str, str]:
             raise TypeError
     except FileNotFoundError:
         return {}
-    except (ValueError, KeyError, TypeError, AttributeError):
+    except (ValueError, KeyError, TypeError, AttributeError, RecursionError):
         raise Refused(f'{table} has no table [folders] of lines as `pc7 = ["a1", "a2"]`: mend it.') from None
     if found.st_uid != 0 or found.st_mode & 0o022:
         raise Refused(f"Others than root can write {table}, which says whose a part may be: chown root, chmod go-w.")

@@ -50,7 +50,9 @@ from wanekupo.plant.restore.plan import (
     Customer, Requests, RestoreError, absolute, asked_of, check_customers, check_left_out, choose_seats, customers_of,
     named, requests_of_seats, tokens_at, told_of,
 )  # fmt: skip
-from wanekupo.common.store_user import Store, UserError
+from wanekupo.common.store_user import DAY, Store, UserError
+from wanekupo.common.store_user import shown as shown_lines
+from wanekupo.common.store_words import clean_words
 
 from wanekupo.common.errors import StationError
 from wanekupo.seat.journal import Journal
@@ -243,7 +245,7 @@ def run(args: argparse.Namespace) -> int:
     if args.stop:
         stop(args.stop)
     place.refuse_server(args.port)
-    return store.user.call(lambda: restored(args, place, customers, tokens, folders), told)
+    return store.user.call(lambda: restored(args, place, customers, tokens, folders), told, DAY)
 
 
 def restored(
@@ -303,6 +305,7 @@ def words() -> argparse.ArgumentParser:
 
 def main() -> int:
     args = words().parse_args()
+    clean_words()
     os.umask(0o077)
     for number in (signal.SIGTERM, signal.SIGINT, signal.SIGHUP):
         signal.signal(number, stopped)
@@ -316,7 +319,7 @@ def main() -> int:
         args.program = os.path.abspath(program)
         return run(args)
     except (StationError, RestoreError, BackupError, UserError, OSError) as error:
-        print(f"restore: {told(error)}", file=sys.stderr)
+        print(f"restore: {shown_lines(told(error))}", file=sys.stderr)
     if args.stop:
         print(f"restore: the unit {args.stop} stays stopped, where it was", file=sys.stderr)
     return REFUSED

@@ -175,7 +175,7 @@ def _sizes_of(source: Source) -> dict[Path, int]:
 def journals_in(source: Source, sizes: dict[Path, int], wanted: frozenset[str]) -> list[SeatJournal]:
     """The journals of a source, by their seats. A line may be of a seat that nobody wants, and is passed over."""
     found: dict[tuple[int, str], list[Placed]] = {}
-    groups = [(number, file) for number, group in enumerate(journals_of(sizes)) for file in group]
+    groups = [(number, file) for number, group in enumerate(journals_of(sizes, is_shipped=True)) for file in group]
     placed = ((number, file, it) for number, file in groups for it in _placed(file, sizes[file]))
     for count, (number, file, it) in enumerate(placed):
         _bound(source, count < MOST_LINES)

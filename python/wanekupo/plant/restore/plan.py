@@ -15,7 +15,8 @@ from pathlib import Path
 from typing import Any
 
 from wanekupo.plant.backup.copies import BackupError
-from wanekupo.common.token_file import Outer, TokenError, Tokens, read, tokens_of
+from wanekupo.common.store_user import UserError, read_small
+from wanekupo.common.token_file import Outer, TokenError, Tokens, check_folder, read, tokens_of
 from wanekupo.common.errors import StationError
 from wanekupo.seat.journal import Asked, requests_in, serials_of
 from wanekupo.seat.replays import tested_requests
@@ -82,7 +83,7 @@ def customers_of(site: Path) -> dict[str, Customer]:
             )
             for it in text["customer"]
         }
-    except (OSError, ValueError, KeyError, TypeError) as error:
+    except (OSError, ValueError, KeyError, TypeError, AttributeError, RecursionError) as error:
         raise RestoreError(f"{site} is no site file that can be read: {error}") from None
 
 
@@ -150,11 +151,12 @@ def tokens_at(path: Path) -> tuple[dict[str, str], list[Outer]]:
     tokens and certificates that haven't ended."""
     try:
         if path.is_dir():
-            return {it.stem: it.read_text(encoding="ascii").strip() for it in sorted(path.glob("*.token"))}, []
+            check_folder(path)
+            return {it.stem: read_small(it).decode("ascii").strip() for it in sorted(path.glob("*.token"))}, []
         text = read(path)
         tokens = tokens_of(text, path) if text else Tokens()
         return {it.seat: it.inner for it in tokens.seats.values()}, tokens.open_ones()
-    except (TokenError, OSError, ValueError) as error:
+    except (TokenError, UserError, OSError, ValueError) as error:
         raise RestoreError(str(error)) from None
 
 

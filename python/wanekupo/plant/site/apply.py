@@ -16,7 +16,7 @@ from pathlib import Path
 
 from wanekupo.plant.trial_copy import Backup
 from wanekupo.common.process import own_command
-from wanekupo.common.store_user import LONGEST, PLAIN, SMALL, UserError, shown
+from wanekupo.common.store_user import LONGEST, MINUTE, PLAIN, SMALL, UserError, shown
 from wanekupo.common.token_file import HEALTH, PREFIX, TokenError, alone, read, tokens_of
 from wanekupo.common.whole_file import sync
 
@@ -160,7 +160,7 @@ def tell_failed(place: Place, plan: Plan, said: str) -> None:
     place.service(place.args.stop)
     old = Path(plan.backup, "site.toml")
     try:
-        text = place.user.run("cat", "--", str(old)).stdout
+        text = place.user.run("cat", "--", str(old), seconds=MINUTE).stdout
         held = place.held_text([place.site, *([old] if text else [])])
         if held == text_in(place.site):
             told = f"The store holds the new text by now: start it with that alone, which is {place.site}."
@@ -278,7 +278,13 @@ def token_run(place: Place, wish: Wish, *words: str) -> None:
 
 def keep_with_backup(place: Place, plan: Plan) -> None:
     """The new text opens each backup of before, so it lies with the newest one."""
-    if plan.backup:
-        done = place.user.run("dd", "status=none", f"of={plan.backup}/site.grown.toml", given=text_in(place.site))
-        if done.returncode:
-            say(f"keep a copy of {place.site} with the backup {plan.backup}: {shown(done.stderr).strip()}")
+    if not plan.backup:
+        return
+    words = ("dd", "status=none", f"of={plan.backup}/site.grown.toml")
+    try:
+        done = place.user.run(*words, given=text_in(place.site), seconds=MINUTE)
+        told = shown(done.stderr).strip() if done.returncode else ""
+    except UserError as error:  # a pipe may lie there, which nobody reads
+        told = str(error)
+    if told:
+        say(f"keep a copy of {place.site} with the backup {plan.backup}: {told}")

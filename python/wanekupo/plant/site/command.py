@@ -40,7 +40,7 @@ from wanekupo.plant.site.place import Place, text_in
 from wanekupo.plant.site.plan import PREPARED, Plan, Wish, drop_plan, keep_plan, read_plan
 from wanekupo.plant.site.trials import checked, is_map, tested_growth, tested_others, tried_over_copy
 from wanekupo.common.store_user import ROOMS
-from wanekupo.common.token_file import HEALTH, TokenError, Tokens, alone, put, read, tokens_of
+from wanekupo.common.token_file import HEALTH, TokenError, Tokens, alone, check_folder, put, read, tokens_of
 from wanekupo.common.site_file import digest_of
 
 NAMED = "station-site"
@@ -91,6 +91,8 @@ def add_wishes(args: argparse.Namespace, place: Place, plan: Plan) -> None:
         is_without = args.no_token or seat == HEALTH
         if not is_without and not file.parent.is_dir():
             raise TokenError(1, f"{file.parent} is no folder for the token of {seat}: --to FOLDER")
+        if not is_without:
+            check_folder(file.parent)
         if not is_without and os.path.lexists(file):
             raise TokenError(1, f"{file} is there already, and would be the file of a new token: --to FOLDER")
         plan.add(Wish(seat, args.customer, "" if is_without else str(file), args.holder))

@@ -46,7 +46,7 @@ def read_plan(path: Path) -> Plan:
         return Plan(found["stage"], found["backup"], bool(found.get("is_tried")), found["others"], wishes)
     except FileNotFoundError:
         return Plan()
-    except (ValueError, KeyError, TypeError) as error:
+    except (ValueError, KeyError, TypeError, RecursionError) as error:
         raise TokenError(1, f"{path} isn't what this command writes: {error}") from None
 
 
