@@ -67,7 +67,7 @@ class Seals(Folder):
         (self.folder / "books.db").write_bytes(store.MAGIC)
         os.chown(self.folder, 990, 990)
         with self.assertRaisesRegex(UnsafeFile, "others than root write"):
-            store.Store(self.folder / "books.db")
+            store.StoreCopy(self.folder / "books.db")
 
     def test_rows_that_are_compressed(self):
         self.seal(ROW.encode(), 1)

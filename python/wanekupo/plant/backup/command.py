@@ -62,7 +62,7 @@ from wanekupo.plant.backup.folder import (
     LAST, LOCK, NEW, bytes_of, copy_off, last_snapshot, new_name, note, placed, remove_begun, sole_backup, tidy,
 )  # fmt: skip
 from wanekupo.plant.backup.snapshot import KINDS, SnapshotStaysError, snapshot, volume_of
-from wanekupo.common.store_user import DAY, MINUTE, Store, StoreUser, UserError, opened, shown, user_of
+from wanekupo.common.store_user import DAY, MINUTE, StoreFolder, StoreUser, UserError, opened, shown, user_of
 from wanekupo.common.store_words import clean_words
 from wanekupo.common.whole_file import opened_lock
 
@@ -221,7 +221,7 @@ def remove_left(args: argparse.Namespace, db: Path) -> None:
     args.taken = args.snapshot, args.snapshot_size
 
 
-def tested_user(store: Store, place: Path) -> StoreUser:
+def tested_user(store: StoreFolder, place: Path) -> StoreUser:
     """The store's user, whose the folder of what is made has to be, too."""
     with held_open(place) as handle:
         if os.fstat(handle).st_uid == store.user.number:
@@ -234,7 +234,7 @@ def run_snapshot(args: argparse.Namespace) -> None:
     """Root's part of what is made of a server that runs."""
     if os.geteuid():
         raise BackupError("a snapshot is root's: only it makes and mounts one")
-    store = Store(args.db)
+    store = StoreFolder(args.db)
     if not args.clean:
         store.size()
     args.volume = volume_of(args.snapshot, store.db, args.snapshot_size)
@@ -274,7 +274,7 @@ def stopped_by(args: argparse.Namespace) -> Callable[[Callable[[], None]], None]
     if os.geteuid() == 0:
         if {owner_of(Path(args.db).parent), owner_of(place)} == {0}:
             return lambda call: call()
-        store = Store(args.db)
+        store = StoreFolder(args.db)
         store.size()
         user = tested_user(store, place)
         return lambda call: done_as(user, call)
