@@ -29,7 +29,7 @@ from wanekupo.books.papers import given_twice, unasked
 from wanekupo.books.shift import Period
 from wanekupo.books.stamp import verified
 from wanekupo.books.steps import book_of
-from wanekupo.books.store_rows import Seat
+from wanekupo.books.store_rows import StoredSeat
 from wanekupo.common.errors import BadJournal
 from wanekupo.seat.journal import request_digest
 
@@ -70,7 +70,7 @@ class SeatCase(unittest.TestCase):
         return book_of([file])
 
     def store(self, number=0, chip="", path="/v1/ship"):
-        last = Seat("a1", "acme", number, request_digest(path, {"nr": number, "chip": chip}), "{}")
+        last = StoredSeat("a1", "acme", number, request_digest(path, {"nr": number, "chip": chip}), "{}")
         return SimpleNamespace(seats={"a1": last}, records=lambda _: [])
 
     def spans(self, books, store):
@@ -230,8 +230,8 @@ class Journals(SeatCase):
         """A journal without names is that of the seat whose last request it has with the highest number; one without a
         line is nobody's, and is passed over."""
         lines = [{name: it for name, it in line.items() if name != "seat"} for line in row(1, 2, "07")]
-        seats = {it.name: it for it in (Seat("a2", "acme", 1, lines[0]["digest"], "{}"),
-                                        Seat("b1", "bolt", 2, lines[2]["digest"], "{}"))}
+        seats = {it.name: it for it in (StoredSeat("a2", "acme", 1, lines[0]["digest"], "{}"),
+                                        StoredSeat("b1", "bolt", 2, lines[2]["digest"], "{}"))}
         store = SimpleNamespace(seats=seats)
         self.assertEqual(seated(self.book(lines), store).seat, "b1")
         self.assertEqual(list(_journal_faults([Seated(self.book([]), "", "", "")], store)), [])
@@ -256,7 +256,7 @@ class Journals(SeatCase):
 
     def test_a_seat_without_a_journal(self):
         """Its requests are told where it has more of them than entries."""
-        store = SimpleNamespace(seats={name: Seat(name, "acme", 8, "", "") for name in ("a1", "a2")})
+        store = SimpleNamespace(seats={name: StoredSeat(name, "acme", 8, "", "") for name in ("a1", "a2")})
         found = [it.told for it in _idle_faults({"a1", "a2"}, Counter(a1=8, a2=6), store)]
         self.assertEqual(len(found), 1)
         self.assertIn("2 of its 8 requests are of no device", found[0])

@@ -13,7 +13,7 @@ from types import SimpleNamespace
 
 import pytest
 from wanekupo.plant.restore import place as restore_place
-from wanekupo.plant.restore.place import Place, check_backup, check_folders, free_name, said_in
+from wanekupo.plant.restore.place import StorePlace, check_backup, check_folders, free_name, said_in
 from wanekupo.plant.restore.plan import RestoreError
 
 
@@ -23,7 +23,7 @@ def place(tmp_path):
     (tmp_path / "db").mkdir()
     (tmp_path / "db/books.db").write_text("OLD")
     (tmp_path / "db/books.db-wal").write_text("OLD LOG")
-    return Place(SimpleNamespace(db=tmp_path / "db/books.db", folder=tmp_path / "db"))
+    return StorePlace(SimpleNamespace(db=tmp_path / "db/books.db", folder=tmp_path / "db"))
 
 
 @pytest.fixture

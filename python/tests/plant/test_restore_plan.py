@@ -6,10 +6,10 @@ from pathlib import Path
 
 import pytest
 from wanekupo.plant.restore.plan import (
-    Customer, RestoreError, SeatJournal, asked_of, check_left_out, choose_seats, customers_of, named,
+    CustomerPlan, RestoreError, SeatJournal, asked_of, check_left_out, choose_seats, customers_of, named,
     requests_of_seats, standing, tokens_at,
 )  # fmt: skip
-from wanekupo.common.token_file import Outer, Seat, Tokens, text_of
+from wanekupo.common.token_file import Outer, TokenSeat, Tokens, text_of
 from wanekupo.common.errors import StationError
 
 AT = "2026-11-29T00:00:0{}Z"
@@ -29,7 +29,7 @@ def placed(*lines, file="f"):
 
 def customer(name="acme", seats=("a1",), tokens=None, journals=()):
     digests = {it: hashlib.sha256((tokens or {}).get(it, it).encode()).hexdigest() for it in seats}
-    return Customer(name, digests, True, [SeatJournal(*it) for it in journals])
+    return CustomerPlan(name, digests, True, [SeatJournal(*it) for it in journals])
 
 
 # What stands: the number, the digests, and whether the last of them is done.
@@ -170,7 +170,7 @@ def test_customers(tmp_path):
 
 
 def written(path, *outers, seats=("a1",)):
-    tokens = Tokens({it: Seat(it, "acme", f"inner-{it}") for it in seats}, list(outers))
+    tokens = Tokens({it: TokenSeat(it, "acme", f"inner-{it}") for it in seats}, list(outers))
     path.write_text(text_of(tokens), encoding="ascii")
     path.chmod(0o600)
     return path

@@ -12,7 +12,7 @@ from types import SimpleNamespace
 
 import pytest
 from wanekupo.common import store_user
-from wanekupo.common.store_user import Store, StoreUser, UserError, opened, user_named
+from wanekupo.common.store_user import StoreFolder, StoreUser, UserError, opened, user_named
 
 USER = StoreUser("station", 4242, 4243, "/home/station")
 
@@ -307,7 +307,7 @@ def store(tmp_path, monkeypatch):
         folder: SimpleNamespace(name="station", number=tmp_path.stat().st_uid))
     (tmp_path / "books.db").write_text("DB")
     (tmp_path / "books.db-wal").write_text("LOG")
-    return Store(tmp_path / "books.db")
+    return StoreFolder(tmp_path / "books.db")
 
 
 def test_the_sizes_of_a_store(store):

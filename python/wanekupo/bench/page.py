@@ -53,7 +53,7 @@ class Handler(http.server.BaseHTTPRequestHandler):
     protocol_version = "HTTP/1.1"
     server_version, sys_version = "wanekupo", ""
     timeout = 60
-    server: Server
+    server: PageServer
 
     def do_GET(self) -> None:
         path, _, query = self.path.partition("?")
@@ -126,7 +126,7 @@ class Handler(http.server.BaseHTTPRequestHandler):
         """The terminal is the screen's."""
 
 
-class Server(http.server.ThreadingHTTPServer):
+class PageServer(http.server.ThreadingHTTPServer):
     """Listens on this machine alone."""
 
     daemon_threads = True
@@ -159,7 +159,7 @@ class Page:
 
     def __init__(self, bench: Bench, port: int):
         try:
-            self._server = Server(bench, port)
+            self._server = PageServer(bench, port)
         except OSError as error:
             told = "End the other program, or give another --port."
             raise BadSettings(f"the port {port} of the page can't be had ({error.strerror})", told) from error

@@ -7,7 +7,7 @@ from dataclasses import dataclass, replace
 from datetime import timedelta
 from typing import Iterable, Optional
 
-from wanekupo.books.shift import Counts, Key, Shift
+from wanekupo.books.shift import OrderCounts, Key, ShiftReport
 from wanekupo.books.steps import named
 from wanekupo.seat.settings import Settings, looking_station_of
 from wanekupo.common.errors import NoReports
@@ -62,7 +62,7 @@ class Rest:
     told: str
 
 
-def rests(shift: Shift, left: dict[Key, int]) -> list[Rest]:
+def rests(shift: ShiftReport, left: dict[Key, int]) -> list[Rest]:
     """What is left of each order that the shift touched, and of those that are used up, the shortest first. Of a
     customer without a name the orders of any customer count, where only one has an order of that name."""
     found = []
@@ -81,7 +81,7 @@ def _rest_of(left: dict[Key, int], customer: str, order: str) -> Optional[int]:
     return others[0] if not customer and len(others) == 1 else None
 
 
-def _told(customer: str, order: str, rest: int, counts: Counts, hours: float) -> Rest:
+def _told(customer: str, order: str, rest: int, counts: OrderCounts, hours: float) -> Rest:
     """An order, with what is to be said of it: it has none left, or less than another shift like this one takes."""
     given = counts.identified
     lasts = rest * hours / given if given else None

@@ -49,7 +49,7 @@ def is_store(file: Path) -> bool:
         return source.read(len(MAGIC)) == MAGIC
 
 
-class Store:
+class StoreCopy:
     """A copy of a store, opened to be read."""
 
     def __init__(self, file: Path):
@@ -67,7 +67,7 @@ class Store:
             self.close()
             raise
 
-    def __enter__(self) -> Store:
+    def __enter__(self) -> StoreCopy:
         return self
 
     def __exit__(self, *_: Any) -> None:

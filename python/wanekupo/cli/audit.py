@@ -13,7 +13,7 @@ from wanekupo.books.matches import seated
 from wanekupo.books.pages import write
 from wanekupo.books.shift import Period, period_of
 from wanekupo.books.steps import Book, books_of, shipped_books
-from wanekupo.books.store import Store
+from wanekupo.books.store import StoreCopy
 from wanekupo.books.store_rows import Books
 from wanekupo.seat.command import Command
 from wanekupo.seat.settings import Settings
@@ -83,7 +83,7 @@ def _audit(_: Settings, args: argparse.Namespace) -> int:
     if signer and not args.html:
         raise BadSettings("there is no page to be signed", "Give --html FILE.")
     journals, period = _journals(args.journals, args.folders), period_of(args.from_time, args.to_time)
-    with Store(path) as store:
+    with StoreCopy(path) as store:
         books = Books(store)
         audit = audit_of(books, journals, period, text_of(datetime.now(timezone.utc)))
         behind = _behind(books, journals, period) if audit.found else ""

@@ -107,7 +107,7 @@ def read_small(path: Path, handle: int | None = None, most: int = SMALL) -> byte
     return data
 
 
-class Store:
+class StoreFolder:
     """A store's folder, which is held open, and its user. The store itself may not be there."""
 
     def __init__(self, db: str | Path):

@@ -45,7 +45,7 @@ class TokenError(Exception):
 
 
 @dataclass(frozen=True)
-class Seat:
+class TokenSeat:
     """A seat of a site file, with its inner token, and the address of its server, or the name of nginx's upstream."""
 
     seat: str
@@ -81,7 +81,7 @@ class Outer:
 
 @dataclass
 class Tokens:
-    seats: dict[str, Seat] = field(default_factory=dict)
+    seats: dict[str, TokenSeat] = field(default_factory=dict)
     outers: list[Outer] = field(default_factory=list)
 
     def open_ones(self) -> list[Outer]:
@@ -167,7 +167,7 @@ def tokens_of(text: str, path: Path, is_anew: bool = False) -> Tokens:
             if "number" in record:
                 tokens.outers.append(Outer(**record))
             else:
-                tokens.seats[record["seat"]] = Seat(**record)
+                tokens.seats[record["seat"]] = TokenSeat(**record)
         same = text_of(tokens) == text
     except (ValueError, TypeError, KeyError) as error:
         raise TokenError(1, f"{path} isn't what token writes: {error}") from None

@@ -36,7 +36,7 @@ def _kept(asked: Optional[Mapping[str, Any]]) -> Optional[dict[str, Any]]:
     return {**asked, "body": compact_json(redacted(members))}
 
 
-class State:
+class StateFile:
     """What a seat keeps, and which process has it. Without a file nothing is kept, and so nothing begun.
 
     Of the token it has the SHA-256: with another seat's its request would be another one, and might be done as that.

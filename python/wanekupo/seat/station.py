@@ -39,7 +39,7 @@ from wanekupo.seat.replies import (
     work_of,
 )
 from wanekupo.seat.rows import LONGEST_BODY, Rows, csv_of, parts_of
-from wanekupo.seat.state_file import State, members_of
+from wanekupo.seat.state_file import StateFile, members_of
 
 Self = TypeVar("Self", bound="Seat")
 
@@ -115,7 +115,7 @@ class Seat:
         self._journal, self._closes_journal = journal, closes_journal
         self._tell, self._tells_of_new_file = tell, tells_of_new_file
         self._turn = threading.RLock()
-        self._state = State(file, token)
+        self._state = StateFile(file, token)
         try:
             if not self._state.is_of_the_token() and not new_token:
                 told = "Name the seat's own file; or give --new-token where the token is a new one of the same seat."

@@ -60,7 +60,7 @@ from wanekupo.plant.backup.folder import (
     LAST, LOCK, NEW, bytes_of, copy_off, last_snapshot, new_name, note, placed, remove_begun, sole_backup, tidy,
 )  # fmt: skip
 from wanekupo.plant.backup.snapshot import KINDS, SnapshotStaysError, snapshot, volume_of
-from wanekupo.common.store_user import Store, StoreUser, UserError, opened, shown, user_of
+from wanekupo.common.store_user import StoreFolder, StoreUser, UserError, opened, shown, user_of
 from wanekupo.common.whole_file import opened_lock
 
 
@@ -205,7 +205,7 @@ def remove_left(args: argparse.Namespace, db: Path) -> None:
     args.taken = args.snapshot, args.snapshot_size
 
 
-def tested_user(store: Store, place: Path) -> StoreUser:
+def tested_user(store: StoreFolder, place: Path) -> StoreUser:
     """The store's user, whose the folder of what is made has to be, too."""
     with held_open(place) as handle:
         if os.fstat(handle).st_uid == store.user.number:
@@ -218,7 +218,7 @@ def run_snapshot(args: argparse.Namespace) -> None:
     """Root's part of what is made of a server that runs."""
     if os.geteuid():
         raise BackupError("a snapshot is root's: only it makes and mounts one")
-    store = Store(args.db)
+    store = StoreFolder(args.db)
     if not args.clean:
         store.size()
     args.volume = volume_of(args.snapshot, store.db, args.snapshot_size)
@@ -255,7 +255,7 @@ def stopped_by(args: argparse.Namespace) -> Callable[[Callable[[], None]], None]
     """How a store without a server is read and its backup written: root does both as the store's user."""
     folder = Path(args.db).parent
     if os.geteuid() == 0 and folder.exists() and folder.stat().st_uid:
-        store = Store(args.db)
+        store = StoreFolder(args.db)
         store.size()
         user = tested_user(store, args.into or args.folder.parent)
         return lambda call: done_as(user, call)

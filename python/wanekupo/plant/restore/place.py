@@ -26,7 +26,7 @@ from typing import Any
 
 from wanekupo.plant.backup.copies import ABOUT, FILES, digest_of_file, size_of
 from wanekupo.plant.restore.plan import RestoreError
-from wanekupo.common.store_user import Store
+from wanekupo.common.store_user import StoreFolder
 from wanekupo.common.whole_file import held, put_whole, sync
 
 HOST = "127.0.0.1"
@@ -73,10 +73,10 @@ def free_name(folder: Path, kind: str) -> Path:
     return path
 
 
-class Place:
+class StorePlace:
     """The place of a store, which may have no file."""
 
-    def __init__(self, store: Store):
+    def __init__(self, store: StoreFolder):
         self.db, self.folder = store.db, store.folder
         self.work = self.folder / "restoring"
         self.begun = self.folder / "restoring.json"
