@@ -49,7 +49,10 @@ class Words(StationCase):
         with mock.patch.object(io, "StringIO", Terminal):
             told = "\rrows: 0 of 501\rrows: 500 of 501\rrows: 501 of 501\n"
             self.assertEqual(self.ran(*words), (0, '{"added":0,"before":0,"present":501}\n', told))
-        for text, told in (("serial,key\n", "the first line isn't serial,key_sha256"), ("serial,key_sha256\n\nL1\n", "line 3 has 1 fields, and not 2")):
+        for text, told in (
+            ("serial,key\n", "the first line isn't serial,key_sha256"),
+            ("serial,key_sha256\n\nL1\n", "line 3 has 1 fields, and not 2"),
+        ):
             file.write_text(text, encoding="utf-8")
             self.assertEqual(self.ran(*words)[::2], (2, f"ValueError: {told}\n"))
 

@@ -1,4 +1,4 @@
-"""What each command of the project answers to --help, and that it leaves no bytecode beside itself: root runs it there."""
+"""What each command of the project answers to --help, and that it leaves no bytecode beside itself, where root runs it."""
 
 import os
 import shutil

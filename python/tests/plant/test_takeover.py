@@ -3,7 +3,6 @@
 import argparse
 import contextlib
 import os
-import sys
 from datetime import datetime, timezone
 from types import SimpleNamespace
 
