@@ -456,7 +456,7 @@ class Form(unittest.TestCase):
     def test_cards(self):
         """A card has nine points at most and then a command, alone, that is there."""
         cards = (ROOT / "docs/how-to/cards.md").read_text(encoding="utf-8").split("\n## ")[1:]
-        tokens = (ROOT / "python/bin/station-token").read_text(encoding="utf-8")
+        tokens = (ROOT / "python/wanekupo/plant/token.py").read_text(encoding="utf-8")
         for card in cards:
             name, _, body = card.partition("\n")
             *points, command = body.strip().split("\n\n")

@@ -39,7 +39,8 @@ from pathlib import Path
 from typing import Any
 
 
-from wanekupo.plant.backup.copies import BackupError, copy_store, counts_of, opened_by, said_of, told_if_full
+from wanekupo.common.errors import cause_of
+from wanekupo.plant.backup.copies import BackupError, copy_store, counts_of, opened_by, told_if_full
 from wanekupo.plant.restore.journals import half_of_memory, sources_of, take_journals
 from wanekupo.plant.restore.lost_store import (
     NEEDED, by_customer, contradictions, last_numbers, lost_copy, missing_rows, number_gaps, steps_of,
@@ -71,7 +72,7 @@ def say(*lines: str) -> None:
 
 def told(error: BaseException) -> str:
     """An error in a sentence."""
-    return told_of(error) if isinstance(error, StationError) else said_of(error)
+    return told_of(error) if isinstance(error, StationError) else cause_of(error)
 
 
 def stopped(number: int, _: object) -> None:
@@ -290,7 +291,7 @@ def words() -> argparse.ArgumentParser:
     parser.add_argument("--port", type=int, default=880, help="where a server would be listened to")
     parser.add_argument("--backups", type=Path, help="where the restored store is backed up; beside BACKUP without it")
     parser.add_argument("--without", default="", metavar="SEATS", help="seats of which nothing more is to be known")
-    of_customer = {"action": "append", "nargs": "?", "default": [], "const": "", "metavar": "CUSTOMER"}
+    of_customer: dict[str, Any] = {"action": "append", "nargs": "?", "default": [], "const": "", "metavar": "CUSTOMER"}
     said = "go on without this one's rows that no journal has; may come again"
     parser.add_argument("--accept-missing", help=said, **of_customer)
     parser.add_argument(
