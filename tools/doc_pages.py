@@ -10,7 +10,6 @@ from __future__ import annotations
 
 import os
 import re
-import subprocess
 import sys
 from pathlib import Path
 
@@ -45,9 +44,7 @@ def mended(page: str, text: str, known: frozenset[str]) -> str:
 
 
 def make(folder: Path) -> None:
-    words = ["git", "-C", str(TOP), "ls-files", "-z", "docs"]
-    names = subprocess.run(words, capture_output=True, check=True, text=True).stdout.split("\0")
-    known = frozenset(filter(None, names))
+    known = frozenset(str(it.relative_to(TOP)) for it in (TOP / "docs").rglob("*") if it.is_file())
     for name in sorted(known):
         target = folder / name
         target.parent.mkdir(parents=True, exist_ok=True)

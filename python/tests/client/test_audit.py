@@ -298,9 +298,9 @@ class Clocks(unittest.TestCase):
             ("behind, with numbers up to 4", [110, 210, 220, 230, 240], [1, 2, 3, 4]),
         ):
             with self.subTest(name):
-                steps = [step for _, step in paired(*(("a", abs(at)) for at in times))]
-                for step, at in zip(steps, times):
-                    step.is_lost = at < 0
+                steps = [it for _, it in paired(*(("a", abs(at)) for at in times))]
+                for it, at in zip(steps, times):
+                    it.is_lost = at < 0
                 own = SimpleNamespace(seat="a", book=SimpleNamespace(steps=steps))
                 period = Period(clock(100), clock(200))
                 self.assertEqual([it.line for it in steps if counts(own, it, store, period)], meant)

@@ -101,7 +101,6 @@ class Config(unittest.TestCase):
             with self.assertRaises(BadSettings):
                 settings_of({"config": str(folder / "none")}, {}, [])
 
-
     def test_a_token_that_strangers_may_read(self):
         """It is refused with what to type; the group of a service may read it."""
         with self.folder() as folder:

@@ -52,7 +52,8 @@ class Counts(unittest.TestCase):
         for place, (stays, *expected) in enumerate(CASES):
             with self.subTest(stays), contextlib.closing(BenchFiles(self.folder / str(place))) as kept:
                 for second, stay in enumerate(stays.split(", ")):
-                    at = mock.patch("wanekupo.bench.bench_files.now_text", return_value=f"2099-01-01T00:00:{second:02}Z")
+                    moment = f"2099-01-01T00:00:{second:02}Z"
+                    at = mock.patch("wanekupo.bench.bench_files.now_text", return_value=moment)
                     with at:
                         self.stay(kept, second, *stay.split())
                 shift = kept.shift()

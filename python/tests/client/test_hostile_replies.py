@@ -95,7 +95,7 @@ class Forms(unittest.TestCase):
             for place in places_in(reply):
                 for value in OTHERS:
                     is_none = value in ([], {}) and place[-1] in ("bits", "keys", "entries", "devices")
-                    is_none = is_none and type(value) is type(self.at(reply, place))
+                    is_none = is_none and isinstance(value, type(self.at(reply, place)))
                     self.assertEqual(is_taken(path, changed(reply, place, value)), is_none, (path, place, value))
             for name in reply.keys() - {"not_before"}:
                 self.assertFalse(is_taken(path, {it: reply[it] for it in reply if it != name}), (path, name))

@@ -426,7 +426,8 @@ class Form(unittest.TestCase):
         named = {name for it in asked for name in re.findall(r"\b(?:wanekupo|probe)_\w+|\bALERTS\b", it)}
         self.assertEqual(named - set(METRICS) - OTHERS, set())
         self.assertGreater(len(named), 20)
-        self.assertIn("wanekupo_restart_end_timestamp_seconds", (ROOT / "python/wanekupo/plant/restart.py").read_text(encoding="utf-8"))
+        restart = (ROOT / "python/wanekupo/plant/restart.py").read_text(encoding="utf-8")
+        self.assertIn("wanekupo_restart_end_timestamp_seconds", restart)
         pages = re.findall(r'page: "\{\{ \$externalLabels.docs \}\}([^#"]+)#([^"]+)"', rules)
         self.assertEqual(len(pages), rules.count("- alert:"))
         for page, section in pages:

@@ -248,7 +248,7 @@ def root(tmp_path, monkeypatch, calls):
         yield Path("/snap/books.db")
 
     monkeypatch.setattr(backup.os, "geteuid", lambda: 0)
-    monkeypatch.setattr(backup, "Store", lambda db: {"/db/books.db": store}[db])
+    monkeypatch.setattr(backup, "StoreFolder", lambda db: {"/db/books.db": store}[db])
     monkeypatch.setattr(backup, "tested_user", lambda it, place: calls.append(("tested", str(place))) or user)
     monkeypatch.setattr(backup, "sole_backup", held)
     monkeypatch.setattr(backup, "snapshot", snapshot)

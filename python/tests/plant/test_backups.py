@@ -15,7 +15,9 @@ import pytest
 from wanekupo.common import token_file
 from wanekupo.common import whole_file
 from wanekupo.plant.backup.copies import BackupError
-from wanekupo.plant.backup.folder import copy_off, encrypted, last_snapshot, new_name, note, placed, remove, remove_begun, tidy
+from wanekupo.plant.backup.folder import (
+    copy_off, encrypted, last_snapshot, new_name, note, placed, remove, remove_begun, tidy,
+)
 
 NAME = "2026-11-29T020000Z"
 

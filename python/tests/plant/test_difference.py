@@ -1,7 +1,9 @@
 """What one site gives more than another, by the table of a growth in docs/reference/files.md; what two may share."""
 
 import pytest
-from wanekupo.plant.site.difference import Customer, Given, counted, difference, given_of, joined, listed, of_pool, shared
+from wanekupo.plant.site.difference import (
+    Customer, Given, counted, difference, given_of, joined, listed, of_pool, shared,
+)
 from wanekupo.common.token_file import TokenError
 
 ONE, TWO, THREE, FOUR = ("%064x" % number for number in (0xA1, 2, 3, 4))

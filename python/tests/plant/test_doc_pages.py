@@ -2,7 +2,6 @@
 
 import re
 import sys
-from pathlib import Path
 
 from conftest import TOP
 

@@ -65,7 +65,8 @@ class Machine:
     """The half of beta, whose tokens' file has these lines; the other machine is alpha."""
 
     def __init__(self, folder, *lines):
-        tokens = Tokens({"a1": TokenSeat("a1", "acme", "inner", given=2), "b1": TokenSeat("b1", "bolt", "inner", given=2)})
+        a1, b1 = TokenSeat("a1", "acme", "inner", given=2), TokenSeat("b1", "bolt", "inner", given=2)
+        tokens = Tokens({"a1": a1, "b1": b1})
         for number, line in enumerate(lines, 1):
             name, mark, may, until = line.split()
             until = until.strip("-") and until

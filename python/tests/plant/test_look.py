@@ -194,7 +194,7 @@ def test_the_contents_of_a_half(monkeypatch, own, tmp_path):
     user = FakeUser()
     store = SimpleNamespace(handle=os.open(tmp_path, os.O_RDONLY), user=user, size=lambda: 1)
     monkeypatch.setattr(look, "mounted", mounted)
-    monkeypatch.setattr(look, "Store", lambda path: {tmp_path / "books.db": store}[path])
+    monkeypatch.setattr(look, "StoreFolder", lambda path: {tmp_path / "books.db": store}[path])
     monkeypatch.setattr(look, "user_named", lambda name: user)
     monkeypatch.setattr(look, "seats_of", lambda site: {"/etc/station/site.toml": ["a1", "b1"]}[site])
     monkeypatch.setattr(look.living, "listed", lambda handle: {"x"} if handle == store.handle else None)

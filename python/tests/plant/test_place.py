@@ -55,7 +55,8 @@ def test_the_line_of_what_is_no_text(tmp_path):
 
 def test_names(place, tmp_path):
     assert (place.next, place.plan) == (tmp_path / "site.next.toml", tmp_path / "site.growth")
-    assert place.token_words() == [str(TOP / "python/bin/station-token"), "--file", "/t/tokens.conf", "--no-reload", "--wait", "1 2"]
+    program = str(TOP / "python/bin/station-token")
+    assert place.token_words() == [program, "--file", "/t/tokens.conf", "--no-reload", "--wait", "1 2"]
 
 
 @pytest.mark.parametrize("found, has", [(None, False), ("/bin/P", True)])
@@ -224,7 +225,8 @@ def test_copy_running(monkeypatch, capsys, status, err, kind, told):
 
 def test_the_store_is_there(place, monkeypatch, tmp_path):
     sizes = []
-    monkeypatch.setattr(places, "Store", lambda db: SimpleNamespace(db=db, size=lambda: sizes.append(db), user="USER"))
+    made = lambda db: SimpleNamespace(db=db, size=lambda: sizes.append(db), user="USER")
+    monkeypatch.setattr(places, "StoreFolder", made)
     monkeypatch.setattr(places, "newest_backup", lambda user, folder: (user, folder))
     del place.store
     assert place.user == "USER" and sizes == [tmp_path / "books.db"] and place.newest_backup() == ("USER",

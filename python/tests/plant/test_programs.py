@@ -1,4 +1,4 @@
-"""What each command of the project answers to --help, and that it leaves no bytecode beside itself."""
+"""What each command of the project answers to --help, and that it leaves no bytecode beside itself, also as root."""
 
 import os
 import shutil

@@ -194,7 +194,7 @@ def test_service(monkeypatch, status):
 
 def ran(monkeypatch, is_active=True, reasons=("why",), needs=1, **more):
     calls = []
-    monkeypatch.setattr(restart, "Store", lambda db: FakeStore())
+    monkeypatch.setattr(restart, "StoreFolder", lambda db: FakeStore())
     monkeypatch.setattr(restart, "clear_rooms", lambda folder: calls.append("clear"))
     monkeypatch.setattr(restart, "service", lambda *words: calls.append(words[0]) or is_active)
     monkeypatch.setattr(restart, "read_metrics", lambda path: restart.Metrics(NOW, 5, 6, 7, needs))

@@ -347,8 +347,8 @@ def test_root_reads_the_tokens_and_stops_the_server_before_it_becomes_another(mo
 
     user = SimpleNamespace(call=lambda call, told, seconds: calls.append("as the user") or 3)
     place = SimpleNamespace(refuse_server=lambda port: calls.append(("server", port)))
-    monkeypatch.setattr(restore, "Store", lambda db: SimpleNamespace(db=db, user=user))
-    monkeypatch.setattr(restore, "Place", lambda store: place)
+    monkeypatch.setattr(restore, "StoreFolder", lambda db: SimpleNamespace(db=db, user=user))
+    monkeypatch.setattr(restore, "StorePlace", lambda store: place)
     for name, answer in {"customers_of": {}, "tokens_at": ({}, []), "folders_at": {}, "check_left_out": None,
         "stop": None}.items():
         monkeypatch.setattr(restore, name, noted(name, answer))

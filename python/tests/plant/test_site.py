@@ -289,7 +289,8 @@ def test_apply_of_nothing(place, capsys):
 def test_apply_looks_again(place, monkeypatch):
     """Somebody may have changed the text since: a seat that went gets no token, and a refused text isn't applied."""
     place.next.write_text(TEXT.replace('"acme-ca"', '"acme-ca", "n"'))
-    keep_plan(place.plan, GrowthPlan(wishes=[SeatWish("a1", "acme", "/t"), SeatWish("a2", "acme", "/u")], others=["/one.toml"]))
+    wishes = [SeatWish("a1", "acme", "/t"), SeatWish("a2", "acme", "/u")]
+    keep_plan(place.plan, GrowthPlan(wishes=wishes, others=["/one.toml"]))
     done = []
     monkeypatch.setattr(site, "apply", lambda it, plan: done.append(plan))
     site.apply_command(words("apply", "--other-site", "/two.toml"), place)

@@ -3,7 +3,6 @@
 import argparse
 import contextlib
 import os
-import sys
 from datetime import datetime, timezone
 from types import SimpleNamespace
 
@@ -318,7 +317,7 @@ def left(monkeypatch, tmp_path, now, error=None):
     own.folder = tmp_path
     user = SimpleNamespace(call=lambda call, seconds: calls.append("as the user") or call())
     handle = os.open(tmp_path, os.O_RDONLY)
-    monkeypatch.setattr(living, "Store", lambda db: {tmp_path / "books.db": SimpleNamespace(user=user,
+    monkeypatch.setattr(living, "StoreFolder", lambda db: {tmp_path / "books.db": SimpleNamespace(user=user,
         handle=handle)}[db])
     monkeypatch.setattr(living, "living", lambda tokens: ["a", "b"])
 

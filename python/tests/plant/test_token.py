@@ -27,7 +27,9 @@ def args_of(*words):
 
 
 def tokens_with(*outers):
-    made = Tokens({"a1": TokenSeat("a1", "acme", "inner-of-a1", given=9), "b1": TokenSeat("b1", "bolt", "inner-of-b1", given=9)})
+    made = Tokens({
+        "a1": TokenSeat("a1", "acme", "inner-of-a1", given=9), "b1": TokenSeat("b1", "bolt", "inner-of-b1", given=9),
+    })
     made.outers = list(outers)
     return made
 

@@ -253,7 +253,7 @@ def test_a_folder_that_others_write_is_refused(file, mode, is_fit):
 
 
 def test_titles():
-    found = [TokenSeat("a1", "acme", "x").title(), TokenSeat("@manager", "@manager", "x").title(), TokenSeat("@b", "@b", "x").title()]
+    found = [TokenSeat(seat, of, "x").title() for seat, of in (("a1", "acme"), ("@manager", "@manager"), ("@b", "@b"))]
     assert found == ["the seat a1 of acme", "the manager's seat @manager", "the manager's seat @b"]
 
 
@@ -311,7 +311,8 @@ def test_a_number_and_a_name_are_never_given_again(file):
 
 
 def with_outers(file, *outers):
-    tokens = seats(TokenSeat("a1", "acme", "abc", given=9), TokenSeat("a", "acme", "x"), TokenSeat("b1", "bolt", "hello", given=9))
+    a1, b1 = TokenSeat("a1", "acme", "abc", given=9), TokenSeat("b1", "bolt", "hello", given=9)
+    tokens = seats(a1, TokenSeat("a", "acme", "x"), b1)
     tokens.outers = list(outers)
     put(file, text_of(tokens))
 
@@ -376,9 +377,11 @@ def test_inner(file, tmp_path, capsys):
     ((TokenSeat("a1", "acme", "abc"), TokenSeat("b1", "bolt", "hello"), TokenSeat("@manager", "@manager", "test")), ""),
     ((TokenSeat("a1", "acme", "abc"), TokenSeat("b1", "bolt", "hello")), "@manager"),
     ((TokenSeat("a1", "acme", "abc"), TokenSeat("b1", "bolt", "xx"), TokenSeat("@manager", "@manager", "test")), "b1"),
-    ((TokenSeat("a1", "acme", "abc"), TokenSeat("b1", "bolt", "hello"), TokenSeat("c1", "acme", "xx"), TokenSeat("@m", "@m", "test")),
+    ((TokenSeat("a1", "acme", "abc"), TokenSeat("b1", "bolt", "hello"), TokenSeat("c1", "acme", "xx"),
+      TokenSeat("@m", "@m", "test")),
      "c1"),
-    ((TokenSeat("a1", "bolt", "abc"), TokenSeat("b1", "bolt", "hello"), TokenSeat("@manager", "@manager", "test")), "a1"),
+    ((TokenSeat("a1", "bolt", "abc"), TokenSeat("b1", "bolt", "hello"), TokenSeat("@manager", "@manager", "test")),
+     "a1"),
 ])  # fmt: skip
 def test_check(file, tmp_path, capsys, made, told):
     (tmp_path / "site.toml").write_text(SITE)

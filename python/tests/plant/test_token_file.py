@@ -10,7 +10,9 @@ from types import SimpleNamespace
 import pytest
 from conftest import DEPLOY
 from wanekupo.common import token_file
-from wanekupo.common.token_file import PREFIX, Outer, TokenSeat, TokenError, Tokens, is_past, later_than, living, mark_of, read, text_of
+from wanekupo.common.token_file import (
+    PREFIX, Outer, TokenError, TokenSeat, Tokens, is_past, later_than, living, mark_of, read, text_of,
+)  # fmt: skip
 from wanekupo.common.token_file import tokens_of as parsed
 
 CONF = (DEPLOY / "nginx.conf").read_text(encoding="utf-8")
@@ -81,7 +83,8 @@ def outer(number, seat, **more):
 def sample():
     """Two seats of two customers: one that may all, one that looks, one that ends, one that has ended, certificates."""
     tokens = Tokens()
-    tokens.seats = {"a1": TokenSeat("a1", "acme", "inner-of-a1"), "b1": TokenSeat("b1", "bolt", "inner-of-b1", "127.0.0.1:881")}
+    a1, b1 = TokenSeat("a1", "acme", "inner-of-a1"), TokenSeat("b1", "bolt", "inner-of-b1", "127.0.0.1:881")
+    tokens.seats = {"a1": a1, "b1": b1}
     tokens.outers = [
         outer(1, "a1"),
         outer(2, "a1", looks=True),

@@ -3,7 +3,6 @@
 import re
 import tomllib
 from datetime import datetime, timedelta, timezone
-from pathlib import Path
 from types import SimpleNamespace
 
 import pytest

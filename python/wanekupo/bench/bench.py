@@ -17,7 +17,9 @@ from dataclasses import replace
 from pathlib import Path
 from typing import Callable, Iterator, Mapping, Optional, TypeVar
 
-from wanekupo.bench.board import MOST_LAST, PASSED, WORKING, Board, ShiftCounts, Socket, begun_socket, ended_socket, in_common
+from wanekupo.bench.board import (
+    MOST_LAST, PASSED, WORKING, Board, ShiftCounts, Socket, begun_socket, ended_socket, in_common,
+)  # fmt: skip
 from wanekupo.bench.old_folders import clear_old
 from wanekupo.seat.settings import Settings, changed, looking_station_of, station_of
 from wanekupo.bench.endings import STOP, Ended, ended_by

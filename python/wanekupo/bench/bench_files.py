@@ -24,7 +24,8 @@ from typing import Any, Iterator, Mapping, Optional
 from wanekupo.bench.board import FAILED, PASSED, Before, Failure, ShiftCounts, Socket, state_of
 from wanekupo.bench.endings import ENDINGS, NO_LABEL, Ended
 from wanekupo.common.errors import BadStateFile
-from wanekupo.common.files import locked, opened_lock, opened_own, removed_folder, replace_file, synced_folder, tested_folder
+from wanekupo.common.files import locked, opened_lock, opened_own, removed_folder
+from wanekupo.common.files import replace_file, synced_folder, tested_folder
 from wanekupo.common.texts import compact_json
 
 
@@ -166,7 +167,8 @@ class BenchFiles:
         with self._turn:
             found = self._data["shift"]
             row = tuple(Failure(**it) for it in found["row"])
-            return ShiftCounts(found["since"], int(found["passed"]), dict(found["failed"]), row, int(found.get("first", 0)))
+            passed, first = int(found["passed"]), int(found.get("first", 0))
+            return ShiftCounts(found["since"], passed, dict(found["failed"]), row, first)
 
     # Who works here, by the badge that was scanned last.
 

@@ -153,7 +153,7 @@ class Board:
         self._product, self._order, self._start = product, order, start
         self._steps, self._operator, self._last = list(steps), operator, list(last)[:MOST_LAST]
         self._sockets = {it.name: it for it in sockets}
-        self._shift, self._rest = shift, None  # type: tuple[Shift, Optional[int]]
+        self._shift, self._rest = shift, None  # type: tuple[ShiftCounts, Optional[int]]
         self._away: Optional[tuple[float, str]] = None
         self._stopped, self._notice, self._version = "", "", 0
         self._question: Optional[Mapping[str, Any]] = None

@@ -177,4 +177,3 @@ def _fitting(entry: LedgerRow, steps: list[Told]) -> Optional[int]:
     of_seat = (place for place, it, _ in same if it.seat == entry.row["seat"])
     of_note = (place for place, _, step in same if step.note == entry.row["note"])
     return next(of_seat, next(of_note, None))
-

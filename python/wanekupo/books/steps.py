@@ -1,7 +1,7 @@
 """What journals say, read by who judges them: each request with its place, its times and its reply, and what is wrong.
 
-`wanekupo.seat.journal` reads the same lines for a restore, and stops at the first one that isn't right. Here such a line is
-something that was found: it is named, and what stands around it counts.
+`wanekupo.seat.journal` reads the same lines for a restore, and stops at the first one that isn't right. Here such a
+line is something that was found: it is named, and what stands around it counts.
 """
 
 from __future__ import annotations

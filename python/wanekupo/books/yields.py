@@ -48,6 +48,7 @@ LOOKS = (
     Look("scrapped", "#404040", "#ffffff", "M0 0L8 8M0 8L8 0"),
 )
 
+
 def patterns() -> Iterator[str]:
     """The tiles of all states for an SVG, by the names that `fill` refers to."""
     for look in LOOKS:

@@ -130,8 +130,10 @@ def parser() -> argparse.ArgumentParser:
     subparsers = made.add_subparsers(dest="command", metavar="COMMAND")
     common = _common(False)
     for row in COMMANDS:
-        texts = {"help": row.said, "description": f"{row.said}{row.more}", "epilog": _epilog(row.name)}
-        one = subparsers.add_parser(row.name, parents=[common], allow_abbrev=False, **texts)
+        one = subparsers.add_parser(
+            row.name, parents=[common], allow_abbrev=False, help=row.said,
+            description=f"{row.said}{row.more}", epilog=_epilog(row.name),
+        )
         row.add_arguments(one)
         one.set_defaults(run=row.run)
     return made

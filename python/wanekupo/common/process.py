@@ -20,8 +20,8 @@ def own_command(name: str) -> str:
 
 
 def end_tool(name: str, call: Callable[[], object]) -> int:
-    """The status of a tool: 0 behind its call, else the error's own, with the cause in words behind the tool's name. Root
-    leaves out first what led it elsewhere (`clean_words`)."""
+    """The status of a tool: 0 behind its call, else the error's own, with the cause in words behind the tool's name.
+    Root leaves out first what led it elsewhere (`clean_words`)."""
     clean_words()
     try:
         call()

@@ -103,7 +103,8 @@ def request_in(spool: Path, serial: str) -> Optional[CertificateRequest]:
         public_key = public_key_of(csr=data)
         x509 = library("x509")
         load = x509.load_pem_x509_csr if b"-----BEGIN" in data else x509.load_der_x509_csr
-        return CertificateRequest(load(data).public_bytes(library("hazmat.primitives.serialization").Encoding.DER), public_key)
+        der = library("hazmat.primitives.serialization").Encoding.DER
+        return CertificateRequest(load(data).public_bytes(der), public_key)
     except BadKey as error:
         told = "Don't go on with it: bring it from the bench's spool again. A device that is shipped makes no other."
         raise BadKey(f"{file} can't be used: {error}", told) from error

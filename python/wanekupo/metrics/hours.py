@@ -12,7 +12,7 @@ DAY = 24 * 60
 
 
 @dataclass(frozen=True)
-class Shift:
+class ShiftHours:
     """On these days of the week, 0 for Monday, from a minute of the day until another one. Where the end isn't behind
     the beginning the shift ends on the next day."""
 
@@ -26,7 +26,7 @@ class Shift:
         return is_today or minute < self.end - DAY and (moment.weekday() - 1) % 7 in self.days
 
 
-def shift_of(text: str) -> Shift:
+def shift_of(text: str) -> ShiftHours:
     """As `Mon-Fri 06:00-14:00`, `Sat 06:00-12:00` or `Sun-Thu 22:00-06:00`."""
     found = HOURS.fullmatch(text)
     names = [it for it in (found[1], found[2] or found[1]) if it in DAYS] if found else []
@@ -37,4 +37,4 @@ def shift_of(text: str) -> Shift:
     start, end = 60 * int(found[3]) + int(found[4]), 60 * int(found[5]) + int(found[6])
     if end > DAY:
         raise ValueError(f"{text!r} ends behind 24:00")
-    return Shift(days, start, end if end > start else end + DAY)
+    return ShiftHours(days, start, end if end > start else end + DAY)

@@ -241,7 +241,8 @@ def whole(path: str) -> Path:
 
 def words() -> argparse.ArgumentParser:
     made = argparse.ArgumentParser(
-        prog="restart", description=__doc__, formatter_class=argparse.RawDescriptionHelpFormatter, allow_abbrev=False
+        prog="station-restart", description=__doc__, allow_abbrev=False,
+        formatter_class=argparse.RawDescriptionHelpFormatter,
     )
     kind = made.add_mutually_exclusive_group()
     kind.add_argument("--check", action="store_true", help="change nothing")

@@ -44,8 +44,8 @@ from wanekupo.common.process import end_tool
 from wanekupo.standby import living
 from wanekupo.standby.half import SETTINGS, Half, StandbyError, read_settings
 from wanekupo.common.token_file import (
-    HEALTH, LAST, MINUTE, PREFIX, Outer, TokenSeat, TokenError, Tokens, alone, check_folder, inner_of, is_past, mark_of, now,
-    put, read, text_of, tokens_of,
+    HEALTH, LAST, MINUTE, PREFIX, Outer, TokenError, Tokens, TokenSeat, alone, check_folder, inner_of, is_past,
+    mark_of, now, put, read, text_of, tokens_of,
 )  # fmt: skip
 from wanekupo.common.site_file import digest_of, digests_of, grown, is_in, lines_of
 from wanekupo.common.whole_file import make_file, put_whole

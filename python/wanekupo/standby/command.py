@@ -22,14 +22,15 @@ COMMANDS = {
     "fence-peer": fence_peer.main,
     "is-mounted": is_mounted.main,
 }
+USAGE = f"usage: station-standby {{{','.join(COMMANDS)}}} .."
 
 
 def main() -> int:
     name, words = (sys.argv[1] if len(sys.argv) > 1 else ""), sys.argv[2:]
     if name in ("-h", "--help"):
-        print(__doc__)
+        print(f"{USAGE}\n\n{__doc__}")
         return 0
     if name not in COMMANDS:
-        print(f"usage: station-standby {{{','.join(COMMANDS)}}} ..", file=sys.stderr)
+        print(USAGE, file=sys.stderr)
         return 2
     return COMMANDS[name](words)

@@ -160,7 +160,8 @@ def alone_at_work() -> Iterator[None]:
         try:
             fcntl.flock(lock, fcntl.LOCK_EX | fcntl.LOCK_NB)
         except BlockingIOError:
-            raise StandbyError("Another `takeover` or `stepdown` is at work on this machine: wait until it ends.") from None
+            message = "Another `takeover` or `stepdown` is at work on this machine: wait until it ends."
+            raise StandbyError(message) from None
         yield
 
 
@@ -229,7 +230,8 @@ class Half:
         if os.path.ismount(self.folder):
             if device.exists() and self.folder.stat().st_dev == device.stat().st_rdev:
                 return True
-            raise StandbyError(f"{where} another volume than {device}: unmount it, and take its line out of /etc/fstab.")
+            advice = "unmount it, and take its line out of /etc/fstab."
+            raise StandbyError(f"{where} another volume than {device}: {advice}")
         if left := [path.name for path in self.folder.iterdir() if path.name != "lost+found"]:
             told = "Look whose they are, and move them away, so that nothing but the half is ever there."
             raise StandbyError(f"{where} files, {' and '.join(sorted(left)[:3])}, and {device} isn't mounted. {told}")

@@ -13,7 +13,9 @@ import time
 from collections.abc import Sequence
 
 
-from wanekupo.standby.half import Half, StandbyError, done, ended, give_word, read_settings, run, take_word, tell, waited_for
+from wanekupo.standby.half import (
+    Half, StandbyError, done, ended, give_word, read_settings, run, take_word, tell, waited_for,
+)  # fmt: skip
 
 
 # How long DRBD's handler may take to hear it, if it waits.

@@ -75,7 +75,8 @@ def shut_out(half: Half, named: str | None) -> None:
         tell(f"{other} is off, by your word")
     else:
         told = f"See that {other} has no power, and that it stays so. Then type `takeover --other-is-off {other}` again"
-        raise StandbyError(f"The two aren't connected ({half.state()}), and nobody knows whether {other} is off. {told}.")
+        state = half.state()
+        raise StandbyError(f"The two aren't connected ({state}), and nobody knows whether {other} is off. {told}.")
 
 
 def tested_contents(half: Half, args: argparse.Namespace, since: datetime | None) -> None:

@@ -53,7 +53,8 @@ def moments_of(lines: list[str], name: str) -> list[datetime]:
         elif not SEAT.fullmatch(line):
             raise StandbyError(f"{name} has the line `{line[:80]}`, which is neither `at TIME` nor `seat NAME NUMBER`.")
         elif not found:
-            raise StandbyError(f"{name} has no line as `at 2026-11-29T09:00:00Z` in front, so nobody knows of when it is.")
+            lack = "has no line as `at 2026-11-29T09:00:00Z` in front, so nobody knows of when it is."
+            raise StandbyError(f"{name} {lack}")
     return found
 
 
@@ -96,7 +97,8 @@ def owners_in(table: Path) -> dict[str, str]:
     except (ValueError, KeyError, TypeError, AttributeError, RecursionError):
         raise StandbyError(f'{table} has no table [folders] of lines as `pc7 = ["a1", "a2"]`: mend it.') from None
     if found.st_uid != 0 or found.st_mode & 0o022:
-        raise StandbyError(f"Others than root can write {table}, which says whose a part may be: chown root, chmod go-w.")
+        danger = "which says whose a part may be: chown root, chmod go-w."
+        raise StandbyError(f"Others than root can write {table}, {danger}")
     return owners
 
 

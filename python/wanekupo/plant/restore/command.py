@@ -47,8 +47,8 @@ from wanekupo.plant.restore.lost_store import (
 )  # fmt: skip
 from wanekupo.plant.restore.place import StorePlace, check_backup, check_folders, free_name, served
 from wanekupo.plant.restore.plan import (
-    CustomerPlan, Requests, RestoreError, absolute, asked_of, check_customers, check_left_out, choose_seats, customers_of,
-    named, requests_of_seats, tokens_at, told_of,
+    CustomerPlan, Requests, RestoreError, absolute, asked_of, check_customers, check_left_out, choose_seats,
+    customers_of, named, requests_of_seats, tokens_at, told_of,
 )  # fmt: skip
 from wanekupo.common.store_user import DAY, StoreFolder, UserError
 from wanekupo.common.store_user import shown as shown_lines
@@ -124,7 +124,8 @@ def copy_in(args: argparse.Namespace, place: StorePlace, about: dict[str, Any]) 
 
 
 def hold_against_lost(
-    args: argparse.Namespace, place: StorePlace, customers: list[CustomerPlan], requests: dict[str, Requests], counts: list[str]
+    args: argparse.Namespace, place: StorePlace, customers: list[CustomerPlan],
+    requests: dict[str, Requests], counts: list[str],
 ) -> Path | None:
     """Holds the journals against the lost store, where its files are there. What comes back is a copy of it."""
     if place.state().get("lost"):
@@ -249,7 +250,8 @@ def run(args: argparse.Namespace) -> int:
 
 
 def restored(
-    args: argparse.Namespace, place: StorePlace, customers: dict[str, CustomerPlan], tokens: dict[str, str], folders: Folders
+    args: argparse.Namespace, place: StorePlace, customers: dict[str, CustomerPlan],
+    tokens: dict[str, str], folders: Folders,
 ) -> int:
     """All of it, from what an earlier run left to the store's name."""
     place.refuse_links()
@@ -290,7 +292,7 @@ def words() -> argparse.ArgumentParser:
     parser.add_argument("--port", type=int, default=880, help="where a server would be listened to")
     parser.add_argument("--backups", type=Path, help="where the restored store is backed up; beside BACKUP without it")
     parser.add_argument("--without", default="", metavar="SEATS", help="seats of which nothing more is to be known")
-    of_customer = {"action": "append", "nargs": "?", "default": [], "const": "", "metavar": "CUSTOMER"}
+    of_customer: dict[str, Any] = {"action": "append", "nargs": "?", "default": [], "const": "", "metavar": "CUSTOMER"}
     said = "go on without this one's rows that no journal has; may come again"
     parser.add_argument("--accept-missing", help=said, **of_customer)
     parser.add_argument(

@@ -39,6 +39,7 @@ KEPT_INNER = frozenset(("nr", "chip", "public_key", "text", "csv", *ORDER, "mac"
 MOST_MEMBERS = 64
 NOTHING: dict[str, Any] = {}
 
+
 @dataclass(frozen=True)
 class Source:
     """Where journals lie, and the seats that they may be of. Where a person says whose they are it is the customer's
@@ -47,9 +48,6 @@ class Source:
     path: Path
     seats: frozenset[str]
     customer: str = ""
-
-
-# Where journals are.
 
 
 def sources_of(words: Iterable[str], customers: dict[str, CustomerPlan], folders: Folders, at: Path) -> list[Source]:

@@ -169,7 +169,9 @@ def check_customers(option: str, names: Iterable[str], customers: Collection[str
             raise RestoreError(f"{option} {name}: the site file has no such customer")
 
 
-def check_left_out(left_out: Iterable[str], customers: dict[str, CustomerPlan], outers: Iterable[Outer], at: Path) -> None:
+def check_left_out(
+    left_out: Iterable[str], customers: dict[str, CustomerPlan], outers: Iterable[Outer], at: Path
+) -> None:
     """Refuses to leave a customer out whose stations could go on: a store that doesn't know what they were given would
     give it once more. They can't without an outer token, which ends by `station-token revoke`."""
     check_customers("--leave-out", left_out, customers)
