@@ -38,10 +38,16 @@ def test_root_has_clean_words(monkeypatch: pytest.MonkeyPatch) -> None:
         assert fake.environ == kept
 
 
-TOOLS = ["backup", "restore", "restart", "site", "token", "standby/half.py", "standby/fence-peer"]
+TOOLS = ["plant/backup/command", "plant/restore/command", "common/process", "standby/half", "standby/fence_peer"]
 
 
 @pytest.mark.parametrize("name", TOOLS)
 def test_each_tool_cleans_its_words(name: str) -> None:
-    text = (Path(store_words.__file__).parent / name).read_text(encoding="utf-8")
+    text = (Path(store_words.__file__).parents[1] / f"{name}.py").read_text(encoding="utf-8")
     assert text.count("    clean_words()\n") == 1
+
+
+@pytest.mark.parametrize("name", ["restart", "site/command", "token"])
+def test_the_others_end_by_what_cleans_them(name: str) -> None:
+    text = (Path(store_words.__file__).parents[1] / f"plant/{name}.py").read_text(encoding="utf-8")
+    assert text.count("    return end_tool(") == 1

@@ -57,7 +57,7 @@ def _add_times(parser: argparse.ArgumentParser) -> None:
 
 def _add_lost(parser: argparse.ArgumentParser) -> None:
     _add_journals(parser)
-    _add_times(parser, required=False)
+    _add_times(parser)
     add_folders(parser)
     parser.add_argument("--csv", metavar="FILE", help="write it as comma-separated values too")
     parser.add_argument("--json", action="store_true", help="a line of JSON each, in place of a table")
