@@ -10,11 +10,11 @@ import subprocess
 import sys
 import time
 
-import lives
-from goals import tell
-from program import Program, send
-from registrations import MAP, blocks_of, request
-from tokens_place import ROOT, Place
+from common import lives
+from common.goals import tell
+from common.program import Program, send
+from common.registrations import MAP, blocks_of, request
+from common.tokens_place import ROOT, Place
 
 # Customers by their seats' names and inner tokens, with a pool each.
 SEATS = {"a1": ("acme", "abc"), "b1": ("bolt", "hello")}

@@ -17,7 +17,7 @@ import subprocess
 from dataclasses import dataclass
 from pathlib import Path
 
-from chip import ROOT, SITE, Failed
+from common.chip import ROOT, SITE, Failed
 
 TOOL = ROOT / "python/bin/station-site"
 

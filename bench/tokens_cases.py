@@ -10,7 +10,7 @@ import tomllib
 from concurrent.futures import ThreadPoolExecutor
 from pathlib import Path
 
-from tokens_place import INNER, ROOT, ran, refusal
+from common.tokens_place import INNER, ROOT, ran, refusal
 
 FORM = r"wanekupo_[0-9a-f]{64}"
 ORDER = "/v1/order?name=none"

@@ -7,9 +7,9 @@ import struct
 import time
 from concurrent.futures import ThreadPoolExecutor
 
-from served import HOST
+from common.served import HOST
 from tokens_cases import ASKING, LATER, NO_ORDER, ORDER, STRANGER, by, client_of, seats, told, until, working
-from tokens_place import CERTIFICATES, CONF, INNER, ROOT, ran, refusal
+from common.tokens_place import CERTIFICATES, CONF, INNER, ROOT, ran, refusal
 
 
 def certificates(place, tried):

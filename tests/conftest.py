@@ -10,7 +10,7 @@ from pathlib import Path
 
 import pytest
 
-from common.needs import TOP, missing
+from common.needs import ROOT, missing
 from common.ports import free_port
 
 # What each marker takes of a machine.
@@ -24,7 +24,7 @@ TAKEN = {
 
 def pytest_addoption(parser: pytest.Parser) -> None:
     group = parser.getgroup("station", "the program, and how much is tried")
-    default = os.environ.get("STATION_PROGRAM", TOP / "crates/station/out/station")
+    default = os.environ.get("STATION_PROGRAM", ROOT / "crates/station/out/station")
     group.addoption("--program", type=Path, default=Path(default), help="the built program")
     group.addoption("--size", type=int, help="how many chips, kills, devices or requests, where a test has sizes")
     group.addoption("--seed", type=int, default=7, help="of random choices")
@@ -100,4 +100,4 @@ def port() -> int:
 @pytest.fixture
 def site(tmp_path: Path) -> Path:
     """A copy of the sample's site in a folder of its own: acme's seat a1 has the token abc, bolt's seat b1 hello."""
-    return Path(shutil.copy(TOP / "crates/station/data/site.toml", tmp_path / "site.toml"))
+    return Path(shutil.copy(ROOT / "crates/station/data/site.toml", tmp_path / "site.toml"))

@@ -7,7 +7,7 @@ import subprocess
 from collections.abc import Callable, Iterable
 from pathlib import Path
 
-TOP = Path(__file__).resolve().parents[2]
+ROOT = Path(__file__).resolve().parents[2]
 
 # With root, nothing that a script started or mounted is there behind it, however it ended. The shell takes the ends of
 # what it left.
@@ -38,7 +38,7 @@ def may_mount() -> bool:
 @functools.cache
 def may_be_read() -> bool:
     """Whether another user than root may read this repository, as whom root runs some commands."""
-    words = ["--reuid=65534", "--regid=65534", "--clear-groups", "test", "-r", str(TOP / "check")]
+    words = ["--reuid=65534", "--regid=65534", "--clear-groups", "test", "-r", str(ROOT / "check")]
     return not is_root() or succeeds("setpriv", *words)
 
 

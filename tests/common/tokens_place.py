@@ -10,9 +10,9 @@ import threading
 import time
 from pathlib import Path
 
-from served import HOST, Server, station
+from common.needs import ROOT
+from common.served import HOST, Server, station
 
-ROOT = Path(__file__).resolve().parent.parent
 TOOL, CONF = ROOT / "python/bin/station-token", ROOT / "deploy/nginx.conf"
 SITE, CERTIFICATES = ROOT / "crates/station/data/site.toml", ROOT / "deploy/nginx-certificates.conf"
 
