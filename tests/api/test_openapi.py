@@ -99,9 +99,9 @@ def test_the_first_chip(description, program):
         for block in BLOCK.findall((ROOT / "docs/tutorial/first-chip.md").read_text(encoding="utf-8")):
             for step in steps_of(block):
                 shell.reply(step.lines)
-        lines = record.read_text(encoding="utf-8").splitlines()
-        assert len(lines) > 8
-        for line in lines:
+        records = record.read_text(encoding="utf-8").splitlines()
+        assert len(records) > 8
+        for line in records:
             url, data, lines, text = json.loads(line)
             parts = urlsplit(url)
             target = parts.path + (f"?{parts.query}" if parts.query else "")
