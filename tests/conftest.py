@@ -45,9 +45,10 @@ def pytest_generate_tests(metafunc: pytest.Metafunc) -> None:
     marker, chosen = metafunc.definition.get_closest_marker("sizes"), metafunc.config.option.size
     if marker and chosen is None:
         short, *long = marker.args
-        metafunc.parametrize("size", [short, *(pytest.param(it, marks=pytest.mark.slow) for it in long)])
+        sizes = [short, *(pytest.param(it, marks=pytest.mark.slow) for it in long)]
+        metafunc.parametrize("size", sizes, scope="module")
     elif marker:
-        metafunc.parametrize("size", [chosen])
+        metafunc.parametrize("size", [chosen], scope="module")
 
 
 def pytest_runtest_setup(item: pytest.Item) -> None:
