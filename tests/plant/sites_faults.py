@@ -1,8 +1,8 @@
-"""Texts with a fault each, for bench/sites: sites and maps, the number that docs/reference/files.md gives them, the
+"""Texts with a fault each, for test_sites.py: sites and maps, the number that docs/reference/files.md gives them, the
 line, and the member that a person has to look at.
 """
 
-from chip import ROOT, SITE
+from common.chip import ROOT, SITE
 
 A1 = "ba7816bf8f01cfea414140de5dae2223b00361a396177a9cb410ff61f20015ad"
 SAMPLE = SITE.read_text(encoding="utf-8")
