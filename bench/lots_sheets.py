@@ -18,8 +18,8 @@ import sys
 import warnings
 
 from lots_place import life, rows_of, shown
-from registrations import MAP
-from tokens_place import ROOT
+from common.registrations import MAP
+from common.deployed import ROOT
 
 sys.path.insert(0, str(ROOT / "python"))
 

@@ -6,7 +6,7 @@ import random
 import socket
 import subprocess
 
-from pages import ROOT, SECONDS
+from common.pages import ROOT, SECONDS
 
 SITE = ROOT / "crates/station/data/site.toml"
 MAP = (ROOT / "crates/station/data/map.toml").read_text(encoding="utf-8")

@@ -6,7 +6,7 @@ import sys
 import threading
 from pathlib import Path
 
-from chip import Failed, body_of, replies_in, status_of
+from common.chip import Failed, body_of, replies_in, status_of
 
 SOURCE = Path(__file__).resolve().parent / "refuse.c"
 NO_MEMORY = "station: no memory"

@@ -16,11 +16,11 @@ from pathlib import Path
 ROOT = Path(__file__).resolve().parent.parent
 sys.path.insert(0, str(ROOT / "python"))
 
-from lives import SITE, Orders  # noqa: E402
-from program import Program, send  # noqa: E402
-from registrations import MAP as LARGE_MAP  # noqa: E402
-from served import HOST, Server, station  # noqa: E402
-from stores import parts_of  # noqa: E402
+from common.lives import SITE, Orders  # noqa: E402
+from common.program import Program, send  # noqa: E402
+from common.registrations import MAP as LARGE_MAP  # noqa: E402
+from common.served import HOST, Server, station  # noqa: E402
+from common.stores import parts_of  # noqa: E402
 
 from wanekupo.seat import journal as journals  # noqa: E402
 from wanekupo.chips.chip import bit, key, redacted, rlock, wlock  # noqa: E402

@@ -18,7 +18,7 @@ import time
 from collections import Counter
 from dataclasses import dataclass
 
-from served import HOST
+from common.served import HOST
 
 # How many connections are made at a time, and the longest that making one may take.
 OPENERS, OPENING = 8, 20

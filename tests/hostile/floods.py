@@ -14,9 +14,9 @@ import time
 from collections import Counter
 
 from hostile_crowds import more_files
-from lives import ROWS
-from registrations import MAP, blocks_of
-from served import HOST
+from common.lives import ROWS
+from common.registrations import MAP, blocks_of
+from common.served import HOST
 
 DIGEST = hashlib.sha256(MAP.encode()).hexdigest()
 

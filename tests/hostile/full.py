@@ -22,7 +22,7 @@ from pathlib import Path
 
 from hostile_floods import ROWS, import_of
 from hostile_place import HONEST, SEATS, site_text
-from served import Caller, Server, station
+from common.served import Caller, Server, station
 
 SMALL, LARGE = 8 << 20, 16 << 20
 MIB = 1 << 20

@@ -15,11 +15,11 @@ import sys
 import time
 from pathlib import Path
 
-from goals import tell
-from lives import DIGEST, LARGEST_ORDER, Orders, name_of
-from program import Program, send
-from registrations import MAP, blocks_of
-from served import HOST, Caller, Server
+from common.goals import tell
+from common.lives import DIGEST, LARGEST_ORDER, Orders, name_of
+from common.program import Program, send
+from common.registrations import MAP, blocks_of
+from common.served import HOST, Caller, Server
 
 ROOT = Path(__file__).resolve().parent.parent
 DEPLOYED, TOKEN = ROOT / "deploy/nginx.conf", ROOT / "python/bin/station-token"

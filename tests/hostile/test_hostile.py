@@ -58,7 +58,7 @@ from pathlib import Path
 import hostile_crowds as crowds
 import hostile_floods as floods
 import hostile_full as full
-from goals import tell
+from common.goals import tell
 from hostile_place import HONEST, LONG, ROOT, SEATS, Place, Store, established
 from hostile_station import Honest
 

@@ -12,7 +12,7 @@ import subprocess
 import tempfile
 from pathlib import Path
 
-from chip import ROOT, Failed
+from common.chip import ROOT, Failed
 
 MIRROR = "http://deb.debian.org/debian"
 PACKAGES = (

@@ -12,8 +12,8 @@ import threading
 import time
 from pathlib import Path
 
-from chip import CHIP, FAR, ROOT, SITE, Failed
-from served import Caller, Server, station
+from common.chip import CHIP, FAR, ROOT, SITE, Failed
+from common.served import Caller, Server, station
 
 BACKUP = ROOT / "python/bin/station-backup"
 USER = 65534

@@ -11,7 +11,7 @@ import subprocess
 import time
 from pathlib import Path
 
-from chip import Failed
+from common.chip import Failed
 from snapshots_place import NAME, PLACE, Bench, run
 
 POOL = "plant"

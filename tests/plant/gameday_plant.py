@@ -16,8 +16,8 @@ import time
 from collections import Counter
 from pathlib import Path
 
-from chip import ROOT, Failed
-from served import Server, station
+from common.chip import ROOT, Failed
+from common.served import Server, station
 
 sys.dont_write_bytecode = True
 sys.path.insert(0, str(ROOT / "python/tests/client"))

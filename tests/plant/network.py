@@ -19,8 +19,8 @@ import urllib.request
 from pathlib import Path
 
 from alarms_place import CUSTOMERS, DEPLOYED, replaced
-from served import HOST
-from tokens_place import ROOT, Place, ran
+from common.served import HOST
+from common.tokens_place import ROOT, Place, ran
 
 PORT, OURS, THEIRS = 8443, "10.0.2.1", "10.0.2.9"
 SERVICES = ["prometheus", "prometheus-alertmanager", "prometheus-blackbox-exporter", "prometheus-node-exporter"]

@@ -39,8 +39,8 @@ import tempfile
 import time
 from pathlib import Path
 
-from chip import ROOT, SITE, Failed, replay_words, requests, served, store_at
-from served import Server, station
+from common.chip import ROOT, SITE, Failed, replay_words, requests, served, store_at
+from common.served import Server, station
 
 BACKUP = ROOT / "python/bin/station-backup"
 MISSING = "is missing or empty"

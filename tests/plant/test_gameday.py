@@ -28,7 +28,7 @@ import time
 from collections import Counter
 from pathlib import Path
 
-from chip import ROOT, Failed
+from common.chip import ROOT, Failed
 from gameday_plant import Plant, leave_root
 
 

@@ -31,7 +31,7 @@ import tempfile
 import time
 from pathlib import Path
 
-from chip import ROOT, Failed
+from common.chip import ROOT, Failed
 from gameday_plant import CUSTOMERS, KILLED, RESTORE, USER, Plant, leave_root
 from restores_forged import FORGED, first_of, signed, written
 

@@ -16,7 +16,7 @@ import tempfile
 from contextlib import closing
 from pathlib import Path
 
-from chip import ROOT, Failed
+from common.chip import ROOT, Failed
 from gameday_plant import CUSTOMERS, lines_of
 
 AT = "2026-11-30T00:00:0{}Z"

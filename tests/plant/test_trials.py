@@ -34,7 +34,7 @@ from pathlib import Path
 
 sys.dont_write_bytecode = True
 
-from chip import ROOT, Failed  # noqa: E402
+from common.chip import ROOT, Failed  # noqa: E402
 from sites_place import House, expect  # noqa: E402
 from snapshots_place import KILLED  # noqa: E402
 

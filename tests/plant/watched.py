@@ -16,8 +16,8 @@ import urllib.parse
 import urllib.request
 from pathlib import Path
 
-from served import HOST, Server, station
-from tokens_place import ROOT, Place, free_port, ran
+from common.served import HOST, Server, station
+from common.tokens_place import ROOT, Place, free_port, ran
 
 DEPLOYED = ROOT / "deploy/prometheus"
 CUSTOMERS = {"acme": "a1", "bolt": "b1", "@manager": "@manager"}

@@ -7,7 +7,7 @@ import subprocess
 from collections import Counter
 from pathlib import Path
 
-from served import Caller, Server, station
+from common.served import Caller, Server, station
 
 from standby_place.load import Asking
 

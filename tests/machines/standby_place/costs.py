@@ -5,7 +5,7 @@ import statistics
 import time
 from collections.abc import Iterator
 
-from served import Server, station
+from common.served import Server, station
 
 from standby_place.load import Line
 from standby_place.network import Address, free_ports

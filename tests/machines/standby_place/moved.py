@@ -5,7 +5,7 @@ import time
 from collections.abc import Iterator
 from pathlib import Path
 
-from served import Server, station
+from common.served import Server, station
 
 from standby_place.books import compared, undisturbed
 from standby_place.load import CUSTOMERS, Line, site_text, token_of

@@ -9,7 +9,7 @@ from collections.abc import Callable, Iterable
 from concurrent.futures import ThreadPoolExecutor
 from pathlib import Path
 
-from goals import tell
+from common.goals import tell
 
 from standby_place.guests import Guest, SilentGuest
 from standby_place.image import DEPLOYED, Edit, Image, Packages

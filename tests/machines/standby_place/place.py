@@ -8,8 +8,8 @@ from dataclasses import dataclass, field
 from pathlib import Path
 from typing import Any
 
-from goals import tell
-from served import Caller
+from common.goals import tell
+from common.served import Caller
 
 from standby_place.guests import Guest
 from standby_place.load import Asking, Line

@@ -7,7 +7,7 @@ from collections.abc import Callable
 from dataclasses import asdict, dataclass, field, replace
 from pathlib import Path
 
-from goals import tell
+from common.goals import tell
 
 from standby_place import lost, scenarios, words
 from standby_place.books import compared, taken_out, undisturbed

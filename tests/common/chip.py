@@ -15,9 +15,9 @@ import tempfile
 from dataclasses import dataclass
 from pathlib import Path
 
-from program import Failed
+from common.needs import ROOT
+from common.program import Failed
 
-ROOT = Path(__file__).resolve().parent.parent
 DATA = ROOT / "crates" / "station" / "data"
 SITE = DATA / "site.toml"
 MAP = DATA / "map.toml"

@@ -2,7 +2,7 @@
 
 import hashlib
 
-from registrations import MAP, blocks_of, key_of, request
+from common.registrations import MAP, blocks_of, key_of, request
 
 DIGEST = hashlib.sha256(MAP.encode()).hexdigest()
 STEPS = 7

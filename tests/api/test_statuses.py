@@ -1,40 +1,27 @@
-#!/usr/bin/env python3
-"""Tries how the built program ends: its statuses, what it prints and where, and the files of its stores.
-
-    statuses                crates/station/out/station of this repository
-    statuses --program P    another program
-    statuses -k unit        the tests alone with this word in their names
+"""How the built program ends: its statuses, what it prints and where, and the files of its stores.
 
 The expected lines are those of docs/reference/program.md, and the words of the packaged unit are those of
 deploy/station.service. What is tried: the words of a command line; site files, maps and stores that it refuses, with
 each row of a store as it was; a stream that is cut, and an output that takes nothing; `serve` until it ends by itself,
 over a port that is taken, and as the unit starts, bounds and ends it; stores whose paths are absolute, with their
-modes; and the making of a store, whose page is SQLite's. It takes some seconds. `./check` runs it behind `rt ci`, which
-leaves the program that it built at the default path.
-
-That a missing site file isn't another one, as the packaged unit's, is tried where a process may have a mount of its
-own (`unshare`), and else left out. The status is 1 where a test fails. Python 3.11, standard library alone, on Linux.
-It needs chip.py and served.py, and what they need, beside it.
+modes; and the making of a store, whose page is SQLite's.
 """
 
-import argparse
 import os
 import re
 import resource
 import select
 import shlex
-import shutil
 import socket
 import subprocess
-import sys
-import tempfile
-import unittest
 from pathlib import Path
 
-from chip import MAP, ROOT, SITE, body_of, empty_page, get, replies_in, requests, rows_of, status_of, without_release
-from served import HOST, Caller
+import pytest
 
-PROGRAM = ROOT / "crates/station/out/station"
+from common.chip import MAP, ROOT, SITE, body_of, empty_page, get, replies_in, requests, rows_of, status_of, without_release
+from common.ports import HOST, free_port
+from common.served import Caller
+
 UNIT = ROOT / "deploy/station.service"
 SECONDS = 60
 THOUSANDS = 5000
@@ -73,12 +60,6 @@ REFUSED = [
 
 # Another site file in the place of the packaged unit's, in a mount of one's own.
 PACKAGED = "mount -t tmpfs none /etc && mkdir /etc/station && cp site.toml /etc/station/site.toml && exec"
-
-
-def free_port():
-    with socket.socket() as listener:
-        listener.bind((HOST, 0))
-        return listener.getsockname()[1]
 
 
 def unit_words(name):
@@ -127,16 +108,12 @@ class Served:
         return self.process.returncode, out, err
 
 
-class ProgramCase(unittest.TestCase):
+class ProgramCase:
     """A folder with the sample site, in which the program is started."""
 
-    program = PROGRAM
-
-    def setUp(self):
-        folder = tempfile.TemporaryDirectory()
-        self.addCleanup(folder.cleanup)
-        self.folder = Path(folder.name)
-        shutil.copy(SITE, self.folder / "site.toml")
+    @pytest.fixture(autouse=True)
+    def place(self, program, site):
+        self.program, self.folder = program, site.parent
 
     def run_it(self, *words, stream=b"", before=()):
         """The status of a run with this on its input, its output, and what is on standard error."""
@@ -154,7 +131,7 @@ class ProgramCase(unittest.TestCase):
 
     def ends(self, line, words, stream=b"", before=()):
         """It ends with status 1 and this line, and nothing on its output."""
-        self.assertEqual(self.run_it(*words, stream=stream, before=before), (1, b"", line.encode() + b"\n"), words)
+        assert self.run_it(*words, stream=stream, before=before) == (1, b"", line.encode() + b"\n"), words
 
     def both(self, *words):
         """These words of `replay` and of `serve`."""
@@ -163,27 +140,27 @@ class ProgramCase(unittest.TestCase):
     def made(self, name="books.db"):
         """A store with the life of a chip."""
         status, out, err = self.run_it("replay", "--site", "site.toml", "--db", name, stream=b"".join(requests()))
-        self.assertEqual((status, err, {status_of(reply) for reply in replies_in(out)[0]}), (0, b"", {200}))
+        assert (status, err, {status_of(reply) for reply in replies_in(out)[0]}) == (0, b"", {200})
         return self.folder / name
 
     def files(self):
         return {path.name for path in self.folder.iterdir()}
 
 
-class Words(ProgramCase):
-    def test_what_is_shown(self):
+class TestWords(ProgramCase):
+    @pytest.mark.parametrize("words", SHOWN)
+    def test_what_is_shown(self, words):
         """On standard output, with status 0, and nothing on standard error."""
-        for words, text in SHOWN.items():
-            status, out, err = self.run_it(*words.split())
-            self.assertEqual((status, err), (0, b""), words)
-            self.assertIsNotNone(re.fullmatch(text, out, re.DOTALL), (words, out))
+        status, out, err = self.run_it(*words.split())
+        assert (status, err) == (0, b"")
+        assert re.fullmatch(SHOWN[words], out, re.DOTALL)
 
-    def test_what_is_refused(self):
+    @pytest.mark.parametrize("words", [*REFUSED, b"\xff"])
+    def test_what_is_refused(self, words):
         """On standard error alone, with status 2, and nothing is made."""
-        for words in [words.split() for words in REFUSED] + [[b"\xff"]]:
-            status, out, err = self.run_it(*words)
-            self.assertEqual((status, out, err[:7]), (2, b"", b"error: "), words)
-        self.assertEqual(self.files(), {"site.toml"})
+        status, out, err = self.run_it(*words.split())
+        assert (status, out, err[:7]) == (2, b"", b"error: ")
+        assert self.files() == {"site.toml"}
 
     def test_an_output_that_takes_nothing(self):
         for words in (["--help"], ["check-map", str(MAP)], ["replay", "--site", "site.toml"]):
@@ -192,12 +169,12 @@ class Words(ProgramCase):
                     [str(self.program), *words],
                     input=requests()[0], stdout=full, stderr=subprocess.PIPE, check=False, cwd=self.folder,
                 )  # fmt: skip
-            self.assertEqual((done.returncode, done.stderr), (1, b"station: write failed\n"), words)
+            assert (done.returncode, done.stderr) == (1, b"station: write failed\n"), words
 
 
-class Files(ProgramCase):
+class TestFiles(ProgramCase):
     def test_a_map(self):
-        self.assertEqual(self.run_it("check-map", str(MAP)), (0, b"ok esp32-sample 4 7\n", b""))
+        assert self.run_it("check-map", str(MAP)) == (0, b"ok esp32-sample 4 7\n", b"")
         (self.folder / "none.toml").write_text("{", encoding="ascii")
         self.ends("station: map fault 1", ["check-map", "none.toml"])
         self.ends("station: cannot read no.toml", ["check-map", "no.toml"])
@@ -212,23 +189,18 @@ class Files(ProgramCase):
                 self.ends(f"station: cannot read {name}", words)
         for words in (["replay", "--site", "none.toml"], *self.both("--site", "none.toml", "--db", "books.db")):
             self.ends("station: site fault 1", words)
-        self.assertEqual(self.files(), there)
+        assert self.files() == there
 
+    @pytest.mark.needs("unshare")
     def test_a_missing_site_file_is_not_the_packaged_units(self):
         mounted = ["unshare", "-rm", "sh", "-c", f'{PACKAGED} "$@"', "sh"]
-        try:
-            done = subprocess.run([*mounted, "true"], capture_output=True, check=False, cwd=self.folder)
-        except FileNotFoundError:
-            self.skipTest("there is no unshare")
-        if done.returncode:
-            self.skipTest("no mount of one's own")
         here = self.run_it("replay", "--site", "/etc/station/site.toml", before=mounted)
-        self.assertEqual(here, (0, b"", b""))
+        assert here == (0, b"", b"")
         for words in (["replay", "--site", "missing.toml"], *self.both("--site", "missing.toml", "--db", "books.db")):
             self.ends("station: cannot read missing.toml", words, before=mounted)
 
 
-class Stores(ProgramCase):
+class TestStores(ProgramCase):
     def test_another_sites_store(self):
         path = self.made()
         rows = rows_of(path)
@@ -237,7 +209,7 @@ class Stores(ProgramCase):
         for more in ([], ["--existing"]):
             for words in self.both("--site", "other.toml", "--db", "books.db", *more):
                 self.ends("station: store fault 1", words, requests()[0])
-                self.assertEqual(rows_of(path), rows, words)
+                assert rows_of(path) == rows, words
 
     def test_no_store(self):
         """With `--existing` nothing is made, of whatever path; one that is no database is left as it is."""
@@ -246,28 +218,28 @@ class Stores(ProgramCase):
         for name in ("books.db", str(self.folder / "books.db"), "empty.db", "no/books.db"):
             for words in self.both("--site", "site.toml", "--db", name, "--existing"):
                 self.ends("station: store fault 2", words)
-        self.assertEqual(self.files(), there)
+        assert self.files() == there
         other = self.folder / "text.db"
         other.write_text("no database\n" * 1000, encoding="ascii")
         for words in self.both("--site", "site.toml", "--db", "text.db"):
             self.ends("station: store fault 3", words)
-            self.assertEqual(other.read_text(encoding="ascii"), "no database\n" * 1000)
+            assert other.read_text(encoding="ascii") == "no database\n" * 1000
 
     def test_a_store_in_use(self):
         with self.serve("--site", "site.toml", "--db", "books.db") as server:
             for words in self.both("--site", "site.toml", "--db", "books.db"):
                 self.ends("station: store fault 3", words)
-            self.assertEqual([status_of(reply) for reply in server.send(b"".join(requests()))], [200] * 8)
+            assert [status_of(reply) for reply in server.send(b"".join(requests()))] == [200] * 8
 
     def served(self, name, connections):
         """A store that serves the life of a chip, and is killed, or ends behind its connections; its path and rows."""
         words = ["--site", "site.toml", "--db", name]
         with self.serve(*words, connections=connections) as server:
-            self.assertEqual([status_of(reply) for reply in server.send(b"".join(requests()))], [200] * 8)
+            assert [status_of(reply) for reply in server.send(b"".join(requests()))] == [200] * 8
             if connections == 1:
-                self.assertEqual(server.end(), (0, b"", b""))
+                assert server.end() == (0, b"", b"")
         rows = rows_of(self.folder / name)
-        self.assertEqual([len(rows[table]) for table in ("orders", "device", "given", "ledger")], [1, 1, 1, 6])
+        assert [len(rows[table]) for table in ("orders", "device", "given", "ledger")] == [1, 1, 1, 6]
         return words, rows
 
     def goes_on(self, words, rows):
@@ -275,12 +247,12 @@ class Stores(ProgramCase):
         again = requests()[-1] + get("/v1/order?name=o1")
         for _ in range(2):
             with self.serve(*words, connections=1) as server:
-                self.assertEqual([status_of(reply) for reply in server.send(again)], [200, 200])
-                self.assertEqual(server.end(), (0, b"", b""))
-            self.assertEqual(rows_of(self.folder / words[-1]), rows)
+                assert [status_of(reply) for reply in server.send(again)] == [200, 200]
+                assert server.end() == (0, b"", b"")
+            assert rows_of(self.folder / words[-1]) == rows
         status, out, err = self.run_it("replay", *words, stream=again)
-        self.assertEqual((status, [status_of(reply) for reply in replies_in(out)[0]], err), (0, [200, 200], b""))
-        self.assertEqual(rows_of(self.folder / words[-1]), rows)
+        assert (status, [status_of(reply) for reply in replies_in(out)[0]], err) == (0, [200, 200], b"")
+        assert rows_of(self.folder / words[-1]) == rows
 
     def test_an_absolute_path(self):
         self.goes_on(*self.served(str(self.folder / "books.db"), 1))
@@ -290,17 +262,18 @@ class Stores(ProgramCase):
         for name in ("books.db", str(self.folder / "others.db")):
             self.goes_on(*self.served(name, 7))
 
-    def test_its_files_are_of_their_owner_alone(self):
+    def test_its_files_are_of_their_owner_alone(self, request):
         """By whichever path, and whatever the mask of modes."""
-        self.addCleanup(os.umask, os.umask(0o022))
+        before = os.umask(0o022)
+        request.addfinalizer(lambda: os.umask(before))
         for name in ("books.db", str(self.folder / "others.db")):
             with self.serve("--site", "site.toml", "--db", name) as server:
-                self.assertEqual(server.ask("GET", "/v1/report"), 200)
+                assert server.ask("GET", "/v1/report") == 200
                 for file in (name, f"{name}-wal"):
-                    self.assertEqual((self.folder / file).stat().st_mode & 0o777, 0o600, file)
+                    assert (self.folder / file).stat().st_mode & 0o777 == 0o600, file
 
 
-class Making(ProgramCase):
+class TestMaking(ProgramCase):
     def bounded(self, limit):
         """A start that makes its store, none of whose files may have more bytes than this."""
         bound = ["sh", "-c", 'trap "" XFSZ; exec "$@"', "sh", "prlimit", f"--fsize={limit}"]
@@ -310,13 +283,13 @@ class Making(ProgramCase):
         """Short of a page nothing is made; with a page there is SQLite's empty database, and the next start goes on."""
         size = int.from_bytes(self.made("others.db").read_bytes()[16:18], "big")
         path, there = self.folder / "books.db", self.files()
-        self.assertEqual(self.bounded(size - 1), (1, b"", b"station: store fault 3\n"))
-        self.assertEqual(self.files(), there)
-        self.assertEqual(self.bounded(size), (1, b"", b"station: store fault 3\n"))
-        self.assertEqual(self.files() - there, {"books.db", "books.db-wal"})
-        self.assertEqual(without_release(path.read_bytes()), without_release(empty_page(size)))
-        self.assertEqual(path.stat().st_mode & 0o777, 0o600)
-        self.assertEqual(rows_of(self.made()), rows_of(self.folder / "others.db"))
+        assert self.bounded(size - 1) == (1, b"", b"station: store fault 3\n")
+        assert self.files() == there
+        assert self.bounded(size) == (1, b"", b"station: store fault 3\n")
+        assert self.files() - there == {"books.db", "books.db-wal"}
+        assert without_release(path.read_bytes()) == without_release(empty_page(size))
+        assert path.stat().st_mode & 0o777 == 0o600
+        assert rows_of(self.made()) == rows_of(self.folder / "others.db")
 
     def test_a_log_without_its_file(self):
         """No store is made beside it, and it stays as it is."""
@@ -325,40 +298,40 @@ class Making(ProgramCase):
         there = self.files()
         for words in self.both("--site", "site.toml", "--db", "books.db"):
             self.ends("station: store fault 3", words)
-            self.assertEqual((self.files(), log.read_bytes()), (there, b"a log"))
+            assert (self.files(), log.read_bytes()) == (there, b"a log")
 
 
-class Streams(ProgramCase):
+class TestStreams(ProgramCase):
     def test_one_that_is_cut(self):
         """It is no failure: the requests before it got their replies, and have been done."""
         first, second = requests()[:2]
         for words in (["replay", "--site", "site.toml"], ["replay", "--site", "site.toml", "--db", "books.db"]):
             status, out, err = self.run_it(*words, stream=first + second[:-1])
-            self.assertEqual((status, err, len(replies_in(out)[0])), (0, b"", 1), words)
-        self.assertEqual(len(rows_of(self.folder / "books.db")["map"]), 1)
+            assert (status, err, len(replies_in(out)[0])) == (0, b"", 1), words
+        assert len(rows_of(self.folder / "books.db")["map"]) == 1
 
     def test_one_without_requests(self):
-        self.assertEqual(self.run_it("replay", "--site", "site.toml"), (0, b"", b""))
+        assert self.run_it("replay", "--site", "site.toml") == (0, b"", b"")
 
 
-class Serving(ProgramCase):
+class TestServing(ProgramCase):
     def test_it_ends_behind_its_connections(self):
         """With status 0, whatever became of them; then the port is free, and the books are in the file."""
         with self.serve("--site", "site.toml", "--db", "books.db", connections=3) as server:
-            self.assertEqual(server.line, b"listening on %b:%d\n" % (HOST.encode(), server.port))
-            self.assertEqual([status_of(reply) for reply in server.send(b"".join(requests()))], [200] * 8)
-            self.assertEqual(server.send(requests()[0][:40]), [])
-            self.assertEqual(server.ask("GET", "/v1/order?name=o1", token="no"), 401)
-            self.assertEqual(server.end(), (0, b"", b""))
-        with self.assertRaises(ConnectionRefusedError):
+            assert server.line == b"listening on %b:%d\n" % (HOST.encode(), server.port)
+            assert [status_of(reply) for reply in server.send(b"".join(requests()))] == [200] * 8
+            assert server.send(requests()[0][:40]) == []
+            assert server.ask("GET", "/v1/order?name=o1", token="no") == 401
+            assert server.end() == (0, b"", b"")
+        with pytest.raises(ConnectionRefusedError):
             socket.create_connection((HOST, server.port)).close()
-        self.assertEqual(len(rows_of(self.folder / "books.db")["given"]), 1)
+        assert len(rows_of(self.folder / "books.db")["given"]) == 1
 
     def test_it_serves_as_many_as_it_is_told(self):
         """Each of thousands of connections is answered, and behind the last one it ends."""
         with self.serve("--site", "site.toml", "--db", "books.db", connections=THOUSANDS) as server:
             asked = {server.ask("GET", "/v1/order?name=o1") for _ in range(THOUSANDS)}
-            self.assertEqual((asked, server.end()), ({404}, (0, b"", b"")))
+            assert (asked, server.end()) == ({404}, (0, b"", b""))
 
     def test_a_port_that_is_taken(self):
         with socket.create_server((HOST, 0)) as taken:
@@ -368,8 +341,8 @@ class Serving(ProgramCase):
 
     def test_its_port_is_of_this_address_alone(self):
         with self.serve("--site", "site.toml", "--db", "books.db") as server:
-            self.assertEqual(server.ask("GET", "/v1/order?name=o1"), 404)
-            with self.assertRaises(ConnectionRefusedError):
+            assert server.ask("GET", "/v1/order?name=o1") == 404
+            with pytest.raises(ConnectionRefusedError):
                 socket.create_connection(("127.0.0.2", server.port)).close()
 
     def unit(self, name, port):
@@ -388,26 +361,26 @@ class Serving(ProgramCase):
         """Without a store it ends with a fault and makes none; with one it serves, is stopped, and is joined."""
         port = free_port()
         words = self.unit("ExecStart", port)
-        self.assertEqual(words[:2], ["/bin/sh", "-c"])
+        assert words[:2] == ["/bin/sh", "-c"]
         none = subprocess.run(words, capture_output=True, timeout=SECONDS, check=False, cwd=self.folder)
-        self.assertEqual((none.returncode, none.stdout, none.stderr), (1, b"", b"station: store fault 2\n"))
-        self.assertEqual(self.files(), {"site.toml"})
+        assert (none.returncode, none.stdout, none.stderr) == (1, b"", b"station: store fault 2\n")
+        assert self.files() == {"site.toml"}
         self.made()
         rows = rows_of(self.folder / "books.db")
         with Served(words, port, self.folder) as server:
-            self.assertEqual(server.line, b"listening on 127.0.0.1:%d\n" % port)
-            self.assertEqual(body_of(server.send(requests()[7])[0]), body_of(server.send(requests()[7])[0]))
-            self.assertEqual(server.ask("POST", "/v1/map", {"nr": 9, "text": MAP.read_text(encoding="utf-8")}), 200)
+            assert server.line == b"listening on 127.0.0.1:%d\n" % port
+            assert body_of(server.send(requests()[7])[0]) == body_of(server.send(requests()[7])[0])
+            assert server.ask("POST", "/v1/map", {"nr": 9, "text": MAP.read_text(encoding="utf-8")}) == 200
             server.process.terminate()
-            self.assertEqual(server.end(), (-15, b"", b""))
+            assert server.end() == (-15, b"", b"")
         rows["seat"] = rows_of(self.folder / "books.db")["seat"]
         stop = subprocess.run(
             self.unit("ExecStopPost", port),
             input=b"", capture_output=True, env={"EXIT_STATUS": "TERM"}, check=False, cwd=self.folder,
         )  # fmt: skip
-        self.assertEqual((stop.returncode, stop.stdout, stop.stderr), (0, b"", b""))
-        self.assertEqual((self.folder / "books.db-wal").stat().st_size, 41)
-        self.assertEqual(rows_of(self.folder / "books.db"), rows)
+        assert (stop.returncode, stop.stdout, stop.stderr) == (0, b"", b"")
+        assert (self.folder / "books.db-wal").stat().st_size == 41
+        assert rows_of(self.folder / "books.db") == rows
 
     def bounded(self, limit):
         """The unit's server on a port, under a bound that is there before."""
@@ -422,8 +395,8 @@ class Serving(ProgramCase):
         with Served(self.unit("ExecStart", port), port, self.folder) as server:
             bounds = resource.prlimit(server.process.pid, resource.RLIMIT_FSIZE)
         for bound in bounds:
-            self.assertLess(memory - 3 * bound, 3 * 512)
-            self.assertGreaterEqual(memory, 3 * bound)
+            assert memory - 3 * bound < 3 * 512
+            assert memory >= 3 * bound
 
     def test_a_store_at_its_bound(self):
         """What writes is 503, what shows is served; it is stopped and opens, and beyond the bound it is done once."""
@@ -432,35 +405,16 @@ class Serving(ProgramCase):
             numbers = range(9, 209)
             statuses = [server.ask("POST", "/v1/import", import_of(number)) for number in numbers]
             refused = numbers[statuses.index(503)]
-            self.assertEqual(set(statuses[refused - 8 :]), {409})
-            self.assertEqual(server.ask("GET", "/v1/order?name=o1"), 200)
+            assert set(statuses[refused - 8 :]) == {409}
+            assert server.ask("GET", "/v1/order?name=o1") == 200
             server.process.terminate()
-            self.assertEqual(server.end(), (-15, b"", b""))
+            assert server.end() == (-15, b"", b"")
         stop = ["prlimit", f"--fsize={BOUND}", *self.unit("ExecStopPost", 0)]
         done = subprocess.run(stop, capture_output=True, env={"EXIT_STATUS": "TERM"}, check=False, cwd=self.folder)
-        self.assertEqual((done.returncode, done.stdout, done.stderr), (0, b"", b""))
+        assert (done.returncode, done.stdout, done.stderr) == (0, b"", b"")
         for limit, status in ((BOUND, 503), (2 * BOUND, 200)):
             with self.bounded(limit) as server:
-                self.assertEqual(server.ask("GET", "/v1/order?name=o1"), 200)
+                assert server.ask("GET", "/v1/order?name=o1") == 200
                 again = [server.ask("POST", "/v1/import", import_of(refused)) for _ in range(2)]
-                self.assertEqual(again, [status] * 2)
-        self.assertEqual(len(rows_of(path)["given"]), 1 + ROWS * (refused - 8))
-
-
-def main():
-    parser = argparse.ArgumentParser(description="Tries the statuses and the lines of the built program.")
-    parser.add_argument("--program", default=PROGRAM, help="the built program")
-    parser.add_argument("-k", action="append", default=[], metavar="WORD", help="tests with this word in their names")
-    args = parser.parse_args()
-    ProgramCase.program = Path(args.program).resolve()
-    if not os.access(ProgramCase.program, os.X_OK):
-        parser.error(f"{ProgramCase.program} is no program")
-    loader = unittest.TestLoader()
-    loader.testNamePatterns = [f"*{word}*" for word in args.k] or None
-    tests = loader.loadTestsFromModule(sys.modules[__name__])
-    done = unittest.TextTestRunner(verbosity=2, warnings="default").run(tests)
-    return 0 if done.wasSuccessful() and done.testsRun else 1
-
-
-if __name__ == "__main__":
-    sys.exit(main())
+                assert again == [status] * 2
+        assert len(rows_of(path)["given"]) == 1 + ROWS * (refused - 8)

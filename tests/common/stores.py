@@ -3,10 +3,10 @@
 import os
 import time
 
-from goals import tell
-from lives import LARGEST_ORDER, SITE, STEPS, Orders
-from program import Program, send
-from registrations import MAP
+from common.goals import tell
+from common.lives import LARGEST_ORDER, SITE, STEPS, Orders
+from common.program import Program, send
+from common.registrations import MAP
 
 # The devices whose requests are made at a time.
 PART = 1000

@@ -14,7 +14,8 @@ import tempfile
 import threading
 from pathlib import Path
 
-ROOT = Path(__file__).resolve().parent.parent
+from common.needs import ROOT
+
 PROGRAM = ROOT / "crates/station/out/station"
 FOLDERS = ["crates", "clients", "maps"]
 PORT, PORTS = 8080, 4
