@@ -3,9 +3,9 @@
 import shutil
 from pathlib import Path
 
-from common.needs import TOP
+from common.needs import ROOT
 
-PYTHON, PROJECT = "/usr/bin/python3", TOP / "python"
+PYTHON, PROJECT = "/usr/bin/python3", ROOT / "python"
 
 # A copy's commands heed the environment, as those of the tree don't.
 ISOLATED = "/usr/bin/python3 -IB "

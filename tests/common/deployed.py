@@ -11,17 +11,11 @@ import threading
 import time
 from pathlib import Path
 
-<<<<<<<< HEAD:tests/common/deployed.py
-from common.chip import Failed
+from common.needs import ROOT
 from common.ports import HOST, free_ports
+from common.program import Failed
 from common.served import Server, station
 
-ROOT = Path(__file__).resolve().parents[2]
-========
-from common.needs import ROOT
-from common.served import HOST, Server, station
-
->>>>>>>> 14bc0ee4f71a6bc9ab4d2813ddc4f348b3573c83:tests/common/tokens_place.py
 TOOL, CONF = ROOT / "python/bin/station-token", ROOT / "deploy/nginx.conf"
 SITE, CERTIFICATES = ROOT / "crates/station/data/site.toml", ROOT / "deploy/nginx-certificates.conf"
 
@@ -31,7 +25,7 @@ INNER = {"a1": "abc", "b1": "hello", "@manager": "test"}
 # The CA of stations.
 STATIONS = ROOT / "deploy/ca/stations.cnf"
 
-
+# The kind of its keys.
 CURVE = ["-newkey", "ec", "-pkeyopt", "ec_paramgen_curve:prime256v1", "-noenc"]
 
 
