@@ -49,7 +49,6 @@ for name in ("fsync", "replace", "rename", "fork"):
     setattr(os, name, counted(getattr(os, name)))
 subprocess.Popen.__init__ = counted(subprocess.Popen.__init__, True)
 sys.argv = sys.argv[3:]
-sys.path.insert(0, os.path.dirname(sys.argv[0]))
 try:
     runpy.run_path(sys.argv[0], run_name="__main__")
 finally:
@@ -158,9 +157,9 @@ class Bench:
         """Runs station-backup; `within` are words before it."""
         words = ["--program", str(program or self.program), "--site", str(SITE), "--db", str(self.db)]
         words += ["--into", str(self.all), "--snapshot", self.kind, *self.words, *more]
-        before = [sys.executable, "-B", "-c", KILLED, *map(str, killed)] if killed else []
+        before = [PYTHON, "-B", *(["-c", KILLED, *map(str, killed)] if killed else [])]
         return subprocess.run(
-            [*within, *before, str(BACKUP), *words], stdin=subprocess.DEVNULL, capture_output=True, text=True,
+            [*within, *before, *command("station-backup")[2:], *words], stdin=subprocess.DEVNULL, capture_output=True, text=True,
             timeout=600, start_new_session=True, check=False,
         )  # fmt: skip
 

@@ -18,7 +18,7 @@ from pathlib import Path
 
 from common.chip import SITE
 from common.commands import PROJECT, command
-from common.deployed import CONF, TOOL, certify, expect, replaced
+from common.deployed import CONF, TOOL, certify, replaced
 from common.ports import free_port
 
 OWNER, GROUP = "nobody", "nogroup"
