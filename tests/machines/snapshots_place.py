@@ -7,15 +7,14 @@ import json
 import os
 import signal
 import subprocess
-import sys
 import threading
 import time
 from pathlib import Path
 
-from common.chip import CHIP, FAR, ROOT, SITE, Failed
+from common.chip import CHIP, FAR, SITE, Failed
+from common.commands import PYTHON, command
 from common.served import Caller, Server, station
 
-BACKUP = ROOT / "python/bin/station-backup"
 USER = 65534
 PORT = 18880
 PLACE = Path("/run/station-backup")
