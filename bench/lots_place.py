@@ -14,7 +14,7 @@ from common import lives
 from common.goals import tell
 from common.program import Program, send
 from common.registrations import MAP, blocks_of, request
-from common.tokens_place import ROOT, Place
+from common.deployed import ROOT, Place
 
 # Customers by their seats' names and inner tokens, with a pool each.
 SEATS = {"a1": ("acme", "abc"), "b1": ("bolt", "hello")}
@@ -138,7 +138,7 @@ class LotsPlace(Place):
     """nginx in front of the program itself, with the rate of a caller in another size."""
 
     def __init__(self, folder, program, port, site, rate):
-        super().__init__(folder, program, port, site)
+        super().__init__(folder, program, site)
         self.recorded, self.rate = self.server.port, rate
         for seat, (_, token) in SEATS.items():
             (self.folder / "known").write_text(token, encoding="ascii")

@@ -19,7 +19,7 @@ import warnings
 
 from lots_place import life, rows_of, shown
 from common.registrations import MAP
-from common.tokens_place import ROOT
+from common.deployed import ROOT
 
 sys.path.insert(0, str(ROOT / "python"))
 

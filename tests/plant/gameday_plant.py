@@ -1,5 +1,5 @@
 """A plant of eight stations of three customers over one server: its load, its backups, its loss and its restore, for
-`gameday` and `restores`."""
+test_gameday.py and test_restores.py."""
 
 import contextlib
 import hashlib
@@ -9,34 +9,28 @@ import random
 import shutil
 import sqlite3
 import subprocess
-import sys
-import tempfile
 import threading
 import time
 from collections import Counter
 from pathlib import Path
 
-from common.chip import ROOT, Failed
+from simulated_chip import SimulatedChip
+from support import DIGEST, MAP, WISHES, Held, rows
+
+from common.chip import Failed
+from common.commands import PYTHON, command
+from common.ports import free_port
 from common.served import Server, station
+from wanekupo.chips.espefuse import KeyFile
+from wanekupo.common.errors import NoReply, OutOfStep, Refused
+from wanekupo.seat.journal import Journal
+from wanekupo.seat.station import Station
 
-sys.dont_write_bytecode = True
-sys.path.insert(0, str(ROOT / "python/tests/client"))
-os.environ.setdefault("STATION_PROGRAM", "")
-
-from simulated_chip import SimulatedChip  # noqa: E402
-from support import DIGEST, MAP, WISHES, Held, free_port, rows  # noqa: E402
-
-from wanekupo.chips.espefuse import KeyFile  # noqa: E402
-from wanekupo.common.errors import NoReply, OutOfStep, Refused  # noqa: E402
-from wanekupo.seat.journal import Journal  # noqa: E402
-from wanekupo.seat.station import Station  # noqa: E402
-
-BACKUP, RESTORE = ROOT / "python/bin/station-backup", ROOT / "python/bin/station-restore"
 CUSTOMERS = {"acme": ("a1", "a2", "a3"), "bolt": ("b1", "b2", "b3"), "cord": ("c1", "c2")}
-SECONDS, USER = 120, 65534
+SECONDS = 120
 FULL, SPENT, UNKNOWN_MAP = 18, 32, 13
 
-# Runs a script, and kills it before the call with this number that the outside sees.
+# Runs a command, and kills it before the call with this number that the outside sees.
 KILLED = """
 import http.client, os, runpy, signal, subprocess, sys
 count, last = [0], int(sys.argv[1])
@@ -52,18 +46,8 @@ for name in ("fsync", "replace", "rename", "mkdir"):
 subprocess.Popen.__init__ = counted(subprocess.Popen.__init__)
 http.client.HTTPConnection.getresponse = counted(http.client.HTTPConnection.getresponse)
 sys.argv = sys.argv[2:]
-sys.path.insert(0, os.path.dirname(sys.argv[0]))
 runpy.run_path(sys.argv[0], run_name="__main__")
 """
-
-
-def leave_root(*more):
-    """Starts a script again as another user, where root started it, as a store is never root's. Gives its status."""
-    with tempfile.TemporaryDirectory() as folder:
-        os.chown(folder, USER, USER)
-        words = ["setpriv", f"--reuid={USER}", f"--regid={USER}", "--clear-groups", "--", "/usr/bin/python3", "-B"]
-        words += [os.path.abspath(sys.argv[0]), *sys.argv[1:], *more]
-        return subprocess.run(words, cwd=folder, env={**os.environ, "HOME": folder}, check=False).returncode
 
 
 def token_of(seat):
@@ -181,9 +165,9 @@ class Line:
         settings = ["--url", self.plant.url, "--token", str(self.token_file)]
         settings += ["--state-file", str(self.folder / "state.json")]
         settings += ["--journal", str(self.folder / "journals"), "--seat", self.seat]
-        environment = {**os.environ, "PYTHONPATH": str(ROOT / "python"), "HOME": str(self.folder)}
+        environment = {**os.environ, "HOME": str(self.folder)}
         return subprocess.run(
-            [sys.executable, "-B", "-m", "wanekupo", *words, *settings], env=environment, cwd=self.folder,
+            [*command("wanekupo"), *words, *settings], env=environment, cwd=self.folder,
             capture_output=True, text=True, timeout=SECONDS, check=False,
         )  # fmt: skip
 
@@ -303,7 +287,7 @@ class Plant:
 
     def back_up(self):
         words = ["--program", self.program, "--site", self.site, "--db", self.db, "--into", self.all]
-        said = self.ran(BACKUP, *words)
+        said = self.ran(*command("station-backup"), *words)
         return Path(said.splitlines()[-1].removeprefix("backed up in "))
 
     def gather(self):
@@ -322,12 +306,12 @@ class Plant:
         (self.folder / "restored").mkdir(exist_ok=True)
         for _ in range(2 if is_killed else 0):
             call = self.random.randint(1, 60)
-            killed = [sys.executable, "-B", "-c", KILLED, str(call), str(RESTORE), *map(str, words)]
+            killed = [PYTHON, "-B", "-c", KILLED, str(call), *command("station-restore")[2:], *map(str, words)]
             done = subprocess.run(killed, capture_output=True, text=True, timeout=SECONDS, check=False)
             if done.returncode == 0:
                 return done.stdout
             self.kills += 1
-        return self.ran(sys.executable, "-B", RESTORE, *words)
+        return self.ran(*command("station-restore"), *words)
 
     # What has to be so.
 
@@ -358,5 +342,3 @@ class Plant:
         if twice:
             raise Failed("; ".join(twice[:5]))
         return len(serials), len(macs)
-
-

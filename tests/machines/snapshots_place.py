@@ -7,15 +7,14 @@ import json
 import os
 import signal
 import subprocess
-import sys
 import threading
 import time
 from pathlib import Path
 
-from common.chip import CHIP, FAR, ROOT, SITE, Failed
+from common.chip import CHIP, FAR, SITE, Failed
+from common.commands import PYTHON, command
 from common.served import Caller, Server, station
 
-BACKUP = ROOT / "python/bin/station-backup"
 USER = 65534
 PORT = 18880
 PLACE = Path("/run/station-backup")
@@ -49,7 +48,6 @@ for name in ("fsync", "replace", "rename", "fork"):
     setattr(os, name, counted(getattr(os, name)))
 subprocess.Popen.__init__ = counted(subprocess.Popen.__init__, True)
 sys.argv = sys.argv[3:]
-sys.path.insert(0, os.path.dirname(sys.argv[0]))
 try:
     runpy.run_path(sys.argv[0], run_name="__main__")
 finally:
@@ -158,9 +156,9 @@ class Bench:
         """Runs station-backup; `within` are words before it."""
         words = ["--program", str(program or self.program), "--site", str(SITE), "--db", str(self.db)]
         words += ["--into", str(self.all), "--snapshot", self.kind, *self.words, *more]
-        before = [sys.executable, "-B", "-c", KILLED, *map(str, killed)] if killed else []
+        before = [PYTHON, "-B", *(["-c", KILLED, *map(str, killed)] if killed else [])]
         return subprocess.run(
-            [*within, *before, str(BACKUP), *words], stdin=subprocess.DEVNULL, capture_output=True, text=True,
+            [*within, *before, *command("station-backup")[2:], *words], stdin=subprocess.DEVNULL, capture_output=True, text=True,
             timeout=600, start_new_session=True, check=False,
         )  # fmt: skip
 

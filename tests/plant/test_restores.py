@@ -1,42 +1,32 @@
-#!/usr/bin/env python3
-"""Has station-restore restore one lost store again and again, kills it before each of its calls, and finds what it
-refuses.
+"""station-restore restores one lost store again and again, is killed before each of its calls, and refuses.
 
-    restores --program P                             all of it: an hour and more on a busy machine
-    restores --program P --only refused
-    restores --program P --only killed --stride 10   before each tenth call alone
-
-The store is that of eight stations' work (gameday_plant.py), with a backup from before some of it. First a restore that
-nobody disturbs. Then it is killed before each call of a command, each sync, each new name and each reply of its server
-in turn, and begun again. It has to end with the same tables, but for the numbers of its own seats. The lost files have
-to be in one folder beside, and neither its own folder nor a server may be left. Then what it has to refuse, before it
-moves anything: a server that has the store, one whose files were removed under it, a token that is missing, a changed
-backup, a journal that is nobody's, two records of one serial number, a damaged about.json, a backup that is encrypted,
-a folder of backups that is read-only. A full disk has to be named. Last what keeps stations from going on: a journal
-that is missing, a gap in one, and an order that only the lost store has. As root it takes the tokens from the file
-of station-token, and has all else done as the store's user. With --stop it has systemd stop the server.
-
-It prints a line for each; the status is 1 where anything is otherwise. What gameday needs it needs too.
+The store is that of eight stations' work (gameday_plant.py), with a backup from before some of it. A restore that was
+killed and begun again ends with the same tables, but for the numbers of its own seats; the lost files are in one folder
+beside, and neither its own folder nor a server is left. What it refuses it refuses before it moves anything. As root it
+takes the tokens from the file of station-token, and has all else done as the store's user.
 """
 
-import argparse
 import contextlib
 import json
 import os
 import shutil
 import sqlite3
 import subprocess
-import sys
 import tempfile
 import time
 from pathlib import Path
 
-from common.chip import ROOT, Failed
-from gameday_plant import CUSTOMERS, KILLED, RESTORE, USER, Plant, leave_root
-from restores_forged import FORGED, first_of, signed, written
+import pytest
 
-# A Python that another user than root may run.
-PYTHON = "/usr/bin/python3"
+from common.chip import Failed
+from common.commands import PROJECT, PYTHON, command
+from common.users import AS_USER, USER, another_user
+from plant.gameday_plant import CUSTOMERS, KILLED, Plant
+from plant.restores_forged import first_of, signed, test_folders, test_foreign, test_left_out, test_lost, written
+
+# Those of journals that were forged or damaged are run with the bench that is here.
+__all__ = ["test_folders", "test_foreign", "test_left_out", "test_lost"]
+pytestmark = pytest.mark.needs("reader", "sqlite3", "rsync")
 
 # The tables that a restore brings back, without the numbers that the keeper draws.
 TABLES = {
@@ -61,8 +51,7 @@ def tables(path):
 class Bench:
     """A lost store, the backup from before, and the journals, of which each trial has a copy."""
 
-    def __init__(self, program, folder, first=1, stride=1):
-        self.first, self.stride = first, stride
+    def __init__(self, program, folder):
         self.folder, self.saved = Path(folder), Path(folder, "saved")
         self.saved.mkdir()
         self.plant = Plant(program, self.folder / "plant", 1)
@@ -89,10 +78,10 @@ class Bench:
         words += ["--folders", self.plant.folders]
         return [str(it) for it in [*words, "--port", self.plant.port, "--backups", self.saved, *more]]
 
-    def restore(self, folder, *more, call=0, python=sys.executable, **named):
-        before = [python, "-B", *(["-c", KILLED, str(call)] if call else [])]
+    def restore(self, folder, *more, call=0, **named):
+        before = [PYTHON, "-B", *(["-c", KILLED, str(call)] if call else [])]
         return subprocess.run(
-            [*before, str(RESTORE), *self.words(folder, *more, **named)], capture_output=True, text=True, timeout=120,
+            [*before, str(PROJECT), "station-restore", *self.words(folder, *more, **named)], capture_output=True, text=True, timeout=120,
             stdin=subprocess.DEVNULL, check=False,
         )  # fmt: skip
 
@@ -109,7 +98,6 @@ class Bench:
             raise Failed(f"left: {names}, behind {done}")
         if servers_over(folder):
             raise Failed(f"a server is left over {folder}")
-
 
     def refuses(self, line, *more, folder=None, status=1, **named):
         """Fails unless a restore is refused with a line, and nothing of the store was moved."""
@@ -144,8 +132,39 @@ def servers_over(folder):
     return found
 
 
-def test_killed(bench):
-    """Killed before each of its calls, and begun again."""
+def made_bench(program):
+    """A bench in a folder of its own; whose it is ends its server."""
+    with tempfile.TemporaryDirectory() as folder:
+        bench = Bench(program, Path(folder))
+        yield bench
+        bench.plant.server.kill()
+
+
+@pytest.fixture(scope="module")
+def bench(program):
+    """The bench of another user than root, as a store is never root's."""
+    with another_user():
+        made = made_bench(program)
+        bench = next(made)
+    yield bench
+    next(made, None)
+
+
+@pytest.fixture(scope="module")
+def roots_bench(program):
+    yield from made_bench(program)
+
+
+@pytest.fixture(autouse=True)
+def leave_root(request):
+    """Root's tests go on as another user, but those that are of root."""
+    with contextlib.nullcontext() if request.node.get_closest_marker("root") else another_user():
+        yield
+
+
+@pytest.mark.sizes(60, 1)
+def test_killed(bench, size):
+    """Killed before each of its calls, or each `size`th, and begun again."""
     folder = bench.place()
     lost = tables(folder / "books.db")
     done = bench.restore(folder)
@@ -154,8 +173,7 @@ def test_killed(bench):
     missing = [row for what in ("given", "orders") for row in lost[what] if row not in whole[what]]
     if missing:
         raise Failed(f"not restored: {missing[:3]}")
-    print(f"restored: {len(lost['orders'])} orders and {len(lost['given'])} serial numbers, all there", flush=True)
-    call, kills = bench.first, 0
+    call = 1
     while True:
         folder = bench.place()
         if bench.restore(folder, call=call).returncode == 0:
@@ -167,8 +185,8 @@ def test_killed(bench):
         if tables(folder / "books.db") != whole:
             raise Failed(f"killed before call {call} it restores another store")
         shutil.rmtree(folder)
-        call, kills = call + bench.stride, kills + 1
-    print(f"killed before {kills} of {call} calls, and begun again: the same store each time", flush=True)
+        call += size
+    assert call > 1, "no call was killed"
 
 
 def test_refused(bench):
@@ -187,7 +205,6 @@ def test_refused(bench):
         plant.server.kill()
     for file in aside.iterdir():
         file.rename(plant.db.parent / file.name)
-    print("refused: a server, one whose files were removed under it, one at the port", flush=True)
     empty = bench.folder / "empty"
     empty.mkdir()
     bench.refuses("no token of acme is in", tokens=empty)
@@ -203,7 +220,6 @@ def test_refused(bench):
     foreign.write_text('{"at":"2026-11-29T00:00:00Z","resynchronized":1}\n')
     bench.refuses("doesn't say whose it is", journals=[bench.journals, foreign])
     bench.refuses("two records that differ", journals=[bench.journals, f"acme={twice(bench)}"])
-    print("refused: no token, another token, a changed backup, nobody's journal, a number of two chips", flush=True)
 
 
 def test_damaged(bench):
@@ -224,7 +240,6 @@ def test_damaged(bench):
     made.write_bytes(b"age-encryption.org/v1\n")
     bench.refuses(f"{made} is encrypted: decrypt it first, where its key is", backup=made)
     bench.refuses("is no folder", backup=bench.backup / "books.db")
-    print("refused: a damaged about.json and restoring.json, a backup that is encrypted, a file", flush=True)
 
 
 # Mounts a small disk, locks it where that is said, and runs the words behind.
@@ -232,14 +247,14 @@ SMALL = 'mount -t tmpfs -o "size=$1,uid=65534" tmpfs "$2" && mount -o "remount,$
 SMALL += ' && shift 3 && exec "$@"'
 
 
-def test_disks(bench):
-    """A folder of backups on a disk that is read-only, and a full disk."""
+@pytest.mark.root
+@pytest.mark.needs("mounts")
+def test_disks(roots_bench):
+    """A folder of backups on a disk that is read-only, before anything begins; and a full disk, which is named."""
+    bench = roots_bench
     at, own = bench.folder / "at", ["unshare", "-m", "sh", "-c", SMALL, "sh"]
     at.mkdir()
-    if os.geteuid() or subprocess.run([*own, "64k", at, "ro", "true"], capture_output=True, check=False).returncode:
-        print("disks: left out")
-        return
-    given = ["setpriv", f"--reuid={USER}", f"--regid={USER}", "--clear-groups", "--", PYTHON, "-B", RESTORE]
+    given = [*AS_USER, *command("station-restore")]
     cases = (
         ("1m", "ro", f"the restored store is backed up in {at}, which isn't there, is read-only", at, bench.place()),
         ("16k", "rw", f"No space left at {at}: a restore needs", bench.saved, at),
@@ -253,7 +268,6 @@ def test_disks(bench):
         )  # fmt: skip
         if done.returncode != 1 or line not in done.stderr or "the backup of" in done.stdout:
             raise Failed(f"not refused by {line!r}: {done}")
-    print("refused: a read-only folder of backups, before it begins; and a full disk, which is named", flush=True)
 
 
 def twice(bench):
@@ -282,7 +296,6 @@ def test_kept(bench):
     done = bench.restore(folder)
     if done.returncode:
         raise Failed(f"with the journal: {done}")
-    print(f"kept: {seat} has no journal, and what only the lost store has; with it stations may go on", flush=True)
     cut = bench.copied("cut")
     path = next(iter(sorted(cut.rglob(f"{seat}-*.journal"))))
     lines = path.read_bytes().splitlines(keepends=True)
@@ -298,16 +311,14 @@ def test_kept(bench):
     bench.refuses(line, status=3, journals=[cut], folder=empty)
     path.write_bytes(b"".join(lines[:2]))
     bench.refuses(f"the journal of {seat} ends with number", status=3, journals=[cut])
-    print("kept: a gap in a journal, one behind an earlier restore, and one that ends before the backup", flush=True)
 
 
-def test_root(bench):
+@pytest.mark.root
+def test_root(roots_bench):
     """As root, with the file of station-token: the restored store is its user's, and root's journals are refused."""
-    if os.geteuid():
-        print("as root: left out")
-        return
+    bench = roots_bench
     folder, tokens = bench.place(), bench.folder / "tokens.conf"
-    words = [PYTHON, "-B", ROOT / "python/bin/station-token", "--file", tokens, "--no-reload", "seat", "--site", bench.plant.site]
+    words = [*command("station-token"), "--file", tokens, "--no-reload", "seat", "--site", bench.plant.site]
     for customer in CUSTOMERS:
         seat = f"restore-{customer}"
         words_of = [*words, seat, "--known", bench.plant.folder / f"tokens/{seat}.token"]
@@ -316,15 +327,14 @@ def test_root(bench):
         path.chmod(0o711)
     for path in (folder, bench.backup, bench.plant.site, bench.saved):
         subprocess.run(["chown", "-R", f"{USER}:{USER}", str(path)], check=True)
-    told = bench.restore(folder, tokens=tokens, python=PYTHON)
+    told = bench.restore(folder, tokens=tokens)
     if told.returncode != 1 or "can't read" not in told.stderr or not (folder / "books.db").exists():
         raise Failed(f"root's journals: {told}")
     subprocess.run(["chown", "-R", f"{USER}:{USER}", str(bench.journals)], check=True)
-    done = bench.restore(folder, tokens=tokens, python=PYTHON)
+    done = bench.restore(folder, tokens=tokens)
     owners = {path.stat().st_uid for path in folder.rglob("*")}
     if done.returncode or owners != {USER} or tokens.stat().st_uid:
         raise Failed(f"as root: {done}, files of {owners}")
-    print("as root: the tokens by station-token's file, and all files the store's user's", flush=True)
 
 
 def test_stopped(bench):
@@ -342,43 +352,3 @@ def test_stopped(bench):
     finally:
         os.environ["PATH"] = before
         plant.server.kill()
-    print("stopped: a server that systemd stops, and its store restored", flush=True)
-
-
-TESTS = {
-    "killed": test_killed, "refused": test_refused, "damaged": test_damaged, "disks": test_disks, "kept": test_kept,
-    "root": test_root, **FORGED, "stopped": test_stopped,  # the last one restores the plant's own store
-}  # fmt: skip
-NEED_ROOT = ("root", "disks")
-
-
-def main():
-    parser = argparse.ArgumentParser(description="Restores of one lost store.")
-    parser.add_argument("--program", default=ROOT / "crates/station/out/station", help="the built program")
-    parser.add_argument("--only", default=",".join(TESTS), help=f"of {', '.join(TESTS)}")
-    parser.add_argument("--first", type=int, default=1, help="the first call before which it is killed")
-    parser.add_argument("--stride", type=int, default=1, help="kill it before each so manieth call alone")
-    args = parser.parse_args()
-    program = Path(args.program).resolve()
-    if not os.access(program, os.X_OK):
-        parser.error(f"{program} is no program")
-    names = args.only.split(",")
-    if not os.geteuid():  # as root those alone that need root
-        others = ",".join(it for it in names if it not in NEED_ROOT)
-        status = leave_root(f"--program={program}", f"--only={others}") if others else 0
-        names = [it for it in NEED_ROOT if it in names]
-        if status or not names:
-            return status
-    try:
-        with tempfile.TemporaryDirectory(dir=".") as folder:
-            bench = Bench(program, Path(folder).resolve(), args.first, args.stride)
-            for name in names:
-                TESTS[name](bench)
-    except Failed as failed:
-        print(f"FAILED: {failed}", file=sys.stderr)
-        return 1
-    return 0
-
-
-if __name__ == "__main__":
-    sys.exit(main())

@@ -1,4 +1,4 @@
-"""What bench/tokens tries of nginx itself: certificates, shares, health and TLS."""
+"""nginx by deploy/nginx.conf over the built program: certificates, shares, rates, health, TLS and its port."""
 
 import re
 import shutil
@@ -7,21 +7,27 @@ import struct
 import time
 from concurrent.futures import ThreadPoolExecutor
 
-from common.served import HOST
-from tokens_cases import ASKING, LATER, NO_ORDER, ORDER, STRANGER, by, client_of, seats, told, until, working
-from common.tokens_place import CERTIFICATES, CONF, INNER, ROOT, ran, refusal
+import pytest
+
+from common.deployed import CERTIFICATES, CONF, INNER, ROOT, expect, ran, refusal
+from common.ports import HOST
+from plant.test_tokens import (
+    ASKING, LATER, NO_ORDER, ORDER, STRANGER, by, by_python, client_of, seats, told, until, working,
+)  # fmt: skip
+
+pytestmark = [pytest.mark.root, pytest.mark.nginx]
 
 
-def certificates(place, tried):
+def test_certificates(place):
     """stations by certificate: good, revoked, of another authority, and a list that has ended"""
-    ours, made = with_certificates(place, tried)
+    ours, made = with_certificates(place)
 
     def ask(name, *more, token="Bearer certificate"):
         return told(place.ask(token, ORDER, more=[*made.get(name, []), *more]))
 
     for version in ("--http1.1", "--http2"):
-        tried.same(f"{version} good", [ask(it, version) for it in ("pc1", "pc2", "looks")], [NO_ORDER] * 3)
-        tried.same(f"{version} one that looks", ask("looks", version, "-d", "{}"), (403, refusal("wrong_caller", 8)))
+        expect(f"{version} good", [ask(it, version) for it in ("pc1", "pc2", "looks")], [NO_ORDER] * 3)
+        expect(f"{version} one that looks", ask("looks", version, "-d", "{}"), (403, refusal("wrong_caller", 8)))
         asked = len(place.recorder.heads)
         for name, token in [
             ("foreign", "certificate"),
@@ -29,47 +35,46 @@ def certificates(place, tried):
             (None, "certificate"),
             ("pc1", "abc"),
         ]:
-            tried.same(f"{version} {name}: {token}", ask(name, version, token=by(token)), STRANGER)
-        tried.same(f"{version} without the word", ask("pc1", version, token=None), STRANGER)
-        tried.same(f"{version} came through", place.recorder.heads[asked:], [])
-    tried.same("a token without a certificate", ask(None, token=by(place.outer["work"])), NO_ORDER)
-    tried.same("python", client_by_certificate(place, made["pc1"]), NO_ORDER[0])
+            expect(f"{version} {name}: {token}", ask(name, version, token=by(token)), STRANGER)
+        expect(f"{version} without the word", ask("pc1", version, token=None), STRANGER)
+        expect(f"{version} came through", place.recorder.heads[asked:], [])
+    expect("a token without a certificate", ask(None, token=by(place.outer["work"])), NO_ORDER)
+    expect("python", client_by_certificate(place, made["pc1"]), NO_ORDER[0])
     inner = [re.search(rb"Bearer (\S*)", head)[1].decode() for head in place.recorder.heads]
-    tried.same("each is its own seat's", inner[:3], [INNER[it] for it in ("a1", "b1", "a1")])
+    expect("each is its own seat's", inner[:3], [INNER[it] for it in ("a1", "b1", "a1")])
     ran(["openssl", "ca", "-config", "ca.cnf", "-revoke", "pc1.pem"], ours)
     place.revocations(ours)
-    tried.same("revoked: before nginx is told", ask("pc1"), NO_ORDER)
+    expect("revoked: before nginx is told", ask("pc1"), NO_ORDER)
     place.reload()
     asked = len(place.recorder.heads)
-    tried.same("revoked", (ask("pc1"), ask("pc1", token=by(place.outer["work"]))), (STRANGER, STRANGER))
-    tried.same("came through", place.recorder.heads[asked:], [])
-    tried.same("another goes on", ask("pc2"), NO_ORDER)
+    expect("revoked", (ask("pc1"), ask("pc1", token=by(place.outer["work"]))), (STRANGER, STRANGER))
+    expect("came through", place.recorder.heads[asked:], [])
+    expect("another goes on", ask("pc2"), NO_ORDER)
     place.revocations(ours, "-crlsec", "1")
     time.sleep(2)
     place.reload()
-    tried.same("a list that has ended: none by certificate", [ask(it) for it in ("pc2", "looks")], [STRANGER] * 2)
-    tried.same("tokens go on", ask(None, token=by(place.outer["work"])), NO_ORDER)
+    expect("a list that has ended: none by certificate", [ask(it) for it in ("pc2", "looks")], [STRANGER] * 2)
+    expect("tokens go on", ask(None, token=by(place.outer["work"])), NO_ORDER)
 
 
 def client_by_certificate(place, words):
     """The status that python is refused with by its certificate, as the page has it."""
-    text = f"""
-import ssl, sys
-sys.path.insert(0, {str(ROOT / "python")!r})
-from wanekupo_station import Refused, Station
-context = ssl.create_default_context(cafile="etc/cert.pem")
+    done = by_python(f"""
+import ssl
+from wanekupo.common.errors import Refused
+from wanekupo.seat.station import Station
+context = ssl.create_default_context(cafile="{place.folder}/etc/cert.pem")
 context.load_cert_chain({words[1]!r}, {words[3]!r})
 try:
-    station = Station("https://localhost:{place.port}", "certificate", "pc1.json", 0, context=context)
+    station = Station("https://localhost:{place.port}", "certificate", "{place.folder}/pc1.json", 0, context=context)
     station.get("/v1/order", name="none")
 except Refused as refused:
     print(refused.status)
-"""
-    done = ran(["python3", "-c", text], place.folder)
+""")
     return int(done.stdout) if done.stdout else done.stderr
 
 
-def with_certificates(place, tried):
+def with_certificates(place):
     """nginx that takes certificates, our CA's folder, and curl's words for each certificate."""
     seats(place)
     ours, others = place.ca("ours"), place.ca("others")
@@ -84,55 +89,55 @@ def with_certificates(place, tried):
         .stdout[8:]
         .strip()
     )
-    tried.same("a subject", subject, "CN=pc1,O=Plant")
+    expect("a subject", subject, "CN=pc1,O=Plant")
     for words in (["a1", "--certificate", subject], ["b1", "--certificate", "CN=pc2,O=Plant"],
                   ["a1", "--look", "--certificate", "CN=looks,O=Plant"]):  # fmt: skip
-        tried.same(f"{words[-1]} {words[0]}", place.token("add", *words, is_told=False)[:2], (0, ""))
-    tried.same("a certificate has one seat", place.token("add", "b1", "--certificate", subject, is_told=False)[0], 1)
+        expect(f"{words[-1]} {words[0]}", place.token("add", *words, is_told=False)[:2], (0, ""))
+    expect("a certificate has one seat", place.token("add", "b1", "--certificate", subject, is_told=False)[0], 1)
     place.made("work", "add", "a1", is_told=False)
     place.nginx()
     return ours, made
 
 
-def shares(place, tried):
+def test_shares(place):
     """two requests of a caller at a time, and its rates"""
     working(place)
     held = "/v1/order?name=hold"
     with ThreadPoolExecutor(8) as pool:
         two = [pool.submit(place.ask, by(place.outer["work"]), held) for _ in range(2)]
         until(lambda: len(place.recorder.heads) == 2)
-        tried.same("a third one", told(place.ask(by(place.outer["work"]), ORDER)), LATER)
+        expect("a third one", told(place.ask(by(place.outer["work"]), ORDER)), LATER)
         patient = pool.submit(
             client_of, place, "count = len([station.get('/v1/devices', after='') for _ in range(20)])", 20, 5
         )
-        tried.same(
+        expect(
             "another caller", [told(place.ask(by(place.outer[it]), ORDER)) for it in ("bolt", "look")], [NO_ORDER] * 2
         )
         place.recorder.gate.set()
-        tried.same("the two", [told(it.result()) for it in two], [NO_ORDER] * 2)
-        tried.same("a station at work", patient.result(), "ok")
+        expect("the two", [told(it.result()) for it in two], [NO_ORDER] * 2)
+        expect("a station at work", patient.result(), "ok")
     place.recorder.gate.clear()
-    tried.same("and then", told(place.ask(by(place.outer["work"]), ORDER)), NO_ORDER)
-    streams(place, tried, held)
-    hung_up(place, tried, held)
-    tried.same("ten a second, behind thirty at once, meet no rate", client_of(place, THIRTY + ASKING, 15), "ok")
+    expect("and then", told(place.ask(by(place.outer["work"]), ORDER)), NO_ORDER)
+    streams(place, held)
+    hung_up(place, held)
+    expect("ten a second, behind thirty at once, meet no rate", client_of(place, THIRTY + ASKING, 15), "ok")
     got = [place.ask(by(place.outer["work"]), "/v1/report") for _ in range(9)]
-    tried.same(
+    expect(
         "nine reports",
         ({told(it) for it in got if it[0] != 200}, 9 > sum(it[0] == 200 for it in got) > 0),
         ({LATER}, True),
     )
-    tried.same("another customer's", place.ask(by(place.outer["bolt"]), "/v1/report")[0], 200)
+    expect("another customer's", place.ask(by(place.outer["bolt"]), "/v1/report")[0], 200)
     start = time.monotonic()
     got = {place.ask(by(place.outer["work"]), "/v1/import", "{}")[0] for _ in range(22)}
-    tried.same("imports wait for their turn", (got, time.monotonic() - start > 4), ({400}, True))
+    expect("imports wait for their turn", (got, time.monotonic() - start > 4), ({400}, True))
     start = time.monotonic()
     got = {place.ask(by(place.outer["work"]), "/v1/ledger?chip=000000000001")[0] for _ in range(8)}
-    tried.same("ledgers wait for theirs", (got, time.monotonic() - start > 0.8), ({404}, True))
-    waiting_client(place, tried, held)
+    expect("ledgers wait for theirs", (got, time.monotonic() - start > 0.8), ({404}, True))
+    waiting_client(place, held)
 
 
-def customers(place, tried):
+def test_customers(place):
     """what all callers of a customer have together"""
     seats(place)
     share = int(re.search(r"limit_conn customers (\d+);", CONF.read_text(encoding="utf-8"))[1])
@@ -145,10 +150,10 @@ def customers(place, tried):
         held = [pool.submit(place.ask, by(place.outer[name]), "/v1/order?name=hold") for name in 2 * names]
         until(lambda: len(place.recorder.heads) == share)
         time.sleep(0.5)
-        tried.same(f"{2 * len(names)} at a time of a share of {share}: at the server", len(place.recorder.heads), share)
-        tried.same("another customer's", told(place.ask(by(place.outer["bolt"]), ORDER)), NO_ORDER)
+        expect(f"{2 * len(names)} at a time of a share of {share}: at the server", len(place.recorder.heads), share)
+        expect("another customer's", told(place.ask(by(place.outer["bolt"]), ORDER)), NO_ORDER)
         place.recorder.gate.set()
-        tried.same(
+        expect(
             "replies",
             sorted(told(it.result()) for it in held),
             sorted([NO_ORDER] * share + [LATER] * (2 * len(names) - share)),
@@ -156,17 +161,17 @@ def customers(place, tried):
         place.recorder.gate.clear()
         report = pool.submit(place.ask, by(place.outer[names[0]]), "/v1/report?hold")
         until(lambda: b"report" in place.recorder.heads[-1])
-        tried.same("a second report at a time", told(place.ask(by(place.outer[names[1]]), "/v1/report")), LATER)
-        tried.same("another customer's", place.ask(by(place.outer["bolt"]), "/v1/report")[0], 200)
+        expect("a second report at a time", told(place.ask(by(place.outer[names[1]]), "/v1/report")), LATER)
+        expect("another customer's", place.ask(by(place.outer["bolt"]), "/v1/report")[0], 200)
         place.recorder.gate.set()
-        tried.same("the first", report.result()[0], 200)
+        expect("the first", report.result()[0], 200)
 
 
 # Thirty requests without a pause, which is more than a rate lets by at once.
 THIRTY = "[station.get('/v1/devices', after='') for _ in range(30)]; end = time.time() + 2\n"
 
 
-def streams(place, tried, held):
+def streams(place, held):
     """HTTP/2: each stream is one of the two."""
     urls = [f"https://localhost:{place.port}{held}{number}" for number in range(6)]
     words = ["curl", "-sS", "--cacert", "etc/cert.pem", "--parallel", "--http2", "-m", "20"]
@@ -176,40 +181,40 @@ def streams(place, tried, held):
         six = pool.submit(ran, words, place.folder)
         until(lambda: len(place.recorder.heads) == asked + 2)
         time.sleep(0.3)
-        tried.same("six streams: at the server", len(place.recorder.heads) - asked, 2)
+        expect("six streams: at the server", len(place.recorder.heads) - asked, 2)
         place.recorder.gate.set()
         got = sorted(re.findall(r"\d\d\d 2$", six.result().stdout, re.MULTILINE))
-        tried.same("six streams: replies", got, ["404 2"] * 2 + ["503 2"] * 4)
+        expect("six streams: replies", got, ["404 2"] * 2 + ["503 2"] * 4)
     place.recorder.gate.clear()
 
 
-def hung_up(place, tried, held):
+def hung_up(place, held):
     """Who hangs up keeps its place until the server has replied."""
     asked = len(place.recorder.heads)
     for _ in range(2):
         place.ask(by(place.outer["work"]), held, more=["-m", "0.3"])
-    tried.same("two that were hung up", len(place.recorder.heads) - asked, 2)
-    tried.same("a third one", told(place.ask(by(place.outer["work"]), ORDER)), LATER)
+    expect("two that were hung up", len(place.recorder.heads) - asked, 2)
+    expect("a third one", told(place.ask(by(place.outer["work"]), ORDER)), LATER)
     place.recorder.gate.set()
     free = until(lambda: told(place.ask(by(place.outer["work"]), ORDER)) == NO_ORDER)
-    tried.same("once they are answered", free, True)
+    expect("once they are answered", free, True)
     place.recorder.gate.clear()
 
 
-def waiting_client(place, tried, held):
+def waiting_client(place, held):
     """A client that is patient waits at a 503, and asks again."""
     with ThreadPoolExecutor(3) as pool:
         two = [pool.submit(place.ask, by(place.outer["bolt"]), held) for _ in range(2)]
         time.sleep(0.3)
         client = pool.submit(client_of, place, "station.get('/v1/devices', after=''); count = 1", 1, 10)
         time.sleep(0.7)
-        tried.same("a client that waits", client.done(), False)
+        expect("a client that waits", client.done(), False)
         place.recorder.gate.set()
-        tried.same("and is answered", (client.result(), [it.result()[0] for it in two]), ("ok", [404] * 2))
+        expect("and is answered", (client.result(), [it.result()[0] for it in two]), ("ok", [404] * 2))
     place.recorder.gate.clear()
 
 
-def strangers(place, tried):
+def test_strangers(place):
     """a rate by address for what has no token; a station at the same address goes on"""
     working(place)
     urls = "".join(f'url = "https://localhost:{place.port}/v1/report"\n' for _ in range(300))
@@ -218,18 +223,18 @@ def strangers(place, tried):
         client = pool.submit(client_of, place, ASKING, 15)
         done = ran(["curl", "-sS", "--cacert", "etc/cert.pem", "-K", "urls", "-w", "\n%{http_code}\n"], place.folder)
         got = re.findall(r"^(.*)\n(\d\d\d)$", done.stdout, re.MULTILINE)
-        tried.same("300 strangers", {(int(status), text) for text, status in got}, {STRANGER, LATER})
-        tried.same("a station", client.result(), "ok")
+        expect("300 strangers", {(int(status), text) for text, status in got}, {STRANGER, LATER})
+        expect("a station", client.result(), "ok")
     heads = [head for head in place.recorder.heads if b"/v1/report" in head]
-    tried.same("of these came through", heads, [])
+    expect("of these came through", heads, [])
     log = (place.folder / "log/nginx.conf").read_text()
-    tried.same(
+    expect(
         "the log has those below their rate",
         ("PASSED" in log, "REJECTED" in log, "wanekupo_" in log),
         (True, False, False),
     )
-    tried.same("and who asked", " b1:1 200 PASSED PASSED" in log, True)
-    tried.same("nothing else is told", (place.folder / "log/nginx.conf-error.log").read_text(), "")
+    expect("and who asked", " b1:1 200 PASSED PASSED" in log, True)
+    expect("nothing else is told", (place.folder / "log/nginx.conf-error.log").read_text(), "")
 
 
 def at_once(place, count, target, *words):
@@ -240,17 +245,17 @@ def at_once(place, count, target, *words):
     return {int(it) for it in ran(words, place.folder).stdout.split()}
 
 
-def rates(place, tried):
+def test_rates(place):
     """what is refused has a rate too: a POST of a token that looks, and /health for who may not ask"""
     working(place)
     token = ["-H", f"Authorization: {by(place.outer['look'])}", "-d", "{}"]
-    tried.same("one POST of a token that looks", at_once(place, 1, "/v1/order", *token), {403})
-    tried.same("100 of them", at_once(place, 100, "/v1/order", *token), {403, 503})
+    expect("one POST of a token that looks", at_once(place, 1, "/v1/order", *token), {403})
+    expect("100 of them", at_once(place, 100, "/v1/order", *token), {403, 503})
     other = ["--interface", "127.0.0.9"]
-    tried.same("one look at /health by another address", at_once(place, 1, "/health", *other), {401})
-    tried.same("300 of them", at_once(place, 300, "/health", *other), {401, 503})
-    tried.same("300 by this machine", at_once(place, 300, "/health"), {200})
-    tried.same("of these came through", len(place.recorder.heads) <= 2, True)
+    expect("one look at /health by another address", at_once(place, 1, "/health", *other), {401})
+    expect("300 of them", at_once(place, 300, "/health", *other), {401, 503})
+    expect("300 by this machine", at_once(place, 300, "/health"), {200})
+    expect("of these came through", len(place.recorder.heads) <= 2, True)
 
 
 # Requests that nginx itself refuses, behind their first line's method, and what docs/reference/api.md calls that.
@@ -271,56 +276,56 @@ ODD = [
 ]
 
 
-def odd(place, tried):
+def test_odd(place):
     """what nginx itself refuses has the server's form"""
     working(place)
     for what, text, status, name, no in ODD:
         head, _, body = place.raw(text.replace("TOKEN", place.outer["work"]).encode()).partition(b"\r\n\r\n")
         got = (int(head.split(b" ")[1]), body.decode(), b"\r\nContent-Type: application/json\r\n" in head)
-        tried.same(what, got, (status, refusal(name, no), True))
+        expect(what, got, (status, refusal(name, no), True))
     large = place.ask(by(place.outer["work"]), "/v1/import", "x" * 65537, ["--http2"])
-    tried.same("65,537 bytes over HTTP/2", told(large), (413, refusal("too_large", 3)))
-    tried.same("came through", place.recorder.heads, [])
+    expect("65,537 bytes over HTTP/2", told(large), (413, refusal("too_large", 3)))
+    expect("came through", place.recorder.heads, [])
     chunked = ["-H", "Transfer-Encoding: chunked", "--http1.1"]
-    tried.same("in pieces: made whole", place.ask(by(place.outer["work"]), "/v1/ship", "{}", chunked)[0], 400)
-    tried.same("came through", [b"\r\nContent-Length: 2" in head for head in place.recorder.heads], [True])
+    expect("in pieces: made whole", place.ask(by(place.outer["work"]), "/v1/ship", "{}", chunked)[0], 400)
+    expect("came through", [b"\r\nContent-Length: 2" in head for head in place.recorder.heads], [True])
 
 
-def health(place, tried):
+def test_health(place):
     """up or down, for named addresses alone, and no flood of it reaches the server"""
     working(place)
-    tried.same("up", told(place.ask(None, "/health")), (200, "up\n"))
+    expect("up", told(place.ask(None, "/health")), (200, "up\n"))
     asked = len(place.recorder.heads)
     with ThreadPoolExecutor(8) as pool:
         got = set(pool.map(lambda _: told(place.ask(None, "/health")), range(200)))
-    tried.same("200 times", got, {(200, "up\n")})
-    tried.same("at most one in two seconds came through", len(place.recorder.heads) - asked <= 2, True)
-    tried.same("no token goes with it", [head for head in place.recorder.heads if b"Authorization" in head], [])
+    expect("200 times", got, {(200, "up\n")})
+    expect("at most one in two seconds came through", len(place.recorder.heads) - asked <= 2, True)
+    expect("no token goes with it", [head for head in place.recorder.heads if b"Authorization" in head], [])
     for name, more in [("another address", ["--interface", "127.0.0.9"]), ("POST", ["-d", "x"])]:
-        tried.same(name, told(place.ask(None, "/health", more=more)), STRANGER)
+        expect(name, told(place.ask(None, "/health", more=more)), STRANGER)
     time.sleep(3.1)  # nginx's clock has whole seconds
     place.recorder.said = b"HTTP/1.1 503 Service Unavailable\r\nContent-Length: 0\r\n\r\n"
-    tried.same("its store failed", told(place.ask(None, "/health")), (503, "down\n"))
+    expect("its store failed", told(place.ask(None, "/health")), (503, "down\n"))
     time.sleep(3.1)
     place.recorder.said = b""
-    tried.same("no reply", told(place.ask(None, "/health")), (504, "down\n"))
+    expect("no reply", told(place.ask(None, "/health")), (504, "down\n"))
     place.recorder.close()
     time.sleep(3.1)  # nginx's clock has whole seconds
-    tried.same("away", told(place.ask(None, "/health")), (502, "down\n"))
+    expect("away", told(place.ask(None, "/health")), (502, "down\n"))
 
 
-def health_seat(place, tried):
+def test_health_seat(place):
     """with a seat `health` it asks the store too"""
     site = place.site.read_text(encoding="utf-8").replace('name = "b1"', 'name = "health"')
     place.site.write_text(site, encoding="utf-8")
     (place.folder / "known").write_text("hello", encoding="ascii")
     status = place.token("seat", "health", "--known", "known", "--site", place.site, is_told=False)[0]
     place.nginx()
-    tried.same("up", (status, told(place.ask(None, "/health"))), (0, (200, "up\n")))
-    tried.same("it asks with its own token", b"Bearer hello" in place.recorder.heads[-1], True)
+    expect("up", (status, told(place.ask(None, "/health"))), (0, (200, "up\n")))
+    expect("it asks with its own token", b"Bearer hello" in place.recorder.heads[-1], True)
 
 
-def encryption(place, tried):
+def test_encryption(place):
     """TLS, and the fields of each reply"""
     working(place)
     for version, is_taken in [("1", False), ("1_1", False), ("1_2", True), ("1_3", True)]:
@@ -334,18 +339,18 @@ def encryption(place, tried):
             "ALL:@SECLEVEL=0",
         ]
         done = ran(words, place.folder, input="")
-        tried.same(f"TLS {version}", "Cipher is (NONE)" not in done.stdout and done.returncode == 0, is_taken)
+        expect(f"TLS {version}", "Cipher is (NONE)" not in done.stdout and done.returncode == 0, is_taken)
         for way in ("-sess_out", "-sess_in"):
             done = ran([*words, way, "session"], place.folder, input="") if is_taken else done
-        tried.same(f"TLS {version}: a session that goes on", "Reused, " in done.stdout, False)
+        expect(f"TLS {version}: a session that goes on", "Reused, " in done.stdout, False)
     more = ["/v1/report", "/health", "/yield", "/v1/order"]
     replies = [place.ask(by(place.outer["look"]), target, "{}" if target == "/v1/order" else None) for target in more]
     replies.append(place.ask(None, "/v1/order"))
-    tried.same("statuses", [it[0] for it in replies], [200, 200, 200, 403, 401])
+    expect("statuses", [it[0] for it in replies], [200, 200, 200, 403, 401])
     wanted = {"strict-transport-security": "max-age=31536000", "x-content-type-options": "nosniff",
               "cache-control": "no-store", "server": "nginx"}  # fmt: skip
     for target, reply in zip([*more, "401"], replies):
-        tried.same(f"fields of {target}", {name: reply[1].get(name) for name in wanted}, wanted)
+        expect(f"fields of {target}", {name: reply[1].get(name) for name in wanted}, wanted)
 
 
 # Extensions of a first message, by RFC 8446, that OpenSSL refuses: a name's length, a list of groups that is longer
@@ -353,18 +358,18 @@ def encryption(place, tried):
 HANDSHAKES = ["0000000500000261", "000a000400090017", "002b0003020304" * 2, "002b0003020304003300020000"]
 
 
-def handshakes(place, tried):
+def test_handshakes(place):
     """a stranger's handshakes fill no log"""
     working(place)
     for extensions in map(bytes.fromhex, HANDSHAKES):
         said = b"\3\3" + bytes(32) + b"\0\0\2\x13\1\1\0" + struct.pack(">H", len(extensions)) + extensions
         with socket.create_connection((HOST, place.port), 10) as connection:
             connection.sendall(b"\x16\3\1" + struct.pack(">HBBH", len(said) + 4, 1, 0, len(said)) + said)
-            tried.same(f"{extensions.hex()}: an alert", connection.recv(2), b"\x15\3")
-    tried.same("the error log", (place.folder / "log/nginx.conf-error.log").read_text(), "")
+            expect(f"{extensions.hex()}: an alert", connection.recv(2), b"\x15\3")
+    expect("the error log", (place.folder / "log/nginx.conf-error.log").read_text(), "")
 
 
-def silent(place, tried):
+def test_silent(place):
     """who says nothing, or stops in the middle, is gone after ten seconds"""
     working(place)
     head = b"POST /v1/order HTTP/1.1\r\nHost: h\r\nAuthorization: Bearer " + place.outer["work"].encode()
@@ -377,8 +382,8 @@ def silent(place, tried):
     with ThreadPoolExecutor(len(begun)) as pool:
         seconds = dict(zip(begun, pool.map(lambda it: held(place, it), begun.values())))
     for name, took in seconds.items():
-        tried.same(f"{name}: gone between 9 and 12 seconds", 9 < took < 12, True)
-    tried.same("came through", place.recorder.heads, [])
+        expect(f"{name}: gone between 9 and 12 seconds", 9 < took < 12, True)
+    expect("came through", place.recorder.heads, [])
 
 
 def held(place, data):
@@ -454,25 +459,18 @@ setpriv --reuid nobody --clear-groups /usr/bin/python3 -c "$bound" 2>&1 | tail -
 """
 
 
-def port(place, tried):
+@pytest.mark.needs("ip", "nft", "setpriv", "mounts")
+def test_port(place):
     """who on this machine reaches the server's port, and can be the server; what an address holds of nginx"""
-    missing = [it for it in ("ip", "nft", "unshare", "setpriv") if not shutil.which(it)]
-    if missing or ran(["unshare", "-n", "true"]).returncode:
-        tried.lines.append(f"left out: {missing or 'no network of its own'}")
-        return
     rule = ROOT / "deploy/station.nft"
     words = ["unshare", "-n", "sh", "-c", ASKS, "sh", place.program, rule, HOLDS, BEGUN]
     said = ran(words, place.folder).stdout.splitlines()
     wanted = ["nobody 401", "root 401", "www-data 401"]
-    tried.same("nobody before the rules; root and nginx with them", said[:3], wanted)
+    expect("nobody before the rules; root and nginx with them", said[:3], wanted)
     # What has no user, as a packet of AF_SMC, is refused; the last packets of root's and nginx's have none either.
     refused = "ip daddr 127.0.0.0/8 tcp dport 880-899 counter{} reject with tcp reset"
     told = [refused.format(" packets 0 bytes 0"), refused.format("")]
-    tried.same("none of theirs is refused; the last rule asks for no user", said[3:5], told)
+    expect("none of theirs is refused; the last rule asks for no user", said[3:5], told)
     wanted = ["nobody 000", "begun before: ConnectionResetError", "PermissionError: [Errno 13] Permission denied"]
-    tried.same("nobody with the rules, and over a connection of before; nobody as the server", said[5:8], wanted)
-    tried.same("74 connections of one address, and 10 of another", said[8:], ["127.0.0.1 64", "127.0.0.2 74"])
-
-
-EDGES = [certificates, shares, customers, strangers, rates, odd, health, health_seat, encryption, handshakes]
-EDGES += [silent, port]
+    expect("nobody with the rules, and over a connection of before; nobody as the server", said[5:8], wanted)
+    expect("74 connections of one address, and 10 of another", said[8:], ["127.0.0.1 64", "127.0.0.2 74"])

@@ -1,45 +1,35 @@
-#!/usr/bin/env python3
-"""Has station-site and station-restart try a start where all backups are encrypted, and their key is elsewhere.
+"""station-site and station-restart try a start where all backups are encrypted, and their key is elsewhere.
 
-    trials                        crates/station/out/station of this repository
-    trials --program P            another program
-    trials --only stopped         the groups with this in their names
-
-A store of another user lies on Btrfs, on a loop device, and is served. station-backup backs it up by a snapshot, and age
-encrypts it: no plain backup is there. Then:
-
-- `growths`: a growth is tried over a copy of the store as it is now, and so is a restart; the length of a stand is told
-  by that. Where the copy doesn't start, there is no growth and no restart.
-- `unknown`: no snapshot was ever made: what isn't tried is said. `apply` tries the growth over the backup that it
-  makes, before the new text is in place; where that refuses it, the server runs on with the old text.
-- `distrusted`: the file that says how the last backup was made is a link, a pipe, too large, or says another kind.
-- `killed`: the copy is killed before each of its calls, and the next one removes what is left; a copy that a trial
-  left goes with the next backup, once it is an hour old.
-- `stopped`: a signal in the middle of a trial start, and in the middle of a growth: nothing is left, the server runs.
-
-Behind each no snapshot, no mount and no copy in plain is there. It prints a line for each group, and the status is 1
-where anything is otherwise. As root, with btrfs-progs, age, sqlite3, setpriv, runuser, curl and flock. Python 3.11.
+The store is on Btrfs and another user's, whose last backup is encrypted by age. A growth and a restart take a snapshot,
+start the program over a copy of the store as it is now, and are refused where it doesn't start. Without a kind of
+snapshot they say what isn't tried. The file that says the kind is the store's user's, so it is distrusted. A trial that
+is killed before one of its calls has what it left removed by the next run; a signal in the middle leaves nothing, and
+the server runs. Behind each no snapshot, no mount and no copy in plain is there.
 """
 
-import argparse
 import json
 import os
 import shutil
 import signal
 import subprocess
-import sys
 import tempfile
 import time
+from collections.abc import Iterator
 from pathlib import Path
 
-sys.dont_write_bytecode = True
+import pytest
 
-from common.chip import ROOT, Failed  # noqa: E402
-from sites_place import House, expect  # noqa: E402
-from snapshots_place import KILLED  # noqa: E402
+from common.chip import Failed
+from common.commands import PYTHON, command
+from common.deployed import expect
+from machines.snapshots_place import KILLED
+from plant.house import House
+
+pytestmark = [
+    pytest.mark.root, pytest.mark.needs("mkfs.btrfs", "age", "sqlite3", "setpriv", "runuser", "curl", "flock"),
+]  # fmt: skip
 
 USER, ROOM = "nobody", "wanekupo-room."
-BACKUP, RESTART = ROOT / "python/bin/station-backup", ROOT / "python/bin/station-restart"
 SYSTEMCTL = '#!/bin/sh\ntest "$1" = is-active\n'
 # A program that doesn't start over some stores, or waits there until it is stopped.
 REFUSES = '#!/bin/sh\ncase "$*" in *%s*) echo "station: refused here" >&2; exit 1;; esac\nexec %s "$@"\n'
@@ -88,7 +78,7 @@ class Place:
 
     def backup(self, *words, user: str = "root") -> subprocess.CompletedProcess:
         common = ["--program", self.program, "--site", self.house.site, "--db", self.house.db]
-        return ran("runuser", "-u", user, "--", BACKUP, *common, "--into", self.house.backups, *words)
+        return ran("runuser", "-u", user, "--", *command("station-backup"), *common, "--into", self.house.backups, *words)
 
     def expect_backup(self) -> str:
         """An encrypted backup by a snapshot; what it told."""
@@ -98,9 +88,9 @@ class Place:
         return done.stderr
 
     def trial(self, *words, killed=()) -> subprocess.CompletedProcess:
-        before = [sys.executable, "-B", "-c", KILLED, *killed] if killed else []
+        before = [PYTHON, "-B", *(["-c", KILLED, *killed] if killed else [])]
         common = ["--trial", "--db", self.house.db, "--into", self.house.backups, *words]
-        return ran(*before, BACKUP, *common, self.house.backups / "tried-by-site.x", start_new_session=True)
+        return ran(*before, *command("station-backup")[2:], *common, self.house.backups / "tried-by-site.x", start_new_session=True)
 
     def restart_words(self, *words) -> list:
         metrics = self.folder / "metrics.prom"
@@ -109,7 +99,7 @@ class Place:
         metrics.write_text("".join(f"wanekupo_{name} {value}\n" for name, value in rows.items()))
         named = ["--db", self.house.db, "--site", self.house.site, "--backups", self.house.backups]
         named += ["--room", self.house.rooms]
-        return [RESTART, "--check", *named, "--metrics", metrics, "--program", self.program, *words]
+        return [*command("station-restart"), "--check", *named, "--metrics", metrics, "--program", self.program, *words]
 
     def restart(self, *words) -> subprocess.CompletedProcess:
         return ran(*self.restart_words(*words), env=self.environment())
@@ -141,7 +131,20 @@ class Place:
         expect(f"{what}: the server's answer", self.house.asked("abc"), 404)
 
 
-def growths(place: Place) -> str:
+@pytest.fixture(scope="module")
+def place(program: Path) -> Iterator[Place]:
+    with tempfile.TemporaryDirectory() as folder:
+        os.chmod(folder, 0o755)
+        shutil.copy(program, Path(folder, "station"))
+        place = Place(Path(folder, "station"), Path(folder))
+        try:
+            yield place
+        finally:
+            place.close()
+
+
+def test_growths(place: Place) -> None:
+    """A growth and a restart are tried over a copy of the store as it is now, and refused where it doesn't start."""
     run = place.house.run("add-seat", "acme", "a2", "--to", str(place.house.given))
     expect(run.said, (run.status, f"{NOW} took it, as the newest backup is encrypted" in run.said), (0, True))
     done = place.restart()
@@ -162,10 +165,10 @@ def growths(place: Place) -> str:
     done = place.restart()
     expect("the newest is plain", f"by a start of the copy in {made}" in done.stdout, True)
     shutil.rmtree(made)
-    return "a growth and a restart are tried over a copy of the store as it is now, and refused where it doesn't start"
 
 
-def unknown(place: Place) -> str:
+def test_unknown(place: Place) -> None:
+    """Without a snapshot it is said what isn't tried, and apply tries the growth over its own backup."""
     place.note('{"at": "2026-11-29T02:00:00Z", "ok": true, "bytes": 1, "said": "of an earlier version"}')
     run = place.house.run("add-seat", "acme", "a3", "--to", str(place.house.given))
     told = "so it wasn't tried over a copy of the store: `apply` does so over the backup that it makes"
@@ -193,10 +196,10 @@ def unknown(place: Place) -> str:
     expect(f"a backup of a served store: {done.stderr}", (done.returncode, "is locked" in done.stderr), (1, True))
     last = json.loads((place.house.backups / "last-backup.json").read_text())
     expect("the kind behind another run", (last["ok"], last["snapshot"]), (False, "btrfs"))
-    return "without a snapshot it is said what isn't tried, and apply tries the growth over its own backup"
 
 
-def distrusted(place: Place) -> str:
+def test_distrusted(place: Place) -> None:
+    """Files that say no kind, and a size that is none."""
     path, secret = place.house.backups / "last-backup.json", place.folder / "secret"
     secret.write_text('{"snapshot": "btrfs", "said": "known to root alone"}')
     secret.chmod(0o600)
@@ -221,11 +224,12 @@ def distrusted(place: Place) -> str:
     expect(f"a size: {done.stderr}", done.returncode, 0)
     shutil.rmtree(place.house.backups / "tried-by-site.x")
     place.note(kept)
-    return f"{len(ways)} files that say no kind, and a size that is none"
 
 
-def killed(place: Place) -> str:
-    kills, told, call = 0, 0, 1
+@pytest.mark.sizes(4, 1)
+def test_killed(place: Place, size: int) -> None:
+    """Killed before each of its calls, or each `size`th: the next run says what was left."""
+    told, call = 0, 1
     while (done := place.trial(killed=(call, "all"))).returncode:
         expect(f"call {call}: {done}", done.returncode, -signal.SIGKILL)
         shutil.rmtree(place.house.backups / "tried-by-site.x", ignore_errors=True)
@@ -234,7 +238,7 @@ def killed(place: Place) -> str:
         told += "an earlier run left" in done.stderr
         shutil.rmtree(place.house.backups / "tried-by-site.x")
         place.is_clean(f"call {call}")
-        kills, call = kills + 1, call + 1
+        call += size
     expect("kills that left something", told > 0, True)
     copy = place.house.backups / "tried-by-site.x"
     expect("a copy", sorted(it.name for it in copy.iterdir()), ["books.db", "books.db-wal"])
@@ -245,7 +249,6 @@ def killed(place: Place) -> str:
     said = place.expect_backup()
     expect(f"an old copy: {said}", ("tried-by-site.x" in said, copy.exists()), (True, False))
     place.is_clean("an old copy")
-    return f"killed before each of {kills} calls; {told} times the next run said what was left"
 
 
 def waited(path: Path) -> None:
@@ -256,7 +259,8 @@ def waited(path: Path) -> None:
         time.sleep(0.05)
 
 
-def stopped(place: Place) -> str:
+def test_stopped(place: Place) -> None:
+    """A signal in a trial start and in a growth leaves nothing, and the server runs."""
     mark = place.folder / "marks/waits"
     mark.parent.mkdir()
     shutil.chown(mark.parent, USER)
@@ -291,36 +295,3 @@ def stopped(place: Place) -> str:
         expect(run.said, (run.status, f'name = "{name}"' in place.house.site.read_text()), (0, True))
         for made in place.house.backups.glob("before-*"):
             shutil.rmtree(made)
-    return "a signal in a trial start and in a growth leaves nothing, and the server runs"
-
-
-GROUPS = [growths, unknown, distrusted, killed, stopped]
-
-
-def main() -> int:
-    made = argparse.ArgumentParser(description=__doc__, formatter_class=argparse.RawDescriptionHelpFormatter)
-    made.add_argument("--program", default=ROOT / "crates/station/out/station", help="the built program")
-    made.add_argument("--only", default="", help="the groups with this in their names")
-    args = made.parse_args()
-    program = Path(args.program).resolve()
-    if not os.access(program, os.X_OK) or os.geteuid():
-        made.error(f"{program} is no program, or this isn't root")
-    try:
-        with tempfile.TemporaryDirectory() as folder:
-            os.chmod(folder, 0o755)
-            shutil.copy(program, Path(folder, "station"))
-            place = Place(Path(folder, "station"), Path(folder))
-            try:
-                for group in GROUPS:
-                    if args.only in group.__name__:
-                        print(f"{group.__name__}: {group(place)}", flush=True)
-            finally:
-                place.close()
-        return 0
-    except Failed as failed:
-        print(f"FAILED: {failed}", file=sys.stderr)
-        return 1
-
-
-if __name__ == "__main__":
-    sys.exit(main())

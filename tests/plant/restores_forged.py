@@ -1,4 +1,4 @@
-"""Journals that were forged or damaged, for bench/restores: whose they are, what they ask, what the lost store says.
+"""Journals that were forged or damaged, for test_restores.py: whose they are, what they ask, what the lost store says.
 
 A station has its key, so it writes what it likes into the folder of that key, with digests that are right. What it
 writes of another's seat is refused with file and line, before anything is moved. What the lost store has otherwise is
@@ -11,13 +11,13 @@ import os
 import shutil
 import sqlite3
 import subprocess
-import sys
 import tempfile
 from contextlib import closing
 from pathlib import Path
 
-from common.chip import ROOT, Failed
-from gameday_plant import CUSTOMERS, lines_of
+from common.chip import Failed
+from common.commands import command
+from plant.gameday_plant import CUSTOMERS, lines_of
 
 AT = "2026-11-30T00:00:0{}Z"
 SEATS = [seat for seats in CUSTOMERS.values() for seat in seats]
@@ -107,7 +107,6 @@ def test_foreign(bench):
         _, said = bench.refuses(where, journals=[journals])
         if "acme: " not in said.stderr and line:
             raise Failed(f"no customer is named: {said}")
-    print(f"refused: {len(cases) - 1} files of a station for another's seat, or with another digest", flush=True)
 
 
 def test_folders(bench):
@@ -144,7 +143,6 @@ def test_folders(bench):
     shutil.move(journals / "a1", bench.folder / "aside")
     (journals / "a1").symlink_to(journals / "b1")
     bench.refuses("is a link, and isn't followed", journals=[journals])
-    print("refused: a table of folders that isn't one, links, a pipe, a file of 3 GB, an unknown folder", flush=True)
 
 
 # What the lost store says.
@@ -191,7 +189,6 @@ def test_lost(bench):
     ends = bench.restore(older)
     if ends.returncode:
         raise Failed(f"a restored store is restored once more: {ends}")
-    print(f"refused: {len(cases)} journals that the lost store contradicts, and an older one; by a word it goes on")
 
 
 def replace_reply(folder, asked, reply):
@@ -233,7 +230,7 @@ def test_left_out(bench):
     bench.refuses(f"{told} (line 2 of {file})", journals=[journals], folder=empty)
     bench.refuses(f"line 1 of {file} has number {last + 1} of a2", journals=[journals])
     bench.refuses("--leave-out acme needs the file of station-token", "--leave-out", "acme", journals=[journals])
-    tokens, token = bench.folder / "left.conf", [sys.executable, "-B", ROOT / "python/bin/station-token", "--no-reload", "--file"]
+    tokens, token = bench.folder / "left.conf", [*command("station-token"), "--no-reload", "--file"]
     site = ["--site", bench.plant.site]
     for customer in CUSTOMERS:
         own = ["seat", *site, f"restore-{customer}", "--known", bench.plant.folder / f"tokens/restore-{customer}.token"]
@@ -256,7 +253,6 @@ def test_left_out(bench):
     if numbers_given(folder / "books.db", "acme") != numbers_given(bench.backup / "books.db", "acme"):
         raise Failed("acme has other numbers than the backup's")
     later(bench, folder)
-    print("one strange line: named; the others go on by --leave-out, and the customer later, over the server")
 
 
 def later(bench, folder):
@@ -268,8 +264,7 @@ def later(bench, folder):
         files = [own_folder(bench.journals, seat) for seat in CUSTOMERS["acme"]]
         token = plant.folder / "tokens/restore-acme.token"
         words = ["--url", plant.url, "--token", token, "--state-file", folder / "later.json", "restore", *files]
-        environment = {**os.environ, "PYTHONPATH": str(ROOT / "python")}
-        ran(sys.executable, "-B", "-m", "wanekupo", *words, environment=environment)
+        ran(*command("wanekupo"), *words)
     finally:
         plant.server.kill()
         plant.db = before
@@ -277,10 +272,7 @@ def later(bench, folder):
         raise Failed("behind the customer's own restore the numbers aren't those of before")
 
 
-def ran(*words, environment=None):
-    told = subprocess.run([str(it) for it in words], capture_output=True, text=True, env=environment, check=False)
+def ran(*words):
+    told = subprocess.run([str(it) for it in words], capture_output=True, text=True, check=False)
     if told.returncode:
         raise Failed(f"{words}: {told.stdout} {told.stderr}")
-
-
-FORGED = {"foreign": test_foreign, "folders": test_folders, "lost": test_lost, "left-out": test_left_out}

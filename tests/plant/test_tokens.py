@@ -1,16 +1,25 @@
-"""What bench/tokens tries, in groups; each has a folder, a program and an nginx of its own."""
+"""Outer tokens by station-token behind nginx by deploy/nginx.conf: the tool's words and files, who may do what, and
+changes under a running nginx. Each test has a folder, a program and an nginx of its own.
+
+Between nginx and the program stands a recorder, which keeps the head of each request that comes through: so it is seen
+that none of a stranger's does, and that no outer token does. Expected replies are those of docs/reference/api.md.
+"""
 
 import fcntl
 import os
 import re
 import stat
-import sys
 import time
 import tomllib
 from concurrent.futures import ThreadPoolExecutor
 from pathlib import Path
 
-from common.tokens_place import INNER, ROOT, ran, refusal
+import pytest
+
+from common.deployed import INNER, ROOT, expect, ran, refusal
+from wanekupo.common.token_file import later_than
+
+pytestmark = [pytest.mark.root, pytest.mark.nginx]
 
 FORM = r"wanekupo_[0-9a-f]{64}"
 ORDER = "/v1/order?name=none"
@@ -49,47 +58,44 @@ def working(place):
     place.nginx()
 
 
-# ---- groups
-
-
-def tool_words(place, tried):
+def test_tool_words(place):
     """what `token` takes and refuses, and its files"""
     old = os.umask(0)
     try:
         (place.folder / "wrong").write_text("abd", encoding="ascii")
         told = place.token("seat", "a1", "--known", "wrong", "--site", place.site, is_told=False)
-        tried.same("another token than the site's", (told[0], place.file.exists()), (1, False))
+        expect("another token than the site's", (told[0], place.file.exists()), (1, False))
         seats(place)
         status, out, _ = place.token("add", "a1", "--to", "a1.token", is_told=False)
         kept = place.folder / "a1.token"
-        tried.same("to a file", (status, out, bool(re.fullmatch(FORM + "\n", kept.read_text()))), (0, "", True))
+        expect("to a file", (status, out, bool(re.fullmatch(FORM + "\n", kept.read_text()))), (0, "", True))
         files = [place.file, Path(f"{place.file}.lock"), kept]
-        tried.same("modes", [stat.S_IMODE(path.stat().st_mode) for path in files], [0o600] * 3)
+        expect("modes", [stat.S_IMODE(path.stat().st_mode) for path in files], [0o600] * 3)
     finally:
         os.umask(old)
-    refused_words(place, tried)
-    tried.same("what was there stays", re.fullmatch(FORM + "\n", kept.read_text()) is not None, True)
+    refused_words(place)
+    expect("what was there stays", re.fullmatch(FORM + "\n", kept.read_text()) is not None, True)
     shown = place.token("list", is_told=False)[1] + place.token("list", "--all", is_told=False)[1]
-    tried.same(
+    expect(
         "a list shows no token", [it for it in [kept.read_text().strip(), *INNER.values()] if f" {it}" in shown], []
     )
-    tried.same(
+    expect(
         "and shows its mark",
         place.token("add", "a1", is_told=False)[2].split(" ")[-1].strip() in place.token("list", is_told=False)[1],
         True,
     )
     status, out, _ = place.token("inner", "a1", "--to", "inner", is_told=False)
     own = place.folder / "inner"
-    tried.same(
+    expect(
         "the inner one for a restore",
         (status, out, own.read_text(), oct(own.stat().st_mode)),
         (0, "", "abc\n", "0o100600"),
     )
-    tried.same("never without a file", place.token("inner", "a1", is_told=False)[0], 2)
-    tried.same("as the site has it", place.token("check", "--site", place.site, is_told=False)[0], 0)
+    expect("never without a file", place.token("inner", "a1", is_told=False)[0], 2)
+    expect("as the site has it", place.token("check", "--site", place.site, is_told=False)[0], 0)
 
 
-def refused_words(place, tried):
+def refused_words(place):
     """What is refused, after which the file is as it was."""
     before = place.file.read_bytes()
     day = time.strftime("%Y-%m-%d", time.gmtime(time.time() - 86400))
@@ -112,46 +118,46 @@ def refused_words(place, tried):
         ([], 2),
     ]:
         done = place.token(*words, is_told=False)
-        tried.same(f"refused: {' '.join(words[:3])!r}", (done[0], place.file.read_bytes() == before), (wanted, True))
+        expect(f"refused: {' '.join(words[:3])!r}", (done[0], place.file.read_bytes() == before), (wanted, True))
 
 
-def tool_files(place, tried):
+def test_tool_files(place):
     """a file that others changed or can read, a lock, links, many runs at once"""
     seats(place)
     with ThreadPoolExecutor(8) as pool:
         done = list(pool.map(lambda _: place.token("add", "a1", is_told=False), range(8)))
     made = {out.strip() for _, out, _ in done}
     has = re.findall(f'"({FORM})" ', place.file.read_text())
-    tried.same("eight runs at once", ([it[0] for it in done], len(made), made == set(has)), ([0] * 8, 8, True))
+    expect("eight runs at once", ([it[0] for it in done], len(made), made == set(has)), ([0] * 8, 8, True))
     lock = open(f"{place.file}.lock", "w")
     fcntl.flock(lock, fcntl.LOCK_EX)
     before = place.file.read_bytes()
-    tried.same("a lock that another has", place.token("--wait", "0.2", "add", "a1", is_told=False)[0], 3)
+    expect("a lock that another has", place.token("--wait", "0.2", "add", "a1", is_told=False)[0], 3)
     lock.close()
     new = Path(f"{place.file}.new")
     goal = place.folder / "goal"
     goal.write_text("kept", encoding="ascii")
     new.symlink_to(goal)
-    tried.same(
+    expect(
         "a link in the new file's place", (place.token("write", is_told=False)[0], goal.read_text()), (0, "kept")
     )
-    tried.same("the same bytes anew", place.file.read_bytes(), before)
+    expect("the same bytes anew", place.file.read_bytes(), before)
     text = place.file.read_text()
     place.file.write_text(text.replace(' "1";', ' "";', 1))
-    tried.same("changed by hand", place.token("add", "a1", is_told=False)[0], 1)
-    tried.same("and written anew", (place.token("write", is_told=False)[0], place.file.read_text() == text), (0, True))
+    expect("changed by hand", place.token("add", "a1", is_told=False)[0], 1)
+    expect("and written anew", (place.token("write", is_told=False)[0], place.file.read_text() == text), (0, True))
     place.file.chmod(0o644)
-    tried.same("others may read it", place.token("list", is_told=False)[0], 1)
+    expect("others may read it", place.token("list", is_told=False)[0], 1)
     place.file.chmod(0o600)
     (place.folder / "etc").chmod(0o777)
-    tried.same("others may write its folder", place.token("list", is_told=False)[0], 1)
+    expect("others may write its folder", place.token("list", is_told=False)[0], 1)
     (place.folder / "etc").chmod(0o755)
     place.file.rename(f"{place.file}.moved")
     place.file.symlink_to(f"{place.file}.moved")
-    tried.same("a link in its place", place.token("list", is_told=False)[0], 1)
+    expect("a link in its place", place.token("list", is_told=False)[0], 1)
 
 
-def tool_sites(place, tried):
+def test_tool_sites(place):
     """a new seat's lines, in the site file and by themselves"""
     seats(place)
     new = place.folder / "new.toml"
@@ -161,41 +167,41 @@ def tool_sites(place, tried):
     digest = ran(["sha256sum"], place.folder, input=inner).stdout[:64]
     wanted = tomllib.loads(place.site.read_text())
     wanted["customer"][0]["seat"].append({"name": "a2", "token": digest})
-    tried.same("a seat more", (status, out, tomllib.loads(new.read_text()) == wanted), (0, "", True))
+    expect("a seat more", (status, out, tomllib.loads(new.read_text()) == wanted), (0, "", True))
     made = ran([place.program, "replay", "--site", place.site, "--db", "grown.db"], place.folder, input="")
     grew = ran([place.program, "replay", "--site", new, "--db", "grown.db", "--existing"], place.folder, input="")
-    tried.same("the program takes it for a growth", (made.returncode, grew.returncode, grew.stderr), (0, 0, ""))
-    tried.same("as the new text has it", place.token("check", "--site", new, is_told=False)[0], 0)
-    tried.same("and not the old one", place.token("check", "--site", place.site, is_told=False)[0], 1)
+    expect("the program takes it for a growth", (made.returncode, grew.returncode, grew.stderr), (0, 0, ""))
+    expect("as the new text has it", place.token("check", "--site", new, is_told=False)[0], 0)
+    expect("and not the old one", place.token("check", "--site", place.site, is_told=False)[0], 1)
     lines = f'[[customer.seat]]\nname = "a2"\ntoken = "{digest}"\n'
-    tried.same("its lines again", place.token("seat", "a2", is_told=False)[:2], (0, lines))
+    expect("its lines again", place.token("seat", "a2", is_told=False)[:2], (0, lines))
     (place.folder / "known").write_text("abc", encoding="ascii")
     other = place.token("seat", "@part2", "--known", "known", "--site", place.site, is_told=False)[0]
     (place.folder / "known").write_text("test", encoding="ascii")
     words = ["seat", "@part2", "--known", "known", "--site", place.site, "--server", "127.0.0.1:882"]
-    tried.same("another site's manager", (other, place.token(*words, is_told=False)[0]), (1, 0))
+    expect("another site's manager", (other, place.token(*words, is_told=False)[0]), (1, 0))
     status = place.token("seat", "a2", "--server", "127.0.0.1:881", is_told=False)[0]
-    tried.same("another server", (status, '"server":"127.0.0.1:881"' in place.file.read_text()), (0, True))
+    expect("another server", (status, '"server":"127.0.0.1:881"' in place.file.read_text()), (0, True))
     odd = place.folder / "odd.toml"
     odd.write_text('note = """\n[[customer]]\nname = "acme"\n"""\n' + new.read_text(), encoding="utf-8")
     before = tomllib.loads(odd.read_text())
     place.token("seat", "a4", "--customer", "acme", "--into", odd, is_told=False)
     after = tomllib.loads(odd.read_text())
-    tried.same("a text that looks like a customer", after["customer"][0]["seat"].pop()["name"], "a4")
-    tried.same("all else of it", after, before)
+    expect("a text that looks like a customer", after["customer"][0]["seat"].pop()["name"], "a4")
+    expect("all else of it", after, before)
     before = place.file.read_bytes()
     for name, customer in [("a3", "nobody"), ("b1x", "bo.t")]:
         status = place.token("seat", name, "--customer", customer, "--into", new, is_told=False)[0]
-        tried.same(f"no customer {customer}", (status, place.file.read_bytes() == before), (1, True))
+        expect(f"no customer {customer}", (status, place.file.read_bytes() == before), (1, True))
 
 
-def who_may(place, tried):
+def test_who_may(place):
     """each kind of caller, by each method, over HTTP/1.1 and HTTP/2"""
     working(place)
     body = '{"nr":1,"name":"o1","issuer":"acme-ca","prefix":"A","width":3,"first":998,"quantity":2,"macs":0}'
     order = '{"first":998,"issuer":"acme-ca","mac":null,"macs":0,"name":"o1","next":"A998","not_before":null,'
     order += '"prefix":"A","quantity":2,"width":3}'
-    tried.same("an order", told(place.ask(by(place.outer["work"]), "/v1/order", body)), (200, order))
+    expect("an order", told(place.ask(by(place.outer["work"]), "/v1/order", body)), (200, order))
     gone = place.made("gone", "add", "a1")
     place.token("revoke", gone)
     time.sleep(0.5)
@@ -205,22 +211,22 @@ def who_may(place, tried):
             ("look", (200, order)),
             ("bolt", (404, refusal("unknown_order", 14))),
         ]:
-            tried.same(
+            expect(
                 f"{version} {name}: GET",
                 told(place.ask(by(place.outer[name]), "/v1/order?name=o1", more=[version])),
                 wanted,
             )
         for method in ("POST", "PUT", "DELETE", "PATCH", "OPTIONS", "PROPFIND"):
             reply = place.ask(by(place.outer["look"]), "/v1/order", body, [version, "-X", method])
-            tried.same(f"{version} look: {method}", told(reply), MAY_LOOK)
+            expect(f"{version} look: {method}", told(reply), MAY_LOOK)
         head = place.ask(by(place.outer["look"]), ORDER, more=[version, "-I"])
-        tried.same(f"{version} look: HEAD", (head[0], head[2].strip()), (404, ""))
+        expect(f"{version} look: HEAD", (head[0], head[2].strip()), (404, ""))
         report = place.ask(by(place.outer["office"]), "/v1/site/report", more=[version])
-        tried.same(f"{version} the office", (report[0], report[1]["content-type"]), (200, "text/csv"))
-        who_may_not(place, tried, version, body)
+        expect(f"{version} the office", (report[0], report[1]["content-type"]), (200, "text/csv"))
+        who_may_not(place, version, body)
 
 
-def who_may_not(place, tried, version, body):
+def who_may_not(place, version, body):
     """Strangers, by both methods."""
     asked = len(place.recorder.heads)
     for name, shown in strangers(place).items():
@@ -233,12 +239,12 @@ def who_may_not(place, tried, version, body):
                 fields.get("content-type"),
                 fields.get("content-length"),
             )
-            tried.same(
+            expect(
                 f"{version} {name}: {'POST' if more else 'GET'}",
                 got,
                 (*STRANGER, "bearer", "application/json", "32"),
             )
-    tried.same("strangers' requests that came through", place.recorder.heads[asked:], [])
+    expect("strangers' requests that came through", place.recorder.heads[asked:], [])
 
 
 def strangers(place):
@@ -261,7 +267,7 @@ def strangers(place):
     }
 
 
-def forms(place, tried):
+def test_forms(place):
     """the inner and a revoked token in other forms, raw; one that is good in two"""
     working(place)
     gone = place.made("gone", "add", "a1")
@@ -273,11 +279,11 @@ def forms(place, tried):
         for name, request in raw_forms(token).items():
             got = place.raw(request)
             statuses = re.findall(rb"HTTP/1\.[01] (\d+)", got)
-            tried.same(f"{token[:12].decode()} {name}", [it for it in statuses if it not in (b"400", b"401")], [])
-    tried.same("of these came through", place.recorder.heads[asked:], [])
+            expect(f"{token[:12].decode()} {name}", [it for it in statuses if it not in (b"400", b"401")], [])
+    expect("of these came through", place.recorder.heads[asked:], [])
     for name, scheme in [("small letters", b"bearer "), ("capitals", b"BEARER "), ("two spaces", b"Bearer  ")]:
         got = place.raw(b"GET /v1/order?name=none HTTP/1.1\r\nHost: h\r\nAuthorization: " + scheme + good + b"\r\n\r\n")
-        tried.same(f"{name}, as docs/reference/api.md has it", got[9:12], b"404")
+        expect(f"{name}, as docs/reference/api.md has it", got[9:12], b"404")
     look = place.outer["look"].encode()
     with place.connection() as connection:
         statuses = []
@@ -285,10 +291,10 @@ def forms(place, tried):
             connection.sendall(method + b" /v1/order?name=none HTTP/1.1\r\nHost: h\r\nContent-Length: 0\r\n")
             connection.sendall(b"Authorization: Bearer " + token + b"\r\n\r\n")
             statuses.append(connection.recv(65536)[9:12])
-    tried.same("over one connection that is kept", statuses, [b"404", b"401", b"403", b"404", b"404"])
+    expect("over one connection that is kept", statuses, [b"404", b"401", b"403", b"404", b"404"])
     first = b"GET /v1/order?name=none HTTP/1.1\r\nHost: h\r\nAuthorization: Bearer "
     got = place.raw(first + good + b"\r\n\r\n" + first + b"abc\r\n\r\n")
-    tried.same("the inner one behind a good one", re.findall(rb"HTTP/1.1 (\d+)", got), [b"404", b"401"])
+    expect("the inner one behind a good one", re.findall(rb"HTTP/1.1 (\d+)", got), [b"404", b"401"])
 
 
 def raw_forms(token):
@@ -323,7 +329,7 @@ def raw_forms(token):
     }
 
 
-def days(place, tried):
+def test_days(place):
     """a token ends with its day by nginx's own clock, and after a grace"""
     seats(place)
     here = time.time() % 86400
@@ -335,66 +341,61 @@ def days(place, tried):
     place.made("always", "add", "a1", is_told=False, zone=zone)
     port = place.nginx("midnight.conf", zone)
     names = ("tonight", "always")
-    tried.same("before midnight", [place.ask(by(place.outer[it]), ORDER, port=port)[0] for it in names], [404, 404])
-    tried.same("the list", " past" in place.token("list", is_told=False, zone=zone)[1], False)
+    expect("before midnight", [place.ask(by(place.outer[it]), ORDER, port=port)[0] for it in names], [404, 404])
+    expect("the list", " past" in place.token("list", is_told=False, zone=zone)[1], False)
     asked = len(place.recorder.heads)
     time.sleep(7 - (time.time() % 86400 - here))
-    tried.same(
+    expect(
         "after midnight, nothing reloaded", told(place.ask(by(place.outer["tonight"]), ORDER, port=port)), STRANGER
     )
-    tried.same("it didn't come through", len(place.recorder.heads) - asked, 0)
-    tried.same("another goes on", told(place.ask(by(place.outer["always"]), ORDER, port=port)), NO_ORDER)
-    tried.same("the list says so", f"{today} past" in place.token("list", is_told=False, zone=zone)[1], True)
-    tried.same(
+    expect("it didn't come through", len(place.recorder.heads) - asked, 0)
+    expect("another goes on", told(place.ask(by(place.outer["always"]), ORDER, port=port)), NO_ORDER)
+    expect("the list says so", f"{today} past" in place.token("list", is_told=False, zone=zone)[1], True)
+    expect(
         "after a reload",
         (place.reload("midnight.conf"), place.ask(by(place.outer["tonight"]), ORDER, port=port)[0]),
         (0, 401),
     )
-    exhaustive(tried)
 
 
-def exhaustive(tried):
+def test_later_minutes():
     """The expression for a later minute, beside a comparison of texts."""
-    sys.dont_write_bytecode = True
-    sys.path.insert(0, str(ROOT / "python"))
-    from wanekupo.common.token_file import later_than
-
     times = [f"{y}-{m:02}-{d:02}T{h:02}:{i:02}" for y in (2025, 2026, 2027, 2030, 2100) for m in range(1, 13)
              for d in (1, 9, 10, 19, 28, 30, 31) for h in (0, 9, 19, 23) for i in (0, 9, 10, 58, 59)]  # fmt: skip
     differ = [(it, end) for end in times[::311] + ["2026-11-28T23:59", "2029-12-31T23:59", "2099-09-09T19:09"]
               for it in times if bool(re.match(later_than(end), it)) != (it > end)]  # fmt: skip
-    tried.same("later minutes", differ, [])
+    expect("later minutes", differ, [])
 
 
-def changes(place, tried):
+def test_changes(place):
     """revoked and rotated under a running nginx"""
     working(place)
     second = place.made("second", "add", "a1")
     wait = lambda name: until(lambda: place.ask(by(place.outer[name]), ORDER)[0] == 401)
-    tried.same("added", until(lambda: place.ask(by(place.outer["second"]), ORDER)[0] == 404), True)
+    expect("added", until(lambda: place.ask(by(place.outer["second"]), ORDER)[0] == 404), True)
     opened = [place.connection() for _ in range(2)]
     place.token("revoke", second)
     begin = time.monotonic()
-    tried.same("revoked", wait("second"), True)
+    expect("revoked", wait("second"), True)
     place.made("third", "rotate", "b1")
-    tried.same("rotated at once", (wait("bolt"), told(place.ask(by(place.outer["third"]), ORDER))), (True, NO_ORDER))
+    expect("rotated at once", (wait("bolt"), told(place.ask(by(place.outer["third"]), ORDER))), (True, NO_ORDER))
     place.made("fourth", "rotate", "b1", "--grace", "8h")
     time.sleep(0.5)
     got = [place.ask(by(place.outer[it]), ORDER)[0] for it in ("third", "fourth")]
-    tried.same("rotated with a grace", got, [404, 404])
-    tried.same("rotated twice", place.token("rotate", "b1:2")[0], 1)
-    tried.same("which of two", place.token("rotate", "a1")[0], 1)
+    expect("rotated with a grace", got, [404, 404])
+    expect("rotated twice", place.token("rotate", "b1:2")[0], 1)
+    expect("which of two", place.token("rotate", "a1")[0], 1)
     time.sleep(max(0, 6 - (time.monotonic() - begin)))
     asked = len(place.recorder.heads)
-    tried.same(
+    expect(
         "a connection of before, after six seconds", [late(it, place.outer["second"]) for it in opened], [b""] * 2
     )
-    tried.same("came through", len(place.recorder.heads) - asked, 0)
+    expect("came through", len(place.recorder.heads) - asked, 0)
     place.token("revoke", "a1")
-    tried.same("all of a seat", [wait(it) for it in ("work", "look")], [True, True])
+    expect("all of a seat", [wait(it) for it in ("work", "look")], [True, True])
 
 
-def refusals(place, tried):
+def test_refusals(place):
     """what nginx refuses, and what it isn't told"""
     working(place)
     before = place.file.read_bytes()
@@ -402,26 +403,26 @@ def refusals(place, tried):
     text = conf.read_text()
     conf.write_text(text + "broken;\n")
     status, out, _ = place.token("revoke", "a1")
-    tried.same("nginx refuses its file", (status, out, place.file.read_bytes() == before), (4, "", True))
+    expect("nginx refuses its file", (status, out, place.file.read_bytes() == before), (4, "", True))
     status = place.token("add", "a1", "--to", "never")[0]
-    tried.same("no token is left over", (status, (place.folder / "never").exists()), (4, False))
+    expect("no token is left over", (status, (place.folder / "never").exists()), (4, False))
     conf.write_text(text)
     place.file.write_bytes(before[: len(before) // 2])
     place.reload()
-    tried.same("a broken include: the old one goes on", told(place.ask(by(place.outer["work"]), ORDER)), NO_ORDER)
+    expect("a broken include: the old one goes on", told(place.ask(by(place.outer["work"]), ORDER)), NO_ORDER)
     place.file.write_bytes(before)
     done = ran([*place.words(is_told=False)[:3], "--test", "true", "--reload", "false", "add", "a1"])
-    tried.same(
+    expect(
         "nginx isn't told", (done.returncode, len(done.stdout), place.file.read_bytes() == before), (5, 74, False)
     )
     keyed = conf.read_text().replace("$of_caller   zone=asked", "$caller_name zone=asked")
-    tried.same("a zone with another key", keyed == text, False)
+    expect("a zone with another key", keyed == text, False)
     conf.write_text(keyed)
     status, _, said = place.token("revoke", "b1")
     got = status, "started no worker" in said, told(place.ask(by(place.outer["bolt"]), ORDER))
-    tried.same("nginx says yes, and doesn't take it", got, (5, True, NO_ORDER))
+    expect("nginx says yes, and doesn't take it", got, (5, True, NO_ORDER))
     why = "while previously it used" in (place.folder / "log/nginx.conf-error.log").read_text()
-    tried.same("its error log has why", why, True)
+    expect("its error log has why", why, True)
 
 
 def late(connection, token):
@@ -443,7 +444,7 @@ def until(is_so, seconds=3):
     return True
 
 
-def reloads(place, tried):
+def test_reloads(place):
     """requests while the file is written anew"""
     working(place)
     with ThreadPoolExecutor(2) as pool:
@@ -452,28 +453,29 @@ def reloads(place, tried):
         client = pool.submit(client_of, place, ASKING, 10)
         place.made("more", "add", "b1")
         place.recorder.gate.set()  # within the five seconds that nginx gives a worker of before
-        tried.same("under way", told(held.result()), NO_ORDER)
+        expect("under way", told(held.result()), NO_ORDER)
         for _ in range(3):
             place.made("more", "add", "b1")
             time.sleep(0.4)
-        tried.same("a station's, ten a second", client.result(), "ok")
+        expect("a station's, ten a second", client.result(), "ok")
 
 
 def client_of(place, asked, least, patience=0):
     """Requests of python as the seat b1, for two seconds: ok where there were as many, or what went wrong. It
     asks once more where a kept connection was closed, and without patience for no 503."""
-    text = f"""
-import ssl, sys, time
-sys.path.insert(0, {str(ROOT / "python")!r})
-from wanekupo_station import Station
-context = ssl.create_default_context(cafile="etc/cert.pem")
-station = Station("https://localhost:{place.port}", {place.outer["bolt"]!r}, "b1.json", {patience}, context=context)
+    url, state = f"https://localhost:{place.port}", f"{place.folder}/b1.json"
+    done = by_python(f"""
+import ssl, time
+from wanekupo.seat.station import Station
+context = ssl.create_default_context(cafile="{place.folder}/etc/cert.pem")
+station = Station({url!r}, {place.outer["bolt"]!r}, {state!r}, {patience}, context=context)
 end, count, least = time.time() + 2, 0, {least}
 {asked}
 print("ok" if count >= least else count)
-"""
-    done = ran(["python3", "-c", text], place.folder)
+""")
     return done.stdout.strip() or done.stderr.strip().split("\n")[-1]
 
 
-GROUPS = [tool_words, tool_files, tool_sites, who_may, forms, days, changes, refusals, reloads]
+def by_python(text):
+    """A text of Python that takes this project's modules, run by the Python that a plant has."""
+    return ran(["/usr/bin/python3", "-Bc", text], ROOT / "python")

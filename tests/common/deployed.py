@@ -1,4 +1,5 @@
-"""The deployed form in a folder: the program, a recorder in front of it, deploy/nginx.conf and deploy/token."""
+"""The deployed form in a folder: the program, a recorder in front of it, deploy/nginx.conf and station-token. And what
+other tests have of it in another form: its files with other words, a certificate."""
 
 import json
 import os
@@ -11,7 +12,9 @@ import time
 from pathlib import Path
 
 from common.needs import ROOT
-from common.served import HOST, Server, station
+from common.ports import HOST, free_ports
+from common.program import Failed
+from common.served import Server, station
 
 TOOL, CONF = ROOT / "python/bin/station-token", ROOT / "deploy/nginx.conf"
 SITE, CERTIFICATES = ROOT / "crates/station/data/site.toml", ROOT / "deploy/nginx-certificates.conf"
@@ -22,15 +25,30 @@ INNER = {"a1": "abc", "b1": "hello", "@manager": "test"}
 # The CA of stations.
 STATIONS = ROOT / "deploy/ca/stations.cnf"
 
-
-def free_port():
-    with socket.socket() as listener:
-        listener.bind((HOST, 0))
-        return listener.getsockname()[1]
+# The kind of its keys.
+CURVE = ["-newkey", "ec", "-pkeyopt", "ec_paramgen_curve:prime256v1", "-noenc"]
 
 
-# The ports of a place: of nginx, the recorder, the program, and another nginx.
-PORTS = 4
+def expect(what, found, wanted):
+    """Fails where something is otherwise than it has to be."""
+    if found != wanted:
+        raise Failed(f"{what}: {found!r}, and not {wanted!r}")
+
+
+def replaced(path, pairs):
+    """A file's text with other words, each of which has to be there."""
+    text = Path(path).read_text(encoding="utf-8")
+    for old, new in pairs:
+        if old not in text:
+            raise Failed(f"{path} has no {old!r}")
+        text = text.replace(old, new)
+    return text
+
+
+def certify(folder, days="2", name="localhost", names="DNS:localhost"):
+    """A key and a certificate in a folder: key.pem and cert.pem."""
+    words = ["req", "-x509", *CURVE, "-days", days, "-subj", f"/CN={name}", "-addext", f"subjectAltName={names}"]
+    expect("a certificate", ran(["openssl", *words, "-keyout", "key.pem", "-out", "cert.pem"], folder).returncode, 0)
 
 
 def ran(words, folder=None, **named):
@@ -89,27 +107,24 @@ class Recorder:
 class Place:
     """A folder, and all that runs in it until it is closed."""
 
-    def __init__(self, folder, program, port, site=SITE):
-        self.folder, self.program, self.processes = Path(folder), program, []
-        ports = range(port, port + PORTS) if port else [free_port() for _ in range(PORTS)]
-        self.port, self.recorded, served, self.other_port = ports
+    def __init__(self, folder, program, site=SITE):
+        self.folder, self.program, self.processes = Path(folder), str(program), []
+        # Of nginx, the recorder, the program, and another nginx.
+        self.port, self.recorded, served, self.other_port = free_ports(4)
         for name in ("etc", "lib", "log"):
             (self.folder / name).mkdir()
         self.site, self.file = self.folder / "etc/site.toml", self.folder / "etc/tokens.conf"
         self.site.write_bytes(Path(site).read_bytes())
         self.outer = {}
-        words = ["req", "-x509", "-newkey", "ec", "-pkeyopt", "ec_paramgen_curve:prime256v1", "-noenc", "-days", "2"]
-        words += ["-subj", "/CN=localhost", "-addext", "subjectAltName=DNS:localhost"]
-        assert ran(["openssl", *words, "-keyout", "etc/key.pem", "-out", "etc/cert.pem"], folder).returncode == 0
-        self.server = Server(station(program, str(self.site), str(self.folder / "books.db"), served), served)
+        certify(self.folder / "etc")
+        self.server = Server(station(self.program, str(self.site), str(self.folder / "books.db"), served), served)
         self.server.wait(Server.is_listening)
         self.recorder = Recorder(self.recorded, served)
 
     def conf(self, name, port):
         """The deployed configuration, with other ports and paths, and a log; 127.0.0.1 alone is this machine, and
         OpenSSL itself refuses no version of TLS."""
-        text = CONF.read_text(encoding="utf-8")
-        for old, new in [
+        pairs = [
             ("listen 8443", f"listen {HOST}:{port}"),
             ("127.0.0.1:880;", f"{HOST}:{self.recorded};"),
             ("127.0.0.0/8 1;", f"{HOST}/32 1;"),
@@ -119,12 +134,9 @@ class Place:
             ("/var/log/nginx/", f"{self.folder}/log/{name}-"),
             ("/usr/share/wanekupo/", f"{ROOT}/clients/web/"),
             ("log_format passed", f"access_log {self.folder}/log/{name} station if=$is_logged; log_format passed"),
-        ]:
-            if old not in text:
-                raise SystemExit(f"tokens: deploy/nginx.conf has no {old}")
-            text = text.replace(old, new)
+        ]
         path = self.folder / name
-        path.write_text(text, encoding="utf-8")
+        path.write_text(replaced(CONF, pairs), encoding="utf-8")
         return path
 
     def nginx_words(self, name="nginx.conf"):
@@ -145,7 +157,7 @@ class Place:
                 if tried.connect_ex((HOST, port)) == 0:
                     return port
             time.sleep(0.01)
-        raise SystemExit("tokens: nginx doesn't listen")
+        raise Failed("nginx doesn't listen")
 
     def words(self, *words, is_told=True, zone=None):
         """The words of `token`, which has nginx read the file, or not."""
@@ -163,7 +175,7 @@ class Place:
         """An outer token by `token add` or `rotate`, kept under a name of the tests."""
         status, out, err = self.token(*words, **named)
         if status:
-            raise SystemExit(f"tokens: {words}: {err}")
+            raise Failed(f"{words}: {err}")
         self.outer[name] = out.strip()
         return err.split(" ")[0]
 
@@ -198,11 +210,8 @@ class Place:
 
     def certificate(self, folder, name, subject):
         """A key and a certificate of a CA's folder."""
-        curve = ["-newkey", "ec", "-pkeyopt", "ec_paramgen_curve:prime256v1", "-noenc"]
-        asked = ran(
-            ["openssl", "req", "-new", *curve, "-subj", subject, "-keyout", f"{name}.key", "-out", f"{name}.csr"],
-            folder,
-        )
+        words = ["-new", *CURVE, "-subj", subject, "-keyout", f"{name}.key", "-out", f"{name}.csr"]
+        asked = ran(["openssl", "req", *words], folder)
         signed = ["-batch", "-notext", "-subj", subject, "-in", f"{name}.csr", "-out", f"{name}.pem"]
         done = ran(["openssl", "ca", "-config", "ca.cnf", *signed], folder)
         assert (asked.returncode, done.returncode) == (0, 0), done.stderr
@@ -215,27 +224,13 @@ class Place:
         (folder / "ca.cnf").write_bytes(STATIONS.read_bytes())
         (folder / "index.txt").touch()
         (folder / "serial").write_text("1000\n", encoding="ascii")
-        curve = ["-newkey", "ec", "-pkeyopt", "ec_paramgen_curve:prime256v1", "-noenc", "-days", "3650"]
-        words = [
-            "openssl",
-            "req",
-            "-x509",
-            *curve,
-            "-subj",
-            f"/O=Plant/CN={name}",
-            "-keyout",
-            "ca.key",
-            "-out",
-            "ca.pem",
-        ]
-        assert ran(words, folder).returncode == 0
+        words = ["-x509", *CURVE, "-days", "3650", "-subj", f"/O=Plant/CN={name}", "-keyout", "ca.key", "-out", "ca.pem"]
+        expect("a CA", ran(["openssl", "req", *words], folder).returncode, 0)
         return folder
 
     def revocations(self, folder, *more):
-        done = ran(
-            ["openssl", "ca", "-config", "ca.cnf", "-gencrl", *more, "-out", self.folder / "etc/clients-crl.pem"],
-            folder,
-        )
+        words = ["-config", "ca.cnf", "-gencrl", *more, "-out", self.folder / "etc/clients-crl.pem"]
+        done = ran(["openssl", "ca", *words], folder)
         assert done.returncode == 0, done.stderr
 
     def reload(self, name="nginx.conf"):
@@ -243,16 +238,14 @@ class Place:
         time.sleep(0.5)
         return done.returncode
 
-    def closed_to_outer(self, tried):
+    def closed_to_outer(self):
         """What came through had one token at most, and no outer one anywhere."""
         wrong = []
         for head in self.recorder.heads:
             fields = [line for line in head.split(b"\r\n") if line.lower().startswith(b"authorization:")]
             if len(fields) > 1 or b"wanekupo_" in head:
                 wrong.append(head)
-        if self.recorder.heads:
-            what = f"{len(self.recorder.heads)} requests came through, with one token at most, and no outer one"
-            tried.same(what, wrong, [])
+        expect("requests that came through with two tokens, or an outer one", wrong, [])
 
     def close(self):
         for process in self.processes:

@@ -1,23 +1,27 @@
-"""What `alarms` runs in a folder: the deployed form of `tokens_place` over a store on a small file system, `systemctl`
-that knows its server, `wanekupo metrics` each second or so, and who hears of alarms. Between these are Debian's
+"""What test_alarms.py runs in a folder: the deployed form over a store on a small file system, `systemctl` that knows
+its server, `wanekupo metrics` each second or so, and who hears of alarms. Between these are Debian's
 prometheus with its exporters, and alertmanager, by deploy/prometheus. A minute of the rules is a second here."""
 
+import contextlib
 import http.server
 import json
 import os
 import re
-import shutil
 import signal
 import subprocess
-import sys
+import tempfile
 import threading
 import time
 import urllib.parse
 import urllib.request
 from pathlib import Path
 
-from common.served import HOST, Server, station
-from common.tokens_place import ROOT, Place, free_port, ran
+from common.commands import command
+from common.deployed import Place, certify, expect, ran, replaced
+from common.needs import ROOT
+from common.ports import HOST, free_ports
+from common.program import Failed
+from common.served import Server, station
 
 DEPLOYED = ROOT / "deploy/prometheus"
 CUSTOMERS = {"acme": "a1", "bolt": "b1", "@manager": "@manager"}
@@ -35,16 +39,6 @@ case $1 in
     *) exit 1 ;;
 esac
 """
-
-
-def replaced(name, pairs):
-    """A file of deploy/prometheus with other words, each of which has to be there."""
-    text = (DEPLOYED / name).read_text(encoding="utf-8")
-    for old, new in pairs:
-        if old not in text:
-            raise SystemExit(f"alarms: deploy/prometheus/{name} has no {old!r}")
-        text = text.replace(old, new)
-    return text
 
 
 def in_seconds(rules):
@@ -95,9 +89,7 @@ class Deployed(Place):
 
     def conf(self, name, port):
         path = super().conf(name, port)
-        text = path.read_text(encoding="utf-8")
-        assert "rate=6r/m" in text and "rate=20r/s" in text
-        path.write_text(text.replace("rate=6r/m", "rate=600r/m").replace("rate=20r/s", "rate=500r/s"), encoding="utf-8")
+        path.write_text(replaced(path, [("rate=6r/m", "rate=600r/m"), ("rate=20r/s", "rate=500r/s")]), encoding="utf-8")
         return path
 
 
@@ -108,7 +100,7 @@ class Plant:
         self.folder, self.small, self.program = Path(folder), Path(small), program
         self.processes, self.is_closed, self.shift, self.connections = [], False, [], 1_000_000
         self.is_looking = True
-        self.place = Deployed(self.small, program, 0)
+        self.place = Deployed(self.small, program)
         self.heard = Heard(self.restart)
         self.bounds = []
         self.start_nginx()
@@ -118,11 +110,7 @@ class Plant:
         self.text_folder = self.folder / "text"
         self.text_folder.mkdir()
         self.start_systemctl()
-        self.environment = {
-            **os.environ,
-            "PATH": f"{self.folder}/bin:{os.environ['PATH']}",
-            "PYTHONPATH": str(ROOT / "python"),
-        }
+        self.environment = {**os.environ, "PATH": f"{self.folder}/bin:{os.environ['PATH']}"}
 
     # The server and nginx.
 
@@ -185,10 +173,8 @@ class Plant:
 
     def certify(self, days):
         """Another certificate of nginx."""
-        words = ["req", "-x509", "-newkey", "ec", "-pkeyopt", "ec_paramgen_curve:prime256v1", "-noenc", "-days", days]
-        words += ["-subj", "/CN=localhost", "-addext", "subjectAltName=DNS:localhost"]
-        made = ran(["openssl", *words, "-keyout", "etc/key.pem", "-out", "etc/cert.pem"], self.small)
-        assert made.returncode == 0 and self.place.reload() == 0
+        certify(self.small / "etc", days)
+        expect("nginx is told", self.place.reload(), 0)
 
     # What watches.
 
@@ -202,10 +188,9 @@ class Plant:
 
     def look(self):
         """One run of `wanekupo metrics`: what it told."""
-        words = [sys.executable, "-B", "-m", "wanekupo", *map(str, self.metrics_words())]
-        done = ran(words, env=self.environment)
+        done = ran([*command("wanekupo"), *self.metrics_words()], env=self.environment)
         if done.returncode:
-            raise SystemExit(f"alarms: wanekupo metrics ended with {done.returncode}: {done.stderr}")
+            raise Failed(f"wanekupo metrics ended with {done.returncode}: {done.stderr}")
         return done.stderr
 
     def look_on(self):
@@ -225,21 +210,21 @@ class Plant:
 
     def watch(self):
         """Starts all that watches, by the files of deploy/prometheus with other ports and paths."""
-        node, box, manager, self.prometheus_port = (free_port() for _ in range(4))
-        (self.folder / "wanekupo.yml").write_text(in_seconds(replaced("rules.yml", [])), encoding="utf-8")
+        node, box, manager, self.prometheus_port = free_ports(4)
+        (self.folder / "wanekupo.yml").write_text(in_seconds((DEPLOYED / "rules.yml").read_text(encoding="utf-8")), encoding="utf-8")
         pairs = [("/etc/station/cert.pem", f"{self.small}/etc/cert.pem")]
-        (self.folder / "blackbox.yml").write_text(replaced("blackbox.yml", pairs), encoding="utf-8")
+        (self.folder / "blackbox.yml").write_text(replaced(DEPLOYED / "blackbox.yml", pairs), encoding="utf-8")
         pairs = [("15s", "1s"), ("127.0.0.1:9093", f"{HOST}:{manager}"), ("127.0.0.1:9100", f"{HOST}:{node}")]
         pairs += [("127.0.0.1:9115", f"{HOST}:{box}"), ("https://station.example:8443", self.url)]
         docs = "external_labels:\n  #   docs: https://wiki.example/wanekupo/"
         pairs.append((f"  # {docs}", "  external_labels:\n    docs: https://w/"))
-        (self.folder / "prometheus.yml").write_text(replaced("prometheus.yml", pairs), encoding="utf-8")
+        (self.folder / "prometheus.yml").write_text(replaced(DEPLOYED / "prometheus.yml", pairs), encoding="utf-8")
         hears = f"http://{HOST}:{self.heard.server_address[1]}"
         pairs = [("http://127.0.0.1:9099", hears), ("monday:friday", "sunday:saturday")]
         pairs += [('"06:00", end_time: "22:00"', '"00:00", end_time: "24:00"'), ("Europe/Berlin", "UTC")]
         pairs += [('"07:00", end_time: "17:00"', '"00:00", end_time: "24:00"')]
         pairs.append(("route:\n", "route:\n  group_wait: 0s\n  group_interval: 1s\n"))
-        (self.folder / "alertmanager.yml").write_text(replaced("alertmanager.yml", pairs), encoding="utf-8")
+        (self.folder / "alertmanager.yml").write_text(replaced(DEPLOYED / "alertmanager.yml", pairs), encoding="utf-8")
         text = ["--collector.disable-defaults", "--collector.textfile"]
         text.append(f"--collector.textfile.directory={self.text_folder}")
         self.begin("prometheus-node-exporter", f"--web.listen-address={HOST}:{node}", *text)
@@ -260,7 +245,7 @@ class Plant:
         """Whether all of it runs, and alertmanager knows prometheus."""
         ended = [process.args[0] for process in self.processes if process.poll() is not None]
         if ended:
-            raise SystemExit(f"alarms: {ended[0]} ended: {(self.folder / f'{ended[0]}.log').read_text()[-600:]}")
+            raise Failed(f"{ended[0]} ended: {(self.folder / f'{ended[0]}.log').read_text()[-600:]}")
         return True
 
     def close(self):
@@ -272,18 +257,25 @@ class Plant:
         self.heard.shutdown()
         self.place.close()
 
+    def value(self, metric):
+        """A metric without labels, as it was written last."""
+        text = (self.text_folder / "wanekupo.prom").read_text(encoding="ascii")
+        return int(float(re.search(rf"(?m)^{metric} (\S+)$", text)[1]))
 
-def on_small_file_system(megabytes):
-    """Starts this script again where it may mount a small file system that nobody else sees; gives its folder."""
-    if os.environ.get("ALARMS_SMALL"):
-        folder = os.environ["ALARMS_SMALL"]
-        assert ran(["mount", "-t", "tmpfs", "-o", f"size={megabytes}m,mode=0755", "alarms", folder]).returncode == 0
-        return folder
-    made = ran(["mktemp", "-d"]).stdout.strip()
-    unshare = shutil.which("unshare")
-    if os.geteuid() or not unshare:
-        raise SystemExit("alarms: run this as root, where unshare is: it mounts a small file system of its own")
-    environment = {**os.environ, "ALARMS_SMALL": made}
-    status = subprocess.run([unshare, "-m", sys.executable, *sys.argv], env=environment).returncode
-    os.rmdir(made)
-    sys.exit(status)
+
+@contextlib.contextmanager
+def plant_of(program, megabytes):
+    """The plant, over a file system of so many megabytes. Other users use folders of it."""
+    mask = os.umask(0o022)
+    with tempfile.TemporaryDirectory() as folder, tempfile.TemporaryDirectory() as small:
+        words = ["mount", "-t", "tmpfs", "-o", f"size={megabytes}m,mode=0755", "small", small]
+        expect("a small file system", ran(words).returncode, 0)
+        try:
+            plant = Plant(folder, small, str(program))
+            try:
+                yield plant
+            finally:
+                plant.close()
+        finally:
+            ran(["umount", "--lazy", small])
+            os.umask(mask)

@@ -1,4 +1,4 @@
-"""Texts with a fault each, for bench/sites: sites and maps, the number that docs/reference/files.md gives them, the
+"""Texts with a fault each, for test_sites.py: sites and maps, the number that docs/reference/files.md gives them, the
 line, and the member that a person has to look at.
 """
 

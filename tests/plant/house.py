@@ -3,8 +3,8 @@
 The service is a script in a session of its own, as a real one is no child of who asks for it. As root the store and its
 backups are another user's, since the tool refuses root's. A run may be killed right before its Nth deed that others see
 (a file that is opened to be written, renamed, removed, a program that is started), in the tool or in a program of
-Python that it started: `sitecustomize` counts them by Python's audit events. What root has another user do isn't
-counted, as root gives it none of its environment.
+Python that it started: `sitecustomize` counts them by Python's audit events, in a copy of the project whose commands
+heed it. What root has another user do isn't counted, as root gives it none of its environment.
 """
 
 import hashlib
@@ -12,14 +12,14 @@ import json
 import os
 import shutil
 import signal
-import socket
 import subprocess
 from dataclasses import dataclass
 from pathlib import Path
 
-from common.chip import ROOT, SITE, Failed
-
-TOOL = ROOT / "python/bin/station-site"
+from common.chip import SITE
+from common.commands import PROJECT, command
+from common.deployed import CONF, TOOL, certify, replaced
+from common.ports import free_port
 
 OWNER, GROUP = "nobody", "nogroup"
 
@@ -96,7 +96,7 @@ class House:
         self.site, self.tokens, self.rooms = folder / "site.toml", folder / "tokens.conf", folder / "rooms"
         self.backups, self.given, self.db = folder / "backups", folder / "given", folder / "store/books.db"
         self.other_words: dict[str, object] = {}
-        self.owner = ""
+        self.owner, self.project = "", PROJECT
 
     def build(self) -> None:
         """A store that is made, and a backup of it."""
@@ -113,7 +113,7 @@ class House:
         made = [*self.as_owner(), self.program, "replay", "--site", self.site, "--db", self.db]
         subprocess.run(made, stdin=subprocess.DEVNULL, check=True)
         words = ["--program", self.program, "--site", self.site, "--db", self.db, self.backups / "night"]
-        subprocess.run([*self.as_owner(), ROOT / "python/bin/station-backup", *words], capture_output=True, check=True)
+        subprocess.run([*self.as_owner(), *command("station-backup"), *words], capture_output=True, check=True)
 
     def copy(self, folder: Path) -> "House":
         """Another house like this one; no server runs in either."""
@@ -143,7 +143,7 @@ class House:
                  "--tokens": self.tokens, "--program": self.program, "--port": self.port,
                  "--start": f"{service} start", "--stop": f"{service} stop", "--restarts": f"{service} restarts",
                  "--wait": 20, "--room": self.rooms, "--token-words": "--no-reload"} | self.other_words  # fmt: skip
-        return [str(TOOL), *(f"{name}={value}" for name, value in words.items())]
+        return [*command("station-site", self.project), *(f"{name}={value}" for name, value in words.items())]
 
     def run(self, *words: str, kill_at: int = 0) -> Run:
         """A run of the tool, which may be killed at a deed."""
@@ -171,20 +171,13 @@ class House:
     def proxied(self) -> "subprocess.Popen[bytes]":
         """nginx by deploy/nginx.conf in front, with other ports and paths."""
         port, certificate = free_port(), self.folder / "cert.pem"
-        words = ["req", "-x509", "-newkey", "ec", "-pkeyopt", "ec_paramgen_curve:prime256v1", "-noenc", "-days", "2"]
-        words += ["-subj", "/CN=station.example", "-keyout", str(self.folder / "key.pem"), "-out", str(certificate)]
-        subprocess.run(["openssl", *words], capture_output=True, check=True)
-        text = (ROOT / "deploy/nginx.conf").read_text(encoding="utf-8")
-        for old, new in [("listen 8443", f"listen 127.0.0.1:{port}"), ("127.0.0.1:880;", f"127.0.0.1:{self.port};"),
-                         ("/etc/station/", f"{self.folder}/"), ("/var/lib/nginx/", f"{self.folder}/lib-"),
-                         ("/var/log/nginx/", f"{self.folder}/log-")]:  # fmt: skip
-            if old not in text:
-                raise Failed(f"deploy/nginx.conf has no {old}")
-            text = text.replace(old, new)
+        certify(self.folder, name="station.example", names="DNS:station.example")
+        pairs = [("listen 8443", f"listen 127.0.0.1:{port}"), ("127.0.0.1:880;", f"127.0.0.1:{self.port};"),
+                 ("/etc/station/", f"{self.folder}/"), ("/var/lib/nginx/", f"{self.folder}/lib-"),
+                 ("/var/log/nginx/", f"{self.folder}/log-")]  # fmt: skip
         path, pid = self.folder / "nginx.conf", self.folder / "nginx.pid"
-        path.write_text(text)
-        made = [ROOT / "python/bin/station-token", "--file", self.tokens, "--no-reload", "write"]
-        subprocess.run(made, capture_output=True, check=True)
+        path.write_text(replaced(CONF, pairs))
+        subprocess.run([TOOL, "--file", self.tokens, "--no-reload", "write"], capture_output=True, check=True)
         nginx = f"nginx -c {path} -e {self.folder}/log -g 'pid {pid};'"
         told = f'--test "{nginx} -t -q" --reload "{nginx} -s reload" --pid {pid}'
         self.other_words = {"--nginx": f"https://127.0.0.1:{port}", "--certificate": certificate, "--token-words": told}
@@ -211,17 +204,6 @@ class House:
 
 def digest_of(token: str) -> str:
     return hashlib.sha256(token.encode()).hexdigest()
-
-
-def expect(what: str, found: object, wanted: object) -> None:
-    if found != wanted:
-        raise Failed(f"{what}: {found!r}, and not {wanted!r}")
-
-
-def free_port() -> int:
-    with socket.socket() as one:
-        one.bind(("127.0.0.1", 0))
-        return one.getsockname()[1]
 
 
 def was_killed(run: Run) -> bool:

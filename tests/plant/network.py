@@ -1,5 +1,4 @@
-"""What another machine reaches of the deployed form with all that watches it, for `alarms`: nginx's port alone. And
-what the requests of a stranger take of the server's connections: none.
+"""What another machine reaches of the deployed form with all that watches it, for test_alarms.py: nginx's port alone.
 
 This file is run as a program in a network of its own. The server, nginx and Debian's four services run there, the
 services by the line `ExecStart=` of Debian's units or of the package's drop-ins, with Debian's ARGS. Another network,
@@ -18,17 +17,17 @@ import time
 import urllib.request
 from pathlib import Path
 
-from alarms_place import CUSTOMERS, DEPLOYED, replaced
-from common.served import HOST
-from common.tokens_place import ROOT, Place, ran
+from common.commands import PYTHON
+from common.deployed import Place, expect, ran, replaced
+from common.needs import ROOT
+from common.ports import HOST
+from common.program import Failed
+from plant.watched import CUSTOMERS, DEPLOYED
 
 PORT, OURS, THEIRS = 8443, "10.0.2.1", "10.0.2.9"
 SERVICES = ["prometheus", "prometheus-alertmanager", "prometheus-blackbox-exporter", "prometheus-node-exporter"]
 # The ports that Debian's units listen on, and an address that each answers here with 200.
 WATCHING = {9090: "/-/ready", 9093: "/-/ready", 9094: None, 9100: "/metrics", 9115: "/"}
-
-# How many requests a stranger sends.
-STRANGE = 20_000
 
 # Connects to all ports of an address, and says which take it. Those that say nothing for a second are closed.
 LOOKS = """
@@ -51,10 +50,6 @@ for first in range(1, 65536, 1024):
 """
 
 
-class Failed(Exception):
-    """Something is otherwise than it has to be."""
-
-
 def done(*words):
     it = ran(words)
     if it.returncode:
@@ -66,13 +61,12 @@ class Whole(Place):
     """The deployed form, with nginx on its own port of all addresses."""
 
     def __init__(self, folder, program):
-        super().__init__(folder, program, 0)
+        super().__init__(folder, program)
         self.port = PORT
 
     def conf(self, name, port):
         path = super().conf(name, port)
-        text = path.read_text(encoding="utf-8")
-        path.write_text(text.replace(f"listen {HOST}:{port} ", f"listen {port} "), encoding="utf-8")
+        path.write_text(replaced(path, [(f"listen {HOST}:{port} ", f"listen {port} ")]), encoding="utf-8")
         return path
 
 
@@ -109,7 +103,7 @@ class Network:
         for name, goal in (("rules.yml", "wanekupo.yml"), *((it, it) for it in ("prometheus.yml", "alertmanager.yml"))):
             shutil.copy(DEPLOYED / name, etc / goal)
         pairs = [("/etc/station/cert.pem", f"{self.place.folder}/etc/cert.pem")]
-        (etc / "blackbox.yml").write_text(replaced("blackbox.yml", pairs), encoding="utf-8")
+        (etc / "blackbox.yml").write_text(replaced(DEPLOYED / "blackbox.yml", pairs), encoding="utf-8")
 
     def watch(self, is_bound):
         """Starts the four services, by the package's drop-ins or by Debian's units alone."""
@@ -159,12 +153,6 @@ class Network:
         self.other.wait()
 
 
-def expect(what, got, wanted):
-    if got != wanted:
-        raise Failed(f"{what}: {sorted(got)}, and not {sorted(wanted)}")
-    print(f"{what}: {', '.join(map(str, sorted(got)))}", flush=True)
-
-
 def tried(network):
     network.watch(is_bound=False)
     expect("Debian's units alone, open to another machine", network.open_ports(), {PORT, *WATCHING})
@@ -180,28 +168,15 @@ def tried(network):
     for port, path in WATCHING.items():
         if path:
             network.wait_for(port, path)
-    print("this machine reaches all that watches", flush=True)
 
 
-def try_network(program):
-    """What another machine reaches, in a network, mounts and processes of its own, all of which end with it."""
+def reached(program):
+    """What another machine reaches, in a network, mounts and processes of its own, all of which end with it: the error
+    where it is otherwise than it has to be."""
     own = ["unshare", "-n", "-m", "-p", "--fork", "--kill-child", "--mount-proc"]
-    words = [*own, sys.executable, "-B", __file__, program]
-    done = subprocess.run(words, capture_output=True, text=True, timeout=300)
-    print(done.stdout, end="", flush=True)
-    if done.returncode:
-        raise Failed(f"another network: {done.stderr}")
-
-
-def try_strangers(plant):
-    """A stranger's requests, most of them above the rate, take none of the server's connections."""
-    count = len(plant.place.recorder.heads)
-    flood = ran(["h2load", "-n", STRANGE, "-c", "40", "-m", "10", f"{plant.url}/v1/report"]).stdout
-    plant.look()
-    left = plant.value("wanekupo_connections_left")
-    if f" {STRANGE} done, 0 succeeded" not in flood or left != plant.connections - count:
-        raise Failed(f"{STRANGE} requests of a stranger, {count} others: {left} connections are left. {flood}")
-    print(f"{STRANGE} requests of a stranger, {count} others: {left} connections are left", flush=True)
+    words = [*own, PYTHON, "-B", "-m", "plant.network", program]
+    done = subprocess.run(words, cwd=ROOT / "tests", capture_output=True, text=True, timeout=300)
+    return done.stderr if done.returncode else ""
 
 
 def main():
@@ -210,13 +185,9 @@ def main():
         network = Network(folder, sys.argv[1])
         try:
             tried(network)
-        except Failed as failed:
-            print(f"FAILED: {failed}", file=sys.stderr)
-            return 1
         finally:
             network.close()
-    return 0
 
 
 if __name__ == "__main__":
-    sys.exit(main())
+    main()
