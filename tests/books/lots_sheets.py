@@ -157,11 +157,11 @@ def tried_sheets(place, tried):
         raise SystemExit(f"lots: no list was made by {sys.executable}: {told}")
     expected = [shown(row) for row in rows_of(place.copy(), "acme")]
     rows = fields_in(place.folder / "sheet.csv")
-    tried.same(f"a list of {len(expected)} devices", (status, rows[1:] == expected), (0, True))
+    assert (status, rows[1:] == expected) == (0, True), f"a list of {len(expected)} devices"
     for reader in ("plain", "gnumeric"):
         for ending in ("xlsx", "csv"):
             again = fields_in(through(place.folder, "sheet.xlsx", ending, reader))
-            tried.same(f".xlsx through {reader}, as {ending}: text for text", again == rows, True)
+            assert again == rows, f".xlsx through {reader}, as {ending}: text for text"
     changed = changed_in(place.folder, "sheet.csv", rows)
     tried.others += not changed
     tried_warnings(tried, rows, changed)
@@ -171,7 +171,7 @@ def tried_sheets(place, tried):
         for name, reading in ((name, reading_of(it)) for name, it in zip(names, row)):
             found[name, reading] = found.get((name, reading), 0) + 1
     found = sorted(count for (_, reading), count in found.items() if reading)
-    tried.same(f"{sum(found)} warnings, and {len(changed)} fields changed", sorted(counts.values()), found)
+    assert sorted(counts.values()) == found, f"{sum(found)} warnings, and {len(changed)} fields changed"
     tried_documents(tried, expected)
     tried_texts(place, tried)
 
@@ -183,9 +183,9 @@ def tried_warnings(tried, rows, changed):
     """Both ways: what is changed is told, and what is told as changed is."""
     readings = {(y, x): reading_of(it) for y, row in enumerate(rows) for x, it in enumerate(row)}
     missed = [rows[y][x] for y, x in changed if not readings[y, x]]
-    tried.same("none that is changed goes untold", missed, [])
+    assert missed == [], "none that is changed goes untold"
     false = [rows[y][x] for (y, x), it in readings.items() if it in ("number", "truth") and (y, x) not in changed]
-    tried.same("none that is told as a number stays as it is", false, [])
+    assert false == [], "none that is told as a number stays as it is"
 
 
 def tried_documents(tried, expected):
@@ -195,7 +195,7 @@ def tried_documents(tried, expected):
     for row in expected:
         found[row[-1]][1].add(kinds.get(reading_of(row[0]), "x"))
     others = [it for it in ORDERS if found[it[0]] != [it[1], {it[4]}]]
-    tried.same("each order's name and numbers as the documents say", [(it, found[it[0]]) for it in others], [])
+    assert [(it, found[it[0]]) for it in others] == [], "each order's name and numbers as the documents say"
 
 
 def tried_texts(place, tried):

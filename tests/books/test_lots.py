@@ -93,8 +93,8 @@ def tried_lists(place, tried):
         before = place.requests()
         status, _, told, seconds = place.ran(seat, "manifest", "--all", "--out", f"{seat}.csv")
         asked, records = place.requests() - before, expected[seat].count(b"\n") - 1
-        tried.same(f"{customer}: a list of {records} records", (status, told.count("warning")), (0, records and 1))
-        tried.same(f"{customer}: as by SELECT", (place.folder / f"{seat}.csv").read_bytes() == expected[seat], True)
+        assert (status, told.count("warning")) == (0, records and 1), f"{customer}: a list of {records} records"
+        assert (place.folder / f"{seat}.csv").read_bytes() == expected[seat], f"{customer}: as by SELECT"
         tried.goal(f"{customer}: {records} records by {asked} requests", seconds, GOAL * max(1, records / 10_000))
         pages = -(-records // 500)
         print(f"        in pages of 500 records there were {pages} requests in the place of {2 * records}", flush=True)
@@ -111,7 +111,7 @@ def tried_forms(place, tried, copy):
     made = ran(["jq", "-r", by_jq, "o2.jsonl"], place.folder)
     found = (row for row in rows_of(copy, "bolt") if row[10] == "o2")
     rows = [(row[0], row[3], " ".join(row[4]), row[6] or "", row[10]) for row in found]
-    tried.same("an order as JSON, by jq", (status, made.stdout.splitlines()), (0, [",".join(row) for row in rows]))
+    assert (status, made.stdout.splitlines()) == (0, [",".join(row) for row in rows]), "an order as JSON, by jq"
 
 
 def tried_cut(place, tried, expected):
@@ -132,9 +132,9 @@ def tried_cut(place, tried, expected):
     status, _, _, _ = place.ran("a1", "manifest", "--all", "--out", "cut.csv")
     second = place.requests() - before - first
     is_same = (place.folder / "cut.csv").read_bytes() == expected
-    tried.same("cut, and begun again: the same list", (status, is_same, part.exists()), (0, True, False))
+    assert (status, is_same, part.exists()) == (0, True, False), "cut, and begun again: the same list"
     most = 2 * (lines - 1 - there) + 100
-    tried.same(f"with {second} requests, as {there} records were there", second <= most, True)
+    assert second <= most, f"with {second} requests, as {there} records were there"
 
 
 def tried_signatures(place, tried):
@@ -154,12 +154,12 @@ def tried_signatures(place, tried):
         status, _, told, _ = place.ran("a1", "manifest", "o1", "--out", "signed.csv", *more)
         looks = ["sha256sum -c signed.csv.sha256", verifying[name]]
         statuses = [ran(words.split(), here).returncode for words in looks]
-        tried.same(f"a digest and a signature by {name}", (status, statuses), (0, [0, 0]))
+        assert (status, statuses) == (0, [0, 0]), f"a digest and a signature by {name}"
         data = bytearray((here / "signed.csv").read_bytes())
         data[-2] ^= 1
         (here / "signed.csv").write_bytes(data)
         statuses = [ran(words.split(), here).returncode for words in looks]
-        tried.same("of a changed byte neither holds", 0 in statuses, False)
+        assert not (0 in statuses), "of a changed byte neither holds"
 
 
 # ---- certificates
@@ -209,29 +209,29 @@ def tried_certificates(place, tried, pairs):
     left = sum(file.stem in scrapped for file in pairs.glob("*.csr"))
     counts = [certified - left, 0, left]
     status, out, told, seconds = place.ran("b1", "certify", spool, "--ca-folder", ca)
-    tried.same("another customer's token", (status, list(json.loads(out).values())), (1, [0, 0, certified]))
+    assert (status, list(json.loads(out).values())) == (1, [0, 0, certified]), "another customer's token"
     is_over = threading.Event()
     with ThreadPoolExecutor(1) as beside:
         seen = beside.submit(seen_in_arguments, PIN["PIN"].encode(), is_over)
         status, out, told, seconds = place.ran("a1", "certify", spool, "--ca-folder", ca)
         is_over.set()
-    tried.same("the PIN is in no process's words", seen.result(), False)
-    tried.same(f"a spool of {certified}", (status, list(json.loads(out).values())), (1 if left else 0, counts))
-    tried.same(f"{left} that are scrapped are refused", told.count("which is scrapped"), left)
+    assert not seen.result(), "the PIN is in no process's words"
+    assert (status, list(json.loads(out).values())) == (1 if left else 0, counts), f"a spool of {certified}"
+    assert told.count("which is scrapped") == left, f"{left} that are scrapped are refused"
     print(f"        {seconds:.1f} s, a token of softhsm2 signs", flush=True)
     status, out, told, seconds = place.ran("a1", "certify", spool, "--ca-folder", ca)
     counts = [0, certified - left, left]
-    tried.same("a second run issues none", list(json.loads(out).values()), counts)
+    assert list(json.loads(out).values()) == counts, "a second run issues none"
     files = sorted(spool.glob("*.pem"))
     rows = [row.split("\t") for row in (ca / "index.txt").read_text(encoding="ascii").splitlines()[1:]]
     subjects = [f"/serialNumber={file.stem}" for file in files]
-    tried.same("openssl's index has each once", sorted(row[5] for row in rows), subjects)
+    assert sorted(row[5] for row in rows) == subjects, "openssl's index has each once"
     done = ran(["openssl", "verify", "-x509_strict", "-trusted", ca / "ca.pem", *files])
-    tried.same("each by openssl verify", (done.returncode, done.stdout.count(": OK")), (0, len(files)))
+    assert (done.returncode, done.stdout.count(": OK")) == (0, len(files)), "each by openssl verify"
     status, out, told, _ = place.ran("a1", "verify", *files, "--trusted", ca / "ca.pem")
-    tried.same("each against its record", (status, out.count(": as its record"), told), (0, len(files), ""))
+    assert (status, out.count(": as its record"), told) == (0, len(files), ""), "each against its record"
     status, out, told, _ = place.ran("b1", "verify", files[0], "--trusted", ca / "ca.pem")
-    tried.same("against another customer's", (status, "another key than the record" in told), (1, True))
+    assert (status, "another key than the record" in told) == (1, True), "against another customer's"
     tried_full(place, tried, pairs, serials)
     tried_clouds(place, tried, spool, certified - left)
 
@@ -258,8 +258,8 @@ def tried_full(place, tried, pairs, serials):
         copies = (ran(["openssl", "x509", "-in", it, "-noout", "-subject"]) for it in (ca / "newcerts").glob("*.pem"))
         kept = sorted(it.stdout for it in copies if "serialNumber" in it.stdout)
         told = [it for it in told if "is almost full" in it or "No space left" in it]
-        tried.same(f"a full disk, {FULL} times: a sentence", (len(files), len(told)), (FULL, FULL))
-        tried.same("then each has one certificate", kept, sorted(subjects))
+        assert (len(files), len(told)) == (FULL, FULL), f"a full disk, {FULL} times: a sentence"
+        assert kept == sorted(subjects), "then each has one certificate"
     finally:
         ran(["umount", disk])
 
@@ -280,10 +280,10 @@ def tried_clouds(place, tried, spool, certified):
     status, _, told, _ = place.ran("a1", "manifest", "o1", *more)
     in_use = sum(row[10] == "o1" and row[8] != "scrapped" for row in rows_of(place.copy(), "acme"))
     if in_use != certified:
-        tried.same("a spool that lacks some", (status, "has no" in told), (2, True))
+        assert (status, "has no" in told) == (2, True), "a spool that lacks some"
         return
     lines = [(place.folder / name).read_text(encoding="ascii").splitlines() for name in ("aws.jsonl", "azure.jsonl")]
-    tried.same("clouds' files have each device in use", (status, [len(it) for it in lines]), (0, [certified] * 2))
+    assert (status, [len(it) for it in lines]) == (0, [certified] * 2), "clouds' files have each device in use"
 
 
 # ---- the usual shares
@@ -302,7 +302,7 @@ def tried_shares(place, tried):
     seconds = float(done.stdout)
     minutes = seconds * 10_000 / TIMED / 60
     print(f"        {TIMED} records by nginx's usual shares: {seconds:.1f} s, so 10,000 in {minutes:.0f} min")
-    tried.same("20 requests a second", abs(seconds - (2 * TIMED - 40) / USUAL) < 4, True)
+    assert abs(seconds - (2 * TIMED - 40) / USUAL) < 4, "20 requests a second"
 
 
 def copied(old, new):
