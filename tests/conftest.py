@@ -6,6 +6,7 @@ Options have small defaults. A test that can't be run here is skipped, and says 
 import os
 import random
 import shutil
+from collections.abc import Callable
 from pathlib import Path
 
 import pytest
@@ -29,6 +30,7 @@ def pytest_addoption(parser: pytest.Parser) -> None:
     group.addoption("--size", type=int, help="how many chips, kills, devices or requests, where a test has sizes")
     group.addoption("--seed", type=int, default=7, help="of random choices")
     group.addoption("--espefuse", default=os.environ.get("ESPEFUSE"), help="the words that run espefuse 4")
+    group.addoption("--found", type=Path, help="a file to which tests add what they measured and counted, a line each")
     group.addoption("--write", action="store_true", help="put what a test shows into the pages that have it")
 
 
@@ -43,9 +45,10 @@ def pytest_generate_tests(metafunc: pytest.Metafunc) -> None:
     marker, chosen = metafunc.definition.get_closest_marker("sizes"), metafunc.config.option.size
     if marker and chosen is None:
         short, *long = marker.args
-        metafunc.parametrize("size", [short, *(pytest.param(it, marks=pytest.mark.slow) for it in long)])
+        sizes = [short, *(pytest.param(it, marks=pytest.mark.slow) for it in long)]
+        metafunc.parametrize("size", sizes, scope="module")
     elif marker:
-        metafunc.parametrize("size", [chosen])
+        metafunc.parametrize("size", [chosen], scope="module")
 
 
 def pytest_runtest_setup(item: pytest.Item) -> None:
@@ -83,6 +86,19 @@ def chance(seed: int) -> random.Random:
 def is_written(request: pytest.FixtureRequest) -> bool:
     """Whether what a test shows is put into the pages that have it."""
     return request.config.option.write
+
+
+@pytest.fixture
+def found(request: pytest.FixtureRequest) -> Callable[[str], None]:
+    """Tells a line of what a test measured or counted; it goes to the end of --found too."""
+
+    def tell(line: str) -> None:
+        print(line)
+        if path := request.config.option.found:
+            with open(path, "a", encoding="utf-8") as file:
+                print(line, file=file)
+
+    return tell
 
 
 @pytest.fixture

@@ -1,8 +1,8 @@
-"""The commands of a page of docs, run in one bash after another, and their replies beside the page's, for walk and grow.
+"""The commands of a page of docs, run in one bash after another, and their replies beside the page's.
 
 A page's commands stand in blocks of ```console, each behind `$ `, its further lines behind `> `, and its reply below it.
-They run in a new folder in which `crates`, `clients`, `deploy` and `maps` are those of the repository and `station` is the
-program.
+They run in a new folder in which `crates`, `clients`, `deploy` and `python` are those of the repository and `station` is
+the program.
 """
 
 import os
@@ -16,8 +16,7 @@ from pathlib import Path
 
 from common.needs import ROOT
 
-PROGRAM = ROOT / "crates/station/out/station"
-FOLDERS = ["crates", "clients", "maps"]
+FOLDERS = ["crates", "clients", "python"]
 PORT, PORTS = 8080, 4
 SECONDS = 120
 BLOCK = re.compile(r"^```console\n(.*?)^```$", re.MULTILINE | re.DOTALL)
@@ -63,14 +62,6 @@ def unsafe_lines(text):
     """The lines of a page by their numbers that run sqlite3 without `-safe -readonly`."""
     found = ((number, UNSAFE.search(line)) for number, line in enumerate(without_packages(text).splitlines(), 1))
     return [(number, it[0]) for number, it in found if it]
-
-
-def is_safe(page):
-    """Prints the lines of a page that run sqlite3 without `-safe -readonly`, and whether there are none."""
-    lines = unsafe_lines(page.read_text(encoding="utf-8"))
-    for number, line in lines:
-        print(f"{page.name}:{number}: sqlite3 without -safe -readonly: {line}")
-    return not lines
 
 
 def at_ports(text, old, new):
@@ -166,10 +157,6 @@ def walk(page, program, port, seconds):
         shell.close()
 
 
-def is_as_on(name, told):
-    """Prints the commands whose replies aren't those of the page, and how many are; and whether all are."""
-    others = [(step, expected) for step, expected in told if step.reply != expected]
-    for step, expected in others:
-        print("\n".join(["$ " + "\n> ".join(step.lines), "the page:", *expected, "this run:", *step.reply, ""]))
-    print(f"{name}: {len(told)} commands, {len(told) - len(others)} as on the page")
-    return not others
+def others_than_on(told):
+    """The commands whose replies aren't those of the page, each with both."""
+    return [(step.lines, expected, step.reply) for step, expected in told if step.reply != expected]

@@ -19,7 +19,7 @@ import pytest
 from common.chip import Failed
 from common.commands import PROJECT, copy_project
 from common.deployed import expect
-from faults.test_grow import GROWN, NO_SITES, OTHERS
+from common.grown_sites import GROWN, NO_SITES, OTHERS
 from plant.house import House, digest_of, was_killed
 from plant.sites_faults import KEYED, MAPS, NONE, SAMPLE, SECRET, SITES
 from wanekupo.plant.site.map_faults import map_faults

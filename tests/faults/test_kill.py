@@ -1,8 +1,4 @@
-#!/usr/bin/env python3
 """Kills `station serve` at random moments under load, and compares its books with an undisturbed run's.
-
-    kill --program P                        200 kills, seed 1
-    kill --program P --kills 20 --seed 7    other kills
 
 Six stations of three customers send numbered requests over a port: maps, orders, devices, plans,
 read-backs, identities, shipments, scrapped devices and imports, some of them to be refused. Each makes
@@ -12,32 +8,29 @@ the request that got no reply, or its last one. At the end the same requests are
 new file, which nobody disturbs: each reply, each order, device and ledger, and the tables of both files
 have to be equal. What a station asks for depends on the seed and on its own replies alone.
 
-It prints the kills, the requests, those that got no reply and how many of these were done; `lost`, requests whose reply
-came and that the books don't have; `twice`, requests that the books have more than once; the serial numbers and
-addresses given; and what differs: a reply, an order, a device, a ledger, a row of a table, or a number that was given
-twice. The status is 1 where any of these is there. The requests are those of the seed; the moments are the seed's and
-the machine's. Python 3.11, standard library alone, on Linux. It needs served.py and registrations.py, and what that
-needs, beside it.
+The requests are those of the seed; the moments are the seed's and the machine's. With --write the row of
+docs/reference/tests.md says what was found.
 """
 
-import argparse
 import hashlib
 import http.client
 import json
-import os
 import random
 import sqlite3
-import sys
-import tempfile
 import threading
 import time
 from collections import Counter
 
+import pytest
+
+from common.page_rows import put_row
 from common.registrations import MAP, blocks_of, key_of
 from common.served import Caller, Server, station
 
 CUSTOMERS = 3
 SEATS = 2
+# The longest time to a kill, in seconds.
+MOST = 0.2
 DIGEST = hashlib.sha256(MAP.encode()).hexdigest()
 
 # A number that no seat has come to, so that its refusal tells the number that is expected.
@@ -304,59 +297,54 @@ def differences(stations, killed, calm):
     return faults
 
 
-def measure(args, folder):
-    """Both runs. Returns the counts, the faults, and how many serial numbers and addresses were given."""
-    site, db, calm_db = (os.path.join(folder, name) for name in ("site.toml", "killed.db", "calm.db"))
-    with open(site, "w", encoding="utf-8") as file:
-        file.write(site_text())
-    run = Run(station(args.program, site, db, args.port), args.port)
-    stations = [Station(run, args.seed, c, s) for c in range(CUSTOMERS) for s in range(SEATS)]
+def run_killed(run, stations, kills, seed):
+    """Has the stations work while the server is killed, and returns the books then."""
     run.start()
     try:
         for each in stations:
             each.start()
-        run.kill_often(args.kills, random.Random(args.seed), args.most)
+        run.kill_often(kills, random.Random(seed), MOST)
         run.is_over = True
         for each in stations:
             each.join(120)
-            if each.is_alive() or each.failure:
-                raise SystemExit(f"FAILED: {each.name} didn't end: {each.failure}")
-        shown = books(args.port, stations)
+            assert not each.is_alive() and not each.failure, f"{each.name} didn't end: {each.failure}"
+        return books(run.port, stations)
     finally:
         run.is_over = True
         run.server.kill()
-    others, faults = undisturbed(station(args.program, site, calm_db, args.port), args.port, stations)
+
+
+def counts_of(stations, shown):
+    """What the stations counted, and the books of theirs."""
     counts = sum((each.counts for each in stations), Counter())
     for each in stations:
-        faults += each.faults
         count_steps(each, shown, counts)
         count_orders(each, shown, counts)
     counts["requests"] = sum(len(each.asked) for each in stations)
     counts["refused"] = sum(status != 200 for each in stations for *_, status, _ in each.asked)
     counts["serials"], counts["macs"] = map(len, identities(stations))
-    return counts, faults + differences(stations, (shown, tables(db)), (others, tables(calm_db)))
+    return counts
 
 
-def main():
-    parser = argparse.ArgumentParser(description="Kills station serve under load, and compares its books.")
-    parser.add_argument("--program", required=True, help="the built program")
-    parser.add_argument("--kills", type=int, default=200, help="how often it is killed")
-    parser.add_argument("--seed", type=int, default=1, help="the seed of the requests and the moments")
-    parser.add_argument("--most", type=float, default=0.2, help="the longest time to a kill, in seconds")
-    parser.add_argument("--port", type=int, default=18080, help="the port of 127.0.0.1 to serve on")
-    args = parser.parse_args()
-    with tempfile.TemporaryDirectory(dir=".") as folder:
-        counts, faults = measure(args, folder)
-    print(
-        f"{args.kills} kills, {counts['requests']} requests ({counts['refused']} refused), "
+@pytest.mark.sizes(4, 200)
+def test_kills(program, tmp_path, port, size, seed, is_written):
+    """`lost` are requests whose reply came and that the books don't have; `twice` those that they have more than once."""
+    site, db, calm_db = (str(tmp_path / name) for name in ("site.toml", "killed.db", "calm.db"))
+    (tmp_path / "site.toml").write_text(site_text(), encoding="utf-8")
+    run = Run(station(program, site, db, port), port)
+    stations = [Station(run, seed, customer, seat) for customer in range(CUSTOMERS) for seat in range(SEATS)]
+    shown = run_killed(run, stations, size, seed)
+    others, faults = undisturbed(station(program, site, calm_db, port), port, stations)
+    counts = counts_of(stations, shown)
+    faults += [fault for each in stations for fault in each.faults]
+    faults += differences(stations, (shown, tables(db)), (others, tables(calm_db)))
+    assert (faults[:20], counts["lost"], counts["twice"]) == ([], 0, 0)
+    assert counts["serials"] and counts["refused"]
+    line = (
+        f"{size} kills, {counts['requests']} requests ({counts['refused']} refused), "
         f"{counts['repeated']} without a reply and repeated, {counts['done']} of them done before the kill; "
         f"lost {counts['lost']}, twice {counts['twice']}; {counts['serials']} serial numbers and "
-        f"{counts['macs']} addresses given; {len(faults)} differences; seed {args.seed}"
+        f"{counts['macs']} addresses given; {len(faults)} differences; seed {seed}"
     )
-    for fault in faults[:20]:
-        print(f"FAILED: {fault}", file=sys.stderr)
-    return 1 if faults or counts["lost"] or counts["twice"] else 0
-
-
-if __name__ == "__main__":
-    sys.exit(main())
+    if is_written:
+        put_row("kill", f"--size {size} --seed {seed}", line)

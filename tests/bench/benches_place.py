@@ -1,5 +1,5 @@
 """Two benches of four sockets with virtual chips of three families, what befalls these, and the hands that put them in
-and take them out: for the script `benches_end`."""
+and take them out."""
 
 import contextlib
 import hashlib
@@ -11,15 +11,12 @@ from collections import Counter
 from concurrent.futures import ThreadPoolExecutor
 from pathlib import Path
 
-ROOT = Path(__file__).resolve().parent.parent
-sys.path[:0] = [str(ROOT / "python"), str(ROOT / "python/tests/client")]
-
-from running import Running, script, toml  # noqa: E402
-from simulated_chip import map_fields, new_chip  # noqa: E402
-from support import SIMULATED, SITE, Program  # noqa: E402
-
-from wanekupo.common.errors import Refused  # noqa: E402
-from wanekupo.seat.station import Station  # noqa: E402
+from common.needs import ROOT
+from running import Running, script, toml
+from simulated_chip import map_fields, new_chip
+from support import SIMULATED, SITE, Program
+from wanekupo.common.errors import Refused
+from wanekupo.seat.station import Station
 
 FAMILIES = ("esp32", "esp32s3", "esp32c3")
 SEATS, SOCKETS = {"a1": "abc", "a2": "second"}, ("a", "b", "c", "d")
@@ -77,10 +74,10 @@ def stray_of(family):
 
 
 class Plant:
-    """A folder with a server, two orders, the chips, and what befalls each of them."""
+    """A folder with a server, two orders, so many chips, simulated ones or espefuse's, and what befalls each of them."""
 
-    def __init__(self, folder, args):
-        self.folder, self.args, self.chance = folder, args, random.Random(args.seed)
+    def __init__(self, folder, size, seed, espefuse=None):
+        self.folder, self.size, self.espefuse, self.chance = folder, size, espefuse, random.Random(seed)
         for name in ("places", "faults", "spool", "journals", "tables"):
             (folder / name).mkdir()
         head = '[[customer.seat]]\nname = "a1"\n'
@@ -94,7 +91,7 @@ class Plant:
         self.program = Program(folder, site)
         self.office = Station(self.program.url, OFFICE, folder / "office.json")
         self.tool = shlex.join([sys.executable, "-B", str(SIMULATED)])
-        self.tool = f"{args.espefuse} --virt --do-not-confirm" if args.espefuse else self.tool
+        self.tool = f"{espefuse} --virt --do-not-confirm" if espefuse else self.tool
         (folder / "flash.key").write_bytes(bytes(range(0xA0, 0xC0)))
         (folder / "flash.key").chmod(0o600)
         for name, text in (("make-csr", CSR), ("ship", SHIP)):
@@ -103,7 +100,7 @@ class Plant:
 
     def make_chips(self):
         """Chips of each family in turn, as many faults of each kind as FAULTS says, and both orders."""
-        self.macs = {f"7cdfa1{place % 3:02x}{place:04x}": FAMILIES[place % 3] for place in range(self.args.size)}
+        self.macs = {f"7cdfa1{place % 3:02x}{place:04x}": FAMILIES[place % 3] for place in range(self.size)}
         self.stock = {family: [mac for mac, it in self.macs.items() if it == family] for family in FAMILIES}
         names, self.faults = self.chance.sample(list(self.macs), len(self.macs)), {}
         for kind, count in FAULTS.items():
@@ -121,7 +118,7 @@ class Plant:
     def make_chip(self, mac):
         """A new chip in a file, and what that has."""
         file = self.folder / f"chip-{mac}"
-        new_chip(self.macs[mac], mac, file, shlex.split(self.args.espefuse or ""))
+        new_chip(self.macs[mac], mac, file, shlex.split(self.espefuse or ""))
         return file.read_bytes()
 
     def recipe(self, seat, order, family):
@@ -133,7 +130,8 @@ class Plant:
         sockets = {name: [self.socket(f"{seat}-{name}")] for name in SOCKETS}
         hooks = {name: {"command": [f"./{file}"]} for name, file in (("before_identity", "make-csr"),
                                                                      ("before_ship", "ship"))}  # fmt: skip
-        top = {"name": family, "order": order, "map": str(ROOT / f"python/wanekupo/chips/families/{family}/map.toml"), "family": family}
+        fuse_map = str(ROOT / f"python/wanekupo/chips/families/{family}/map.toml")
+        top = {"name": family, "order": order, "map": fuse_map, "family": family}
         lines = [f"{name} = {toml(it)}" for name, it in top.items()]
         tables = (("server", server), ("sockets", sockets), ("hooks", hooks), ("stop", {"lost_in_a_row": 99}))
         for name, table in tables:

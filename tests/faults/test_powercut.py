@@ -1,11 +1,5 @@
-#!/usr/bin/env python3
 """Cuts the power between any two calls that a run makes on its store's files, and compares what the program makes of
 what is left with an undisturbed run.
-
-    powercut --program P                          200 cuts, seed 1
-    powercut --program P --cuts 10000 --seed 7    other cuts
-    powercut --program P --ignore-syncs           a disk that lies about its syncs: wrong books have to be found
-    powercut --program P --show                   the calls of the run, one a line, and no cut
 
 The run is the life of a chip of docs/tutorial/first-chip.md over a new store, `replay --db`. strace records its calls
 on the store's file, on the file as which it is made (`STORE-new`) and on the log beside it, with their bytes, and each
@@ -21,7 +15,7 @@ reply that is written. A cut is between two of these calls, each place in its tu
 
 This is what the program supposes of a disk (docs/reference/trust.md); of names it supposes no more than that a file
 which it made or renamed has its name once it has synced the folder. It renames one file, that of a new store, and
-removes none: a call on the files that this script doesn't know is an error.
+removes none: a call on the files that isn't known here is an error.
 
 The file of a new store has to be the page of an empty database as C's SQLite makes it, but for the number of SQLite's
 release in its header. A cut has to leave no file of that name, or this page whole, until something else is written into
@@ -30,36 +24,36 @@ it; and behind each run nothing has the name `STORE-new`.
 Of what is left the program has to show, and to keep as rows (read with sqlite3 from a copy), the books before the
 request that the cut took the reply of, or those after it: so every request whose reply was written is there. From the
 same files on, that request, sent again, gets its reply, and so does the rest of the run; the books at the end are the
-undisturbed ones. Where all replies were written the last request is the one that is repeated. Of some cuts (`--share`)
+undisturbed ones. Where all replies were written the last request is the one that is repeated. Of some cuts (`SHARE`)
 that second run is recorded too, and is cut as well, mostly before its first reply, that is while it recovers; and so
 on.
 
-With `--ignore-syncs` no sync of a file counts, so that each write since the start may be lost: the script then ends
-with 0 if it found wrong books, older ones or others, and else with 1. Where the program refuses what is left that
-counts for nothing there.
-
-What is left depends on the seed, on the number of the cut and on the numbers that the program draws for its log. It
-prints how many cuts left the books before and after the request, and what was wrong; the status is 1 where something
-was. Python 3.11, standard library alone, on Linux, with strace. It needs chip.py and program.py beside it.
+What is left depends on the seed, on the number of the cut and on the numbers that the program draws for its log. What
+a wrong cut left is kept in the test's folder.
 """
 
-import argparse
 import collections
 import concurrent.futures
 import multiprocessing
 import os
 import random
 import re
-import shutil
-import sys
 import tempfile
 from dataclasses import dataclass, field
 from pathlib import Path
 
+import pytest
+
 from common.chip import Failed, empty_page, replay_words, replies_in, rows_of, served, shows, store_at, undisturbed
 from common.chip import without_release
+from common.page_rows import put_row
 
+pytestmark = pytest.mark.needs("strace")
+
+# The stores are made in memory where there is such a disk; a run may take so many seconds; and of so many of the cuts
+# there is another behind it.
 MEMORY = Path("/dev/shm")
+SECONDS, SHARE = 60, 0.3
 SECTOR = 512
 FILES = ("file", "log", "new")
 
@@ -287,11 +281,12 @@ def mixed(old, new, mask):
 
 
 class Bench:
-    """The program, its undisturbed run, and the calls of that run."""
+    """The program, its undisturbed run, and the calls of that run. What a wrong cut left is kept in a folder."""
 
-    def __init__(self, args, folder):
-        self.args, self.folder = args, Path(folder)
-        self.run = undisturbed(args.program, folder)
+    def __init__(self, program, folder, seed, kept, are_syncs_ignored=False):
+        self.program, self.folder, self.seed, self.kept = program, Path(folder), seed, kept
+        self.are_syncs_ignored = are_syncs_ignored
+        self.run = undisturbed(program, folder)
         self.calls = self.going_on({}, 0, self.folder / "calls", True)
         self.page = self.made()
 
@@ -325,7 +320,7 @@ class Bench:
         """How many requests the books have that the program finds, which may be between these."""
         path = self.put(image, folder)
         try:
-            shown = served(replay_words(self.args.program, path), b"".join(shows()), self.args.seconds)
+            shown = served(replay_words(self.program, path), b"".join(shows()), SECONDS)
         except Failed as failure:
             raise Wrong("refused", f"what is left isn't opened: {failure}") from failure
         if files_at(path)[2].exists():
@@ -343,9 +338,9 @@ class Bench:
     def going_on(self, image, answered, folder, is_recorded):
         """Has the request without a reply, or the last one, and the rest served. Returns the calls, if recorded."""
         path, first = self.put(image, folder), self.first(answered)
-        words, out = replay_words(self.args.program, path), folder / "calls"
+        words, out = replay_words(self.program, path), folder / "calls"
         stream = b"".join(self.run.asked[first:] + shows())
-        replies = served([*STRACE, "-o", str(out), *words] if is_recorded else words, stream, self.args.seconds)
+        replies = served([*STRACE, "-o", str(out), *words] if is_recorded else words, stream, SECONDS)
         goods = self.run.replies[first:] + self.run.books[-1].shown
         if replies != goods:
             others = [first + place + 1 for place, good in enumerate(goods) if replies[place : place + 1] != [good]]
@@ -369,23 +364,23 @@ class Bench:
 
     def cut(self, number):
         """Makes a cut, and perhaps others after it. Returns what they left, and what was wrong."""
-        chance = Chance(f"{self.args.seed} {number}")
+        chance = Chance(f"{self.seed} {number}")
         image, calls, answered, least, told = {}, self.calls, 0, 0, []
         place = number % (len(calls) + 1)
         while True:
-            files = files_after(image, calls[:place], self.args.ignore_syncs)
+            files = files_after(image, calls[:place], self.are_syncs_ignored)
             answered = self.answered(calls[:place], answered)
             least = max(least, answered)
             told.append(f"{place} of {len(calls)} calls, {answered} replies")
             before, image = image, chance.image(files)
-            is_more = not self.args.ignore_syncs and chance.random.random() < self.args.share
+            is_more = not self.are_syncs_ignored and chance.random.random() < SHARE
             try:
-                if not self.args.ignore_syncs:
+                if not self.are_syncs_ignored:
                     self.look_whole(before, calls[:place], image)
                 with tempfile.TemporaryDirectory(dir=self.folder) as folder:
                     most = min(answered + 1, len(self.run.asked))
                     found = self.looked(image, least, most, Path(folder) / "look")
-                    if not self.args.ignore_syncs:
+                    if not self.are_syncs_ignored:
                         calls = self.going_on(image, answered, Path(folder) / "go", is_more)
             except (Wrong, Failed) as failure:
                 self.keep(number, image)
@@ -398,12 +393,9 @@ class Bench:
 
     def keep(self, number, image):
         """Keeps what a cut left that something was wrong with."""
-        if self.args.keep:
-            folder = Path(self.args.keep)
-            folder.mkdir(parents=True, exist_ok=True)
-            for name, file in zip(FILES, files_at(folder / f"cut{number}.db")):
-                if name in image:
-                    file.write_bytes(image[name])
+        for name, file in zip(FILES, files_at(self.kept / f"cut{number}.db")):
+            if name in image:
+                file.write_bytes(image[name])
 
 
 BENCH = None
@@ -414,10 +406,11 @@ def cut(number):
     return BENCH.cut(number)
 
 
-def measure(bench, cuts, jobs):
-    """All cuts. Returns the counts and what was wrong."""
+def cut_all(bench, cuts):
+    """All cuts. Returns the counts and what was wrong, each with its kind."""
     global BENCH
     BENCH = bench
+    jobs = len(os.sched_getaffinity(0))
     counts, wrong = collections.Counter(), []
     context = multiprocessing.get_context("fork")
     with concurrent.futures.ProcessPoolExecutor(jobs, mp_context=context) as pool:
@@ -432,39 +425,30 @@ def measure(bench, cuts, jobs):
     return counts, wrong
 
 
-def main():
-    parser = argparse.ArgumentParser(description="Cuts the power between the calls on a store's files.")
-    parser.add_argument("--program", required=True, help="the built program")
-    parser.add_argument("--cuts", type=int, default=200, help="how many runs are cut")
-    parser.add_argument("--seed", type=int, default=1, help="the seed of what the cuts leave")
-    parser.add_argument("--share", type=float, default=0.3, help="the share of the cuts after which there is another")
-    parser.add_argument("--ignore-syncs", action="store_true", help="count no sync: wrong books have to be found")
-    parser.add_argument("--show", action="store_true", help="print the calls of the run, and cut nothing")
-    parser.add_argument("--keep", help="a folder for what was left where something was wrong")
-    parser.add_argument("--jobs", type=int, default=os.cpu_count(), help="how many cuts at once")
-    parser.add_argument("--seconds", type=float, default=60, help="the longest that a run may take")
-    parser.add_argument("--folder", default=MEMORY if MEMORY.is_dir() else None, help="where the stores are made")
-    args = parser.parse_args()
-    args.program = shutil.which(args.program) or parser.error(f"{args.program} is no program")
-    with tempfile.TemporaryDirectory(dir=args.folder) as folder:
-        bench = Bench(args, folder)
-        if args.show:
-            print("\n".join(map(str, bench.calls)))
-            return 0
-        counts, wrong = measure(bench, args.cuts, args.jobs)
-    books = [what for kind, what in wrong if kind.endswith("books")]
-    for what in books[:3] if args.ignore_syncs else [what for _, what in wrong[:20]]:
-        print(f"{'found' if args.ignore_syncs else 'FAILED'}: {what}", file=sys.stderr)
-    kinds = ", ".join(f"{count} {kind}" for kind, count in collections.Counter(kind for kind, _ in wrong).most_common())
-    print(
-        f"{args.cuts} runs cut at {len(bench.calls) + 1} places, {counts['more']} of them again after it, "
+@pytest.fixture
+def folder():
+    """A folder for the stores, which is gone at the end."""
+    with tempfile.TemporaryDirectory(dir=MEMORY if MEMORY.is_dir() else None) as name:
+        yield name
+
+
+@pytest.mark.sizes(40, 3000)
+def test_cuts(program, folder, tmp_path, size, seed, is_written):
+    bench = Bench(program, folder, seed, tmp_path)
+    counts, wrong = cut_all(bench, size)
+    assert wrong[:20] == []
+    assert counts["before"] and counts["after"] and counts["more"]
+    line = (
+        f"{size} runs cut at {len(bench.calls) + 1} places, {counts['more']} of them again after it, "
         f"{counts['all']} cuts: {counts['before']} left the books before the request, {counts['after']} after it; "
-        f"{len(wrong)} wrong{f' ({kinds})' if kinds else ''}; seed {args.seed}"
+        f"{len(wrong)} wrong; seed {seed}"
     )
-    if args.ignore_syncs:
-        return 0 if books else 1
-    return 1 if wrong else 0
+    if is_written:
+        put_row("powercut", f"--size {size} --seed {seed}", line)
 
 
-if __name__ == "__main__":
-    sys.exit(main())
+def test_a_disk_that_lies_is_found(program, folder, tmp_path, seed):
+    """Where no sync of a file counts, each write since the start may be lost: wrong books have to be found, older ones or
+    others. Where the program refuses what is left that counts for nothing."""
+    _, wrong = cut_all(Bench(program, folder, seed, tmp_path, are_syncs_ignored=True), 60)
+    assert [what for kind, what in wrong if kind.endswith("books")]

@@ -1,4 +1,4 @@
-"""Requests at random for `openapi`, with a server that takes them."""
+"""Requests at random for test_openapi.py, with a server that takes them."""
 
 import http.client
 import json
@@ -6,7 +6,9 @@ import random
 import socket
 import subprocess
 
-from common.pages import ROOT, SECONDS
+from common.needs import ROOT
+from common.pages import SECONDS
+from common.ports import free_port
 
 SITE = ROOT / "crates/station/data/site.toml"
 MAP = (ROOT / "crates/station/data/map.toml").read_text(encoding="utf-8")
@@ -171,9 +173,7 @@ class Server:
     """A running server over a new store, and a connection to it."""
 
     def __init__(self, program, folder):
-        with socket.socket() as free:
-            free.bind(("127.0.0.1", 0))
-            self.port = free.getsockname()[1]
+        self.port = free_port()
         words = [program, "serve", "--site", SITE, "--db", f"{folder}/books.db", "--port", str(self.port)]
         self.process = subprocess.Popen([*words, "--connections", "1000000"], stdout=subprocess.PIPE)
         self.process.stdout.readline()

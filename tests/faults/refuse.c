@@ -1,4 +1,4 @@
-/* Refuses one allocation of a program, for bench/refuse: a library to be preloaded.
+/* Refuses one allocation of a program, for test_refuse.py: a library to be preloaded.
 
    Each call of malloc, calloc, realloc, aligned_alloc, posix_memalign, memalign, valloc and pvalloc is counted,
    whoever makes it, and the call with the number REFUSE_NUMBER finds no memory. The count stands in the first

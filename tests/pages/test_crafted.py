@@ -1,8 +1,4 @@
-#!/usr/bin/env python3
-"""Has each documented command of sqlite3, and station-backup, read a crafted store, and finds that none runs a command.
-
-    crafted                crates/station/out/station of this repository
-    crafted --program P    another program
+"""Each documented command of sqlite3, and station-backup, read a crafted store, and none runs a command.
 
 The crafted store has a view for each table of a store, with its columns, and each view calls `edit()`, a function of
 the command `sqlite3` that runs a program. Here that program notes that it ran. The documented commands are those of the
@@ -11,15 +7,11 @@ stands, in a folder of its own, with the crafted store in the place of the store
 
 Each is run twice: without `-safe` and `-readonly`, where the views have to run their program, or the test could find
 nothing; and as it is documented, where nothing may run. A command that reads no table, as `PRAGMA integrity_check`,
-runs nothing either way, and is told. Then station-backup: it refuses the crafted store and runs nothing, also where
-sqlite3 is without its safe mode, as the program judges first; and also where the program takes any store, as sqlite3 is
-in its safe mode; with neither it runs the program of the views.
-
-It prints a line for each; the status is 1 where anything is otherwise. Python 3.11, standard library alone, on Linux,
-with bash, sqlite3 and xxd. It needs chip.py, pages.py and what they need beside it.
+runs nothing either way. Then station-backup: it refuses the crafted store and runs nothing, also where sqlite3 is
+without its safe mode, as the program judges first; and also where the program takes any store, as sqlite3 is in its
+safe mode; with neither it runs the program of the views.
 """
 
-import argparse
 import contextlib
 import os
 import re
@@ -27,9 +19,10 @@ import shlex
 import shutil
 import sqlite3
 import subprocess
-import sys
 import tempfile
 from pathlib import Path
+
+import pytest
 
 from common.chip import SITE, Failed, replay_words, served, store_at
 from common.pages import BLOCK, ROOT, steps_of, unsafe_lines, without_packages
@@ -37,6 +30,7 @@ from common.pages import BLOCK, ROOT, steps_of, unsafe_lines, without_packages
 PAGES = ROOT / "docs"
 BACKUP = ROOT / "python/bin/station-backup"
 SECONDS = 30
+NEEDED = pytest.mark.needs("reader", "bash", "sqlite3", "xxd")
 RUN = "sqlite3 -safe -readonly"
 
 # A function of the shell with which a page runs sqlite3 later, and a table for it to be asked for.
@@ -92,6 +86,7 @@ class Bench:
         (self.folder / "bin").mkdir()
         evil = self.script(self.folder / "evil", f"#!/bin/sh\necho ran >> {shlex.quote(str(self.ran))}\n")
         self.script(self.folder / "bin/sqlite3", SHIM)
+        self.takes_all = self.script(self.folder / "takes_all", "#!/bin/sh\nexit 0\n")
         self.real, self.crafted = self.folder / "real.db", self.folder / "crafted/books.db"
         served(replay_words(program, self.real), b"")
         self.crafted.parent.mkdir()
@@ -141,56 +136,51 @@ class Bench:
         return done.returncode, done.stderr, has_run
 
 
-def test_pages(bench):
-    """Each command of the pages."""
-    count, tables = 0, 0
-    for page in sorted(PAGES.glob("**/*.md")):
-        text = page.read_text(encoding="utf-8")
-        if unsafe_lines(text):
-            raise Failed(f"{page.name} runs sqlite3 without -safe -readonly")
-        for command in commands_of(text):
-            has_run = bench.tries(command)
-            first = command.splitlines()[0]
-            print(f"{page.name}: {'nothing ran' if has_run else 'reads no table'}: {first[:80]}")
-            count, tables = count + 1, tables + has_run
-    if not tables:
-        raise Failed("no command of a page reads a table")
-    print(f"{count} commands of pages, of which {tables} would run a program without -safe: none did")
+@pytest.fixture(scope="module")
+def bench(program):
+    with tempfile.TemporaryDirectory() as folder:
+        yield Bench(program, folder)
 
 
-def test_backup(bench):
-    """python/bin/station-backup, by the program's judgement alone, by sqlite3's safe mode alone, and by neither."""
-    takes_all = bench.script(bench.folder / "takes_all", "#!/bin/sh\nexit 0\n")
-    if bench.backs_up(takes_all, is_plain=True)[2] is not True:
-        raise Failed("the views run nothing in station-backup, so that the test could find nothing")
-    for program, is_plain, line in (
-        (bench.program, False, "the program refuses the copy"),
-        (bench.program, True, "the program refuses the copy"),
-        (takes_all, False, "sqlite3 can't read the copy"),
-    ):
-        status, error, has_run = bench.backs_up(program, is_plain)
-        if status != 1 or line not in error or has_run:
-            raise Failed(f"python/bin/station-backup: status {status}, {error!r}, a command ran: {has_run}")
-    print("python/bin/station-backup: refused, and nothing ran: by the program alone, by the safe mode alone, and by both")
+COMMANDS = [
+    pytest.param(command, id=f"{page.relative_to(PAGES)}: {command.splitlines()[0]}"[:80])
+    for page in sorted(PAGES.glob("**/*.md"))
+    for command in commands_of(page.read_text(encoding="utf-8"))
+]
 
 
-def main():
-    parser = argparse.ArgumentParser(description="A crafted store, read by each documented command.")
-    parser.add_argument("--program", default=ROOT / "crates/station/out/station", help="the built program")
-    args = parser.parse_args()
-    program = Path(args.program).resolve()
-    if not os.access(program, os.X_OK):
-        parser.error(f"{program} is no program")
-    try:
-        with tempfile.TemporaryDirectory(dir=".") as folder:
-            bench = Bench(program, Path(folder).resolve())
-            for test in (test_pages, test_backup):
-                test(bench)
-    except Failed as failed:
-        print(f"FAILED: {failed}", file=sys.stderr)
-        return 1
-    return 0
+@pytest.mark.parametrize("page", [str(page.relative_to(PAGES)) for page in sorted(PAGES.glob("**/*.md"))])
+def test_a_page_is_safe(page):
+    assert not unsafe_lines((PAGES / page).read_text(encoding="utf-8")), "sqlite3 without -safe -readonly"
 
 
-if __name__ == "__main__":
-    sys.exit(main())
+@NEEDED
+@pytest.mark.parametrize("command", COMMANDS)
+def test_a_command(bench, command):
+    bench.tries(command)
+
+
+@NEEDED
+def test_a_command_reads_a_table(bench):
+    """One at least, so that the views run their program where it isn't safe."""
+    assert any(bench.tries(command.values[0]) for command in COMMANDS)
+
+
+@NEEDED
+def test_the_views_run_their_program(bench):
+    """In station-backup too, where the program takes any store and sqlite3 isn't in its safe mode."""
+    assert bench.backs_up(bench.takes_all, is_plain=True)[2] is True
+
+
+@NEEDED
+@pytest.mark.parametrize(
+    "takes_all, is_plain, line",
+    [
+        pytest.param(False, False, "the program refuses the copy", id="by the program and the safe mode"),
+        pytest.param(False, True, "the program refuses the copy", id="by the program alone"),
+        pytest.param(True, False, "sqlite3 can't read the copy", id="by the safe mode alone"),
+    ],
+)
+def test_a_backup(bench, takes_all, is_plain, line):
+    status, error, has_run = bench.backs_up(bench.takes_all if takes_all else bench.program, is_plain)
+    assert (status, line in error, has_run) == (1, True, False), error

@@ -1,4 +1,4 @@
-"""docs/openapi.yaml as `openapi` holds requests and replies to it: a validator for each of its schemas, and what of the
+"""docs/openapi.yaml as test_openapi.py holds requests and replies to it: a validator for each of its schemas, and what of the
 description contradicts itself."""
 
 import contextlib
@@ -8,8 +8,10 @@ import io
 import json
 import re
 
-import jsonschema
-import yaml
+import pytest
+
+jsonschema = pytest.importorskip("jsonschema", reason="there is no jsonschema (Debian: python3-jsonschema)")
+yaml = pytest.importorskip("yaml", reason="there is no yaml (Debian: python3-yaml)")
 
 DEEPEST = 127
 
@@ -164,19 +166,19 @@ def refused_by(description, operation):
 
 
 def faults_of_form(description):
-    """What the specification's own schema has against the description, where a package has it."""
+    """The schemas that are none of JSON Schema 2020-12."""
     schemas = description.all["components"]["schemas"]
     for name, schema in schemas.items():
         with contextlib.suppress(jsonschema.SchemaError):
             jsonschema.Draft202012Validator.check_schema(schema)
             continue
         yield f"{name} is no schema of JSON Schema 2020-12"
-    try:
-        from openapi_spec_validator import OpenAPIV30SpecValidator, OpenAPIV31SpecValidator
-    except ImportError:
-        print("the specification's schema: no package has it here")
-        return
+
+
+def faults_of_specification(description):
+    """What the specification's own schema has against the description, where a package has it; Debian 12 has none."""
+    package = pytest.importorskip("openapi_spec_validator", reason="no package has the specification's own schema")
     is_older = description.all["openapi"].startswith("3.0")
-    validator = OpenAPIV30SpecValidator if is_older else OpenAPIV31SpecValidator
+    validator = package.OpenAPIV30SpecValidator if is_older else package.OpenAPIV31SpecValidator
     for error in validator(description.all).iter_errors():
-        yield f"the specification's schema: {error.message:.200}"
+        yield f"{error.message:.200}"

@@ -1,8 +1,4 @@
-#!/usr/bin/env python3
 """The limits of a customer, reached by requests alone over a store in a file, and what its books show then.
-
-    limits --program P                  an order of 10,000 devices, and 4,096 orders
-    limits --program P --devices 1000   an order of fewer devices
 
 One seat makes an order of as many devices as an order may have, with an address for each, and has the whole life of
 each device, seven requests; then as many orders more as a customer may have. So its numbers go on to some 74,000, the
@@ -10,35 +6,28 @@ ledger's to 70,000, and 10,000 records have an address. The store is closed, ope
 asked for the report, for each page of devices, and for the ledger of the last one; one device more and one
 order more are refused. What SQLite finds in the file are as many rows as there were requests for.
 
-The tests of the gate put most of such rows into the tables by themselves, and open them again: this takes minutes.
-Python 3.11, standard library alone, on Linux. It needs chip.py, stores.py and what these need beside it.
+The tests of the gate put most of such rows into the tables by themselves, and open them again: this takes minutes with
+all devices.
 """
 
-import argparse
 import json
-import os
-import sys
-import tempfile
 
-from common.chip import body_of, get, rows_of, served, status_of as status_in
+import pytest
+
+from common.chip import body_of, get, rows_of, served, status_of
 from common.goals import tell
 from common.lives import DIGEST, LARGEST_ORDER, STEPS, Orders
-from common.program import Failed, Program, send, status_of
+from common.program import Program, send
 from common.registrations import MAP, blocks_of
 from common.stores import command_of, parts_of
 
 ORDERS = 4096
 ADDRESSES = 1
+SECONDS = 3600
 HEAD = "order,quantity,registered,planned,settled,identified,shipped,quarantined,scrapped,serials_left"
 
 # What a ledger tells of a whole life.
 EVENTS = ["registered", "planned", "read", "read", "read", "identified", "shipped"]
-
-
-def want(name, found, wanted):
-    """Fails where something isn't as it must be."""
-    if found != wanted:
-        raise Failed(f"{name}: {wanted!r} -> {found!r}")
 
 
 def small_order(seat, number):
@@ -82,10 +71,10 @@ def look(command, devices):
     """Compares what the books show with what was asked for."""
     last = f"{devices:012x}"
     report, ledger = served(command, get("/v1/report") + get(f"/v1/ledger?chip={last}"))
-    want("the report", body_of(report).decode().splitlines(), report_of(devices))
+    assert body_of(report).decode().splitlines() == report_of(devices), "the report"
     entries = json.loads(body_of(ledger))["entries"]
-    want("the last ledger", [(entry["n"], entry["event"]) for entry in entries], list(enumerate(EVENTS, 1)))
-    want("the list", list_all(command), [f"{number:012x}" for number in range(1, devices + 1)])
+    assert [(entry["n"], entry["event"]) for entry in entries] == list(enumerate(EVENTS, 1)), "the last ledger"
+    assert list_all(command) == [f"{number:012x}" for number in range(1, devices + 1)], "the list"
 
 
 def ask_for_more(command, seat, devices):
@@ -95,43 +84,24 @@ def ask_for_more(command, seat, devices):
     seat.number -= 1
     asked.append(small_order(seat, ORDERS))
     replies = served(command, b"".join(asked))
-    found = [(status_in(reply), json.loads(body_of(reply))["no"]) for reply in replies]
-    want("one more of each", found, [(409, 18), (409, 40)])
+    found = [(status_of(reply), json.loads(body_of(reply))["no"]) for reply in replies]
+    assert found == [(409, 18), (409, 40)], "one more of each"
 
 
 def count_rows(path, devices):
     """Compares how many rows the file has with how many were asked for."""
     rows = {name: len(rows) for name, rows in rows_of(path).items()}
     found = [rows[name] for name in ("orders", "device", "given", "given_start", "ledger")]
-    want("the rows", found, [ORDERS, devices, devices, devices, STEPS * devices])
+    assert found == [ORDERS, devices, devices, devices, STEPS * devices], "the rows"
 
 
-def try_in(folder, args):
-    """Reaches the limits over a file in a folder, and looks."""
-    command, path = command_of(os.path.abspath(args.program), folder, "limits.db")
-    seat = make(command, args.seconds, args.devices)
+@pytest.mark.sizes(600, LARGEST_ORDER)
+def test_limits(program, tmp_path, size):
+    """4,096 orders, and an order of so many devices."""
+    command, path = command_of(str(program), str(tmp_path), "limits.db")
+    seat = make(command, SECONDS, size)
     again = [*command, "--existing"]
-    look(again, args.devices)
-    ask_for_more(again, seat, args.devices)
-    look(again, args.devices)
-    count_rows(path, args.devices)
-    print(f"{seat.number - 1} requests of one seat, {args.devices} devices, {ORDERS} orders: the books are whole")
-
-
-def measure(args):
-    """The same in a new folder."""
-    with tempfile.TemporaryDirectory(dir=args.folder) as folder:
-        try_in(folder, args)
-
-
-def main():
-    parser = argparse.ArgumentParser(description="The limits of a customer, reached by requests alone.")
-    parser.add_argument("--program", required=True, help="the built program")
-    parser.add_argument("--devices", type=int, default=LARGEST_ORDER, help="how many devices the order has")
-    parser.add_argument("--folder", default="/var/tmp", help="where the file stands, /var/tmp if left out")
-    parser.add_argument("--seconds", type=float, default=3600, help="the longest that the requests may take")
-    return status_of(measure, parser.parse_args())
-
-
-if __name__ == "__main__":
-    sys.exit(main())
+    look(again, size)
+    ask_for_more(again, seat, size)
+    look(again, size)
+    count_rows(path, size)

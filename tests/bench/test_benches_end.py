@@ -1,61 +1,49 @@
-#!/usr/bin/env python3
 """Tries the end of an order over two benches of four sockets, and holds all counts to each other: no chip is burnt that
 isn't identified or failed by its own fault.
-
-    benches_end                          200 simulated chips of three families
-    benches_end --size 12                fewer chips
-    benches_end --espefuse espefuse      espefuse's own virtual chips, by the words that run it
-    benches_end --program P --seed 7     another program, other chances
 
 Two seats of one customer run `wanekupo run`, with hands that put chips into sockets and take them out as the screen
 says. The first order's numbers end in the middle of the chips, and its places don't: chips are scrapped behind their
 identity. Some chips burn a bit that nobody planned, fail a hook for good or once, or are unplugged in front of a
 burning or behind it; benches are killed. A bench that asks for the next order gets it.
 
-It compares what each chip shows with what became of it, and the counts of both pages, of `wanekupo shift`, of the
-journals, of `wanekupo yield` and of the store by SQL. The last line says how many chips were burnt in vain, and how
-many registered in vain: of two benches that asked for the last number at one moment. The status is 1 where something
-differs. Python 3.11 with Debian's python3-cryptography, and openssl.
+What each chip shows is compared with what became of it, and the counts of both pages, of `wanekupo shift`, of the
+journals, of `wanekupo yield` and of the store by SQL. Chips may be burnt in vain, and registered in vain: of two
+benches that asked for the last number at one moment.
 """
 
-import argparse
 import contextlib
 import csv
 import json
-import os
 import sqlite3
-import sys
-import tempfile
 import time
 from collections import Counter
 from datetime import datetime, timedelta, timezone
-from pathlib import Path
 
-sys.dont_write_bytecode = True
+import pytest
 
-from benches_place import FAMILIES, NEXT, OWN, ROOT, SEATS, Failed, Hands, Plant  # noqa: E402
+from bench.benches_place import FAMILIES, NEXT, OWN, SEATS, Hands, Plant
+from commanding import ran
+from wanekupo.books.kept_reports import add_report
+from wanekupo.books.yield_reports import between, summed
+from wanekupo.metrics.exposition import Samples
+from wanekupo.metrics.journal_counts import add_journals
+from wanekupo.seat.journal import lines_of
+from wanekupo.seat.states import REPORTED
 
-import support  # noqa: E402
-from commanding import ran  # noqa: E402
+pytestmark = [pytest.mark.needs("openssl"), pytest.mark.sizes(12, 200)]
 
-from wanekupo.metrics.exposition import Samples  # noqa: E402
-from wanekupo.seat.journal import lines_of  # noqa: E402
-from wanekupo.metrics.journal_counts import add_journals  # noqa: E402
-from wanekupo.books.yield_reports import between, summed  # noqa: E402
-from wanekupo.seat.states import REPORTED  # noqa: E402
-from wanekupo.books.kept_reports import add_report  # noqa: E402
-
+# Below so many chips a bench needn't come to the next order, nor be killed; and the longest that benches may work.
+FEW, SECONDS = 50, 3600
 COLUMNS = ("serials_left", "quantity", "shipped", "scrapped")
 
 
 def work(plant, benches):
     """Has both benches work until no chip is left, and kills each of them some times."""
     plant.stopped = []
-    every = max(2, plant.args.size // 16)
-    end = time.monotonic() + plant.args.seconds
+    every = max(2, plant.size // 16)
+    end = time.monotonic() + SECONDS
     while any([it.look() for it in benches]):
-        if time.monotonic() > end:
-            raise Failed(f"not at the end in time: {[it.bench.board() for it in benches]}")
+        assert time.monotonic() < end, f"not at the end in time: {[it.bench.board() for it in benches]}"
         for it in benches:
             if len(it.passed) >= every * (it.kills + 1) and it.placed:
                 time.sleep(plant.chance.uniform(0, 1))
@@ -67,23 +55,34 @@ def work(plant, benches):
         time.sleep(0.05)
 
 
+@pytest.fixture(scope="module")
+def plant(program, size, pytestconfig, tmp_path_factory):
+    """A plant behind its work, with its benches, and a report of before."""
+    option = pytestconfig.option
+    plant = Plant(tmp_path_factory.mktemp("plant"), size, option.seed, option.espefuse)
+    plant.before = datetime.now(timezone.utc), plant.office.get("/v1/report")
+    plant.benches = []
+    try:
+        plant.benches += [Hands(plant, seat, family) for seat, family in zip(SEATS, FAMILIES)]
+        work(plant, plant.benches)
+        time.sleep(2)  # a shift ends before the second in which it is asked for
+        yield plant
+    finally:
+        for it in plant.benches:
+            it.bench.process.poll() is None and it.bench.kill()
+        plant.program.kill()
+
+
 # ---- what is compared
 
 
-class Tried:
-    """What was compared, and what differs."""
-
-    def __init__(self):
-        self.count, self.faults = 0, []
-
-    def want(self, what, *found):
-        self.count += 1
-        if any(it != found[0] for it in found[1:]):
-            self.faults.append(f"{what}: {', '.join(map(str, found))}")
+def expect_same(what, *found):
+    """Holds counts of several sources to each other."""
+    assert not any(it != found[0] for it in found[1:]), f"{what}: {', '.join(map(str, found))}"
 
 
-def try_chips(tried, plant):
-    """What became of each chip, beside what it shows. Those that were burnt in vain, and those registered so."""
+def test_chips(plant, found):
+    """What became of each chip, beside what it shows. Those that were burnt in vain, and those registered so, are told."""
     burnt, registered = [], []
     for mac in plant.macs:
         device = plant.asked(mac)
@@ -94,9 +93,12 @@ def try_chips(tried, plant):
         if state == "scrapped" and kind not in OWN and not is_burnt:
             registered.append(mac)
         else:
-            tried.want(f"the state of {mac}, {kind}", state, "scrapped" if kind in OWN else "shipped")
-        tried.want(f"{mac} is burnt and has no number", mac in burnt, False)
-    return burnt, registered
+            expect_same(f"the state of {mac}, {kind}", state, "scrapped" if kind in OWN else "shipped")
+        expect_same(f"{mac} is burnt and has no number", mac in burnt, False)
+    kind, said = "espefuse's virtual" if plant.espefuse else "simulated", sum((it.said for it in plant.benches), Counter())
+    found(f"stays: {told_of(said)}")
+    found(f"{len(plant.macs)} {kind} chips of {len(FAMILIES)} families, {sum(it.kills for it in plant.benches)} kills; "
+          f"{len(burnt)} burnt in vain, {len(registered)} registered in vain")  # fmt: skip
 
 
 def counts_of_books(plant):
@@ -138,8 +140,7 @@ def tables_of(plant):
     """The tables of `wanekupo shift`, by their names."""
     words = ["--from", "2000-01-01", "--to", "2099-01-01", "--csv", str(plant.folder / "tables")]
     status, _, told = ran("shift", f"acme={plant.folder / 'journals'}", *words)
-    if status or told:
-        raise Failed(f"shift: {told}")
+    assert not status and not told, told
     found = {}
     for name in ("orders", "stations"):
         with open(plant.folder / "tables" / f"{name}.csv", encoding="utf-8", newline="") as source:
@@ -156,97 +157,48 @@ def yield_of(plant, before):
     return summed({name: sum(row[name] for row in shift.rows.values()) for name in REPORTED})
 
 
-def try_counts(tried, plant, benches, before):
+def test_counts(plant, found):
     """All counts beside each other."""
+    benches = plant.benches
     pages = {it.seat: it.bench.board()["shift"] for it in benches}
     page = {name: sum(it[name] for it in pages.values()) for name in ("passed", "first")}
     failed = sum((Counter(it["failed"]) for it in pages.values()), Counter())
     states, lost = counts_of_books(plant)
     shipped, given_up, metrics = counts_of_journals(plant)
-    tables, period = tables_of(plant), yield_of(plant, before)
+    tables, period = tables_of(plant), yield_of(plant, plant.before)
     total = next((it for it in tables["orders"] if it["customer"] == "all"), tables["orders"][0])
     hands = sum(len(it.passed) for it in benches)
-    tried.want("shipped: hands, pages, shift, journals, yield, books", hands, page["passed"], int(total["shipped"]),
+    expect_same("shipped: hands, pages, shift, journals, yield, books", hands, page["passed"], int(total["shipped"]),
                shipped, period["shipped"], states["shipped"])  # fmt: skip
-    tried.want("first: logs, pages, shift", first_of_logs(plant), page["first"], int(total["first"]))
+    expect_same("first: logs, pages, shift", first_of_logs(plant), page["first"], int(total["first"]))
     gone = states.get("scrapped", 0) + states.get("quarantined", 0)
-    tried.want("given up: pages, shift, journals, yield, books", failed.total(), int(total["given_up"]), given_up,
+    expect_same("given up: pages, shift, journals, yield, books", failed.total(), int(total["given_up"]), given_up,
                period["given_up"], gone)  # fmt: skip
     for reason in ("lost", "stray", "key"):
-        tried.want(f"{reason}: pages, shift, metrics, books", failed[reason], int(total[reason]),
+        expect_same(f"{reason}: pages, shift, metrics, books", failed[reason], int(total[reason]),
                    metrics.get(reason, 0), lost.get(reason, 0))  # fmt: skip
     for it in tables["stations"]:
         own = pages[it["station"]]
         counts = int(it["shipped"]), int(it["first"])
-        tried.want(f"{it['station']}: page, shift", (own["passed"], own["first"]), counts)
-    tried.want("begun: shift, yield, books", int(total["begun"]), period["begun"], sum(states.values()))
+        expect_same(f"{it['station']}: page, shift", (own["passed"], own["first"]), counts)
+    expect_same("begun: shift, yield, books", int(total["begun"]), period["begun"], sum(states.values()))
     first = page["first"]
-    print(f"shipped {shipped}, first {first}, given up {given_up} ({told_of(failed)})")
+    found(f"shipped {shipped}, first {first}, given up {given_up} ({told_of(failed)})")
 
 
 def told_of(counts):
     return ", ".join(f"{name} {count}" for name, count in sorted(counts.items())) or "none"
 
 
-def try_end(tried, plant, benches):
+def test_end(plant, found):
     """That the trial tried what it says: the first order came to its last number, with places left, and both benches
     said so; each bench was killed."""
     report = {row["order"]: row for row in csv.DictReader(plant.office.get("/v1/report").splitlines())}
     left, quantity, shipped, scrapped = (int(report["o1"][name]) for name in COLUMNS)
-    tried.want("numbers left of o1", left, 0)
-    tried.want("o1 has places left", shipped < quantity, True)
-    for it in benches:
-        tried.want(f"{it.seat} came to the next order", it.order == "o2" or plant.args.size < 50, True)
-        tried.want(f"{it.seat} was killed", it.kills > 0 or plant.args.size < 50, True)
-    tried.want("what stopped a line beside", plant.stopped, [])
-    print(f"o1: {quantity} numbers, {shipped} shipped, {scrapped} scrapped, {left} left")
-
-
-def try_all(args, folder):
-    plant, tried = Plant(folder, args), Tried()
-    before = datetime.now(timezone.utc), plant.office.get("/v1/report")
-    begun, benches = time.monotonic(), []
-    try:
-        benches += [Hands(plant, seat, family) for seat, family in zip(SEATS, FAMILIES)]
-        work(plant, benches)
-        time.sleep(2)  # a shift ends before the second in which it is asked for
-        try_end(tried, plant, benches)
-        try_counts(tried, plant, benches, before)
-        burnt, registered = try_chips(tried, plant)
-    finally:
-        for it in benches:
-            it.bench.process.poll() is None and it.bench.kill()
-        plant.program.kill()
-    for fault in tried.faults:
-        print(fault)
-    kind, said = "espefuse's virtual" if args.espefuse else "simulated", sum((it.said for it in benches), Counter())
-    print(f"stays: {told_of(said)}")
-    print(f"{len(plant.macs)} {kind} chips of {len(FAMILIES)} families in {time.monotonic() - begun:.0f} s, "
-          f"{sum(it.kills for it in benches)} kills; {len(burnt)} burnt in vain, {len(registered)} registered in vain; "
-          f"{tried.count} things tried, {len(tried.faults)} differ")  # fmt: skip
-    return 1 if tried.faults else 0
-
-
-def main():
-    parser = argparse.ArgumentParser(description="Tries the end of an order over two benches.")
-    parser.add_argument("--program", default=ROOT / "crates/station/out/station", help="the built program")
-    parser.add_argument("--espefuse", help="the words that run espefuse 4, for its virtual chips")
-    parser.add_argument("--size", type=int, default=200, help="how many chips")
-    parser.add_argument("--seed", type=int, default=7, help="of the random choices")
-    parser.add_argument("--seconds", type=float, default=3600, help="the longest that the benches may work")
-    parser.add_argument("--folder", help="where files are made")
-    args = parser.parse_args()
-    program = Path(args.program).resolve()
-    if not os.access(program, os.X_OK):
-        parser.error(f"{program} is no program")
-    support.PROGRAM = str(program)
-    with tempfile.TemporaryDirectory(dir=args.folder) as folder:
-        try:
-            return try_all(args, Path(folder))
-        except Failed as failed:
-            print(f"FAILED: {failed}")
-            return 1
-
-
-if __name__ == "__main__":
-    sys.exit(main())
+    expect_same("numbers left of o1", left, 0)
+    expect_same("o1 has places left", shipped < quantity, True)
+    for it in plant.benches:
+        assert it.order == "o2" or plant.size < FEW, f"{it.seat} came to the next order"
+        assert it.kills > 0 or plant.size < FEW, f"{it.seat} was killed"
+    expect_same("what stopped a line beside", plant.stopped, [])
+    found(f"o1: {quantity} numbers, {shipped} shipped, {scrapped} scrapped, {left} left")

@@ -1,40 +1,32 @@
-#!/usr/bin/env python3
 """Runs the program over stores with changed bytes, lost pages and lost ends.
-
-    damage --program P                      1,000 places of the file and of the log
-    damage --program P --places 200         fewer
 
 A store of an order, a map and a device is made by `station replay --db`, once closed (the file alone) and
 once copied while it was open and all requests were answered (a file and its log). Then, over each damaged
 copy, the program is asked for the device's ledger and for a plan. It has to end with status 0, both requests
 answered by well-formed replies of status 200, 4xx or 503, and nothing else written; or with status 1,
 `station: store fault N` on standard error and no reply. Anything else, or a run of more than 20 seconds, is
-told, and the status is 1. The damage: one byte at each of the places, wholly changed at even ones and by one
-bit at odd ones; each page filled with zeros; all of it; and an end cut off at each page and inside of it.
+a fault. The damage: one byte at each of the places, wholly changed at even ones and by one bit at odd ones; each
+page filled with zeros; all of it; and an end cut off at each page and inside of it.
 
-It prints for each kind how many copies were served with the replies of the undamaged store, with others, and with which
-faults they were refused. A log that lost bytes is a shorter log, so its store is an older one and has other replies
-(docs/reference/files.md). A test of the gate (crates/file_tests/src/damage.rt) damages files in memory in these ways,
-the log at fewer places, and counts no refusals. Python 3.11, standard library alone, on Linux. It needs registrations.py and
-program.py beside it.
+A log that lost bytes is a shorter log, so its store is an older one and has other replies (docs/reference/files.md). A
+test of the gate (crates/file_tests/src/damage.rt) damages files in memory in these ways, the log at fewer places.
 """
 
-import argparse
 import collections
 import hashlib
 import re
-import shutil
 import subprocess
-import sys
-import tempfile
 from pathlib import Path
 
+import pytest
+
+from common.chip import SITE
 from common.registrations import MAP, request
 
-SITE = Path(__file__).resolve().parent.parent / "crates" / "station" / "data" / "site.toml"
 CHIP = "00000000000a"
 FAULT = re.compile(rb"station: store fault [123]\n")
-HEAD = re.compile(rb"HTTP/1\.1 (200|4\d\d|503) [A-Za-z ]+\r\n(?:[A-Za-z-]+: [^\r\n]*\r\n)*?Content-Length: (\d+)\r\n(?:[A-Za-z-]+: [^\r\n]*\r\n)*\r\n")
+FIELDS = rb"(?:[A-Za-z-]+: [^\r\n]*\r\n)"
+HEAD = re.compile(rb"HTTP/1\.1 (200|4\d\d|503) [A-Za-z ]+\r\n%b*?Content-Length: (\d+)\r\n%b*\r\n" % (FIELDS, FIELDS))
 
 
 def made_by():
@@ -67,8 +59,8 @@ class Bench:
     """The program, over stores in a folder."""
 
     def __init__(self, program, folder):
-        self.line = [program, "replay", "--site", str(SITE), "--db"]
-        self.folder, self.wanted, self.wrong = folder, None, []
+        self.line = [str(program), "replay", "--site", str(SITE), "--db"]
+        self.folder, self.wanted = folder, None
 
     def replay(self, path, stream):
         done = subprocess.run([*self.line, str(path)], input=stream, capture_output=True, timeout=20, check=False)
@@ -108,15 +100,12 @@ class Bench:
             return line.decode().strip().removeprefix("station: store ")
         return f"status {status}, {output[:60]!r}, {line[:60]!r}"
 
-    def tell(self, name, copies):
-        """Prints what comes of damaged copies, each a pair of a file and a log."""
-        counts = collections.Counter(self.outcome(*copy) for copy in copies)
-        print(f"{name}: " + ", ".join(f"{count} {what}" for what, count in sorted(counts.items())), flush=True)
-        good = {"served as before", "served with other replies", "fault 1", "fault 2", "fault 3"}
-        self.wrong += [what for what in counts if what not in good]
+    def outcomes(self, copies):
+        """What comes of damaged copies, each a pair of a file and a log, and how often."""
+        return collections.Counter(self.outcome(*copy) for copy in copies)
 
 
-def changed(data, places):
+def changed(data, places, _=None):
     """Copies with one byte changed, at places of a fixed stride."""
     stride = max(1, len(data) // places) | 1
     for number in range(places):
@@ -140,31 +129,34 @@ def cut(data, page):
             yield data[: start + more]
 
 
-def main():
-    parser = argparse.ArgumentParser(description="Stores with damaged bytes.")
-    parser.add_argument("--program", required=True)
-    parser.add_argument("--places", type=int, default=1000)
-    args = parser.parse_args()
-    with tempfile.TemporaryDirectory() as folder:
-        bench = Bench(shutil.which(args.program) or args.program, Path(folder))
-        closed, file, log = bench.stores()
-        page = int.from_bytes(closed[16:18], "big")
-        print(f"closed: {len(closed)} bytes; open: {len(file)} bytes and a log of {len(log)}; pages of {page}")
-        bench.wanted = bench.replay(bench.folder / "closed.db", asked())[1]
-        bench.tell("both as they were", [(closed, b""), (file, log)])
-        kinds = {
-            "changed bytes": lambda data: changed(data, args.places),
-            "pages of zeros": lambda data: zeroed(data, page),
-            "lost ends": lambda data: cut(data, page),
-        }
-        for name, damage in kinds.items():
-            bench.tell(f"{name} of the closed file", ((copy, b"") for copy in damage(closed)))
-            bench.tell(f"{name} of the open file", ((copy, log) for copy in damage(file)))
-            bench.tell(f"{name} of the log", ((file, copy) for copy in damage(log)))
-    for what in bench.wrong:
-        print(f"FAILED: {what}", file=sys.stderr)
-    return 1 if bench.wrong else 0
+DAMAGE = {
+    "changed bytes": changed,
+    "pages of zeros": lambda data, places, page: zeroed(data, page),
+    "lost ends": lambda data, places, page: cut(data, page),
+}
+GOOD = {"served as before", "served with other replies", "fault 1", "fault 2", "fault 3"}
 
 
-if __name__ == "__main__":
-    sys.exit(main())
+@pytest.fixture(scope="module")
+def bench(program, tmp_path_factory):
+    bench = Bench(program, tmp_path_factory.mktemp("damage"))
+    bench.closed, bench.file, bench.log = bench.stores()
+    bench.page = int.from_bytes(bench.closed[16:18], "big")
+    bench.wanted = bench.replay(bench.folder / "closed.db", asked())[1]
+    return bench
+
+
+def test_undamaged(bench):
+    assert bench.outcomes([(bench.closed, b""), (bench.file, bench.log)]) == {"served as before": 2}
+
+
+@pytest.mark.parametrize("part", ["the closed file", "the open file", "the log"])
+@pytest.mark.parametrize("kind", DAMAGE)
+@pytest.mark.sizes(60, 1000)
+def test_damaged(bench, kind, part, size):
+    """Changed bytes at so many places."""
+    whole = {"the closed file": bench.closed, "the open file": bench.file, "the log": bench.log}[part]
+    copies = DAMAGE[kind](whole, size, bench.page)
+    pairs = {"the closed file": lambda it: (it, b""), "the open file": lambda it: (it, bench.log)}
+    found = bench.outcomes(map(pairs.get(part, lambda it: (bench.file, it)), copies))
+    assert found.keys() <= GOOD and found

@@ -1,15 +1,11 @@
-#!/usr/bin/env python3
 """Refuses the program each of its allocations in turn, and compares replies and tables with an undisturbed run's.
 
-    refuse --program P                  readings, two openings, the making, and an identity over memory and a store
-    refuse --program P --whole          the other openings and the whole life of a chip too
-    refuse --program P --every 10       one call in ten
-    refuse --program P --only identity  the targets alone that have this in their name
-    refuse --program P --jobs 2         two runs at once
+    tests/all faults/test_refuse.py -k identity      the targets alone that have this in their name
 
 The Nth call of malloc, calloc, realloc and their like finds no memory, for every N from 1 on, until a run makes fewer
-calls than N. Counted are all calls of the process, by refuse.c, which is compiled with gcc and preloaded: those of the
-program, those of the C library on its behalf, and those before `main`, but for the loader's own. What is refused:
+calls than N; one in `FEW` where it is to be short. Counted are all calls of the process, by refuse.c, which is compiled
+with gcc and preloaded: those of the program, those of the C library on its behalf, and those before `main`, but for the
+loader's own. What is refused:
 
     map             reading a fuse map (`check-map`)
     site            reading a site file (`replay --site F` with nothing on its input)
@@ -17,15 +13,12 @@ program, those of the C library on its behalf, and those before `main`, but for 
     full store      opening one with the rows of the whole life
     identity, ..    an identity after the requests before it, over memory, and over a store that has them: over memory
                     from its own first call on, over the store with the opening before it
-    making          each call of the system by which the file of a new store is made: a folder or a file that can't be
-                    written, a full disk, a lock, a sync and a renaming that fail (by strace, which injects the error)
-
-and with `--whole`:
-
     life, ..        the whole life of docs/tutorial/first-chip.md in one stream, over memory and over a new store
     killed store    opening a store whose program was killed behind the whole life, so that it stands in the log
     schema 1, 2     opening one with these rows of an earlier schema, which is upgraded
     grown site      opening the full store with a site that has one customer more, which it takes
+    making          each call of the system by which the file of a new store is made: a folder or a file that can't be
+                    written, a full disk, a lock, a sync and a renaming that fail (by strace, which injects the error)
 
 Each run has to end with status 0 and nothing on standard error, or, before its first reply, with status 1 and
 `station: no memory` or, over a store, `station: store fault 3`. Each reply is that of the undisturbed run or a 503,
@@ -46,13 +39,9 @@ has to show the books of an undisturbed one; a map or a site that was refused is
 ends with `station: store fault 3`, and leaves no file of the store's name until the renaming is done, and behind it an
 empty database; nothing has the name `STORE-new` behind the next start.
 
-It prints for each target what came of the refused calls, and at last how many there were, of how many the tables were
-compared right behind them, and what was wrong; the status is 1 where something was. Python 3.11, standard library
-alone, on Linux with glibc, with gcc and strace. It needs refusing.py, refuse.c, chip.py, schemas.py and program.py
-beside it.
+With --write and -k 'not 97' the row of docs/reference/tests.md says what was found.
 """
 
-import argparse
 import collections
 import concurrent.futures
 import itertools
@@ -60,17 +49,26 @@ import os
 import re
 import shutil
 import subprocess
-import sys
 import tempfile
 from dataclasses import dataclass, field
 from functools import partial
 from pathlib import Path
 
-from common.chip import MAP, SITE, Failed, replay_words, rows_of, served, shows, sights, store_at, undisturbed
-from refusing import DONE, NO_MEMORY, STORE_FAULT, Talk, alone, calls_in, compiled, environment, is_unkept, outcome_of
-from common.schemas import take_back
+import pytest
 
+from common.chip import MAP, SITE, Failed, replay_words, rows_of, served, shows, sights, store_at, undisturbed
+from common.page_rows import put_row
+from common.schemas import take_back
+from faults.refusing import (
+    DONE, NO_MEMORY, STORE_FAULT, Talk, alone, calls_in, compiled, environment, is_unkept, outcome_of,
+)  # fmt: skip
+
+pytestmark = pytest.mark.needs("gcc", "strace")
+
+# The stores are made in memory where there is such a disk; a run may take so many seconds; where it is to be short one
+# call in so many is refused.
 MEMORY = Path("/dev/shm")
+SECONDS, FEW = 60, 97
 MAP_LINE = b"ok esp32-sample 4 7\n"
 GROWN = '[[customer]]\nname = "cord"\nissuer = ["cord-ca"]\n'
 
@@ -179,9 +177,8 @@ def others(rows, goods):
 class Bench:
     """The program, its undisturbed run, and what came of the disturbed ones."""
 
-    def __init__(self, args, folder):
-        self.program, self.seconds, self.jobs, self.every = args.program, args.seconds, args.jobs, args.every
-        self.folder = Path(folder)
+    def __init__(self, program, folder):
+        self.program, self.jobs, self.folder = str(program), len(os.sched_getaffinity(0)), Path(folder)
         self.library = compiled(folder)
         self.run = undisturbed(self.program, self.folder)
         self.counts = Counts()
@@ -196,7 +193,7 @@ class Bench:
     def killed(self):
         """A store whose program was killed behind all requests."""
         path = self.folder / "killed.db"
-        with Talk(replay_words(self.program, path), None, self.seconds) as talk:
+        with Talk(replay_words(self.program, path), None, SECONDS) as talk:
             for request in self.run.asked:
                 talk.ask(request)
         return path
@@ -218,14 +215,14 @@ class Bench:
         with tempfile.TemporaryDirectory(dir=self.folder) as folder:
             path = copied(file, folder)
             before = rows_of(path)
-            shown = served(replay_words(self.program, path, site), b"".join(shows()), self.seconds)
+            shown = served(replay_words(self.program, path, site), b"".join(shows()), SECONDS)
             return Opening(file, site, before, rows_of(path), shown)
 
     def reading(self, words, number, folder, output):
         """A run that reads a file, which prints this, and so does the next one."""
-        outcome = alone(words, environment(self.library, number, folder), self.seconds, {NO_MEMORY}, output)
+        outcome = alone(words, environment(self.library, number, folder), SECONDS, {NO_MEMORY}, output)
         if outcome != DONE:
-            alone(words, None, self.seconds, (), output)
+            alone(words, None, SECONDS, (), output)
         return outcome
 
     def check_map(self, number, folder):
@@ -239,7 +236,7 @@ class Bench:
         path = copied(opening.file, folder)
         words = replay_words(self.program, path, opening.site)
         environ = environment(self.library, number, folder)
-        outcome = alone(words, environ, self.seconds, {NO_MEMORY, STORE_FAULT}, b"")
+        outcome = alone(words, environ, SECONDS, {NO_MEMORY, STORE_FAULT}, b"")
         if unfinished(path).exists():
             raise Failed(f"{outcome}: the file as which a store is made is left")
         return self.look(path, words, opening, outcome)
@@ -249,7 +246,7 @@ class Bench:
         rows = rows_of(path)
         if rows != opening.behind and (outcome == DONE or rows != opening.before):
             raise Failed(f"{outcome}: other rows than before and behind it in {others(rows, opening.before)}")
-        if served(words, b"".join(shows()), self.seconds) != opening.shown:
+        if served(words, b"".join(shows()), SECONDS) != opening.shown:
             raise Failed("the next start shows other books")
         if rows_of(path) != opening.behind:
             raise Failed(f"the next start leaves other rows in {others(rows_of(path), opening.behind)}")
@@ -265,7 +262,7 @@ class Bench:
             words = replay_words(self.program, path)
             inject = f"inject={name}:error={MAKING[name]}:when={number}"
             disturbed = [*STRACE, "-o", f"{folder}/calls", "-e", f"trace={name}", "-e", inject, *words]
-            outcome = alone(disturbed, None, self.seconds, {STORE_FAULT}, b"")
+            outcome = alone(disturbed, None, SECONDS, {STORE_FAULT}, b"")
             if outcome == DONE or path.exists() != is_named:
                 raise Failed(f"{outcome}, and {'a' if path.exists() else 'no'} file")
             self.look(path, words, opening, outcome)
@@ -274,11 +271,11 @@ class Bench:
             return outcome
 
     def refuse_making(self):
-        """Refuses each call of the system by which a new store's file is made, and tells what came of it."""
+        """Refuses each call of the system by which a new store's file is made. Returns how many there are."""
         with tempfile.TemporaryDirectory(dir=self.folder) as folder:
             path, out = copied(None, folder), Path(folder) / "calls"
             trace = [*STRACE, "-o", str(out), "-e", f"trace={','.join(MAKING)}"]
-            served([*trace, *replay_words(self.program, path)], b"", self.seconds)
+            served([*trace, *replay_words(self.program, path)], b"", SECONDS)
             calls = making_calls(out.read_text(encoding="utf-8").splitlines(), path)
         opening = self.opening(None)
         for call in calls:
@@ -288,8 +285,7 @@ class Bench:
                 self.counts.wrong.append(f"making, {call[0]} {call[1]}: {failure}")
         self.counts.targets += 1
         self.counts.compared += len(calls)
-        told = ", ".join(f"{count} {name}" for name, count in collections.Counter(name for name, *_ in calls).items())
-        print(f"making: {len(calls)} calls refused: {told}", flush=True)
+        return len(calls)
 
     def part_of(self, part, path=None, is_apart=False):
         books = self.run.books[part.stop]
@@ -308,7 +304,7 @@ class Bench:
         """What came of the requests of a part in one stream, which shows the books at the end."""
         lines = {NO_MEMORY, STORE_FAULT} if part.path else {NO_MEMORY}
         words = replay_words(self.program, part.path)
-        with Talk(words, environment(self.library, number, folder), self.seconds) as talk:
+        with Talk(words, environment(self.library, number, folder), SECONDS) as talk:
             place, is_met = self.ask_all(talk, part)
             outcome = outcome_of(*talk.end(), lines)
         if outcome != DONE and (place or is_met):
@@ -354,7 +350,7 @@ class Bench:
                 raise Failed(f"behind the refused start there are other rows in {others(rows, before)}")
         end, books = len(part.asks) - len(shows()), self.run.books[part.behind]
         stream = b"".join(part.asks[place:end] + shows())
-        if served(replay_words(self.program, part.path), stream, self.seconds) != part.goods[place:end] + books.shown:
+        if served(replay_words(self.program, part.path), stream, SECONDS) != part.goods[place:end] + books.shown:
             raise Failed("the next process has other replies")
         if (rows := rows_of(part.path)) != books.rows:
             raise Failed(f"at the end there are other rows in {others(rows, books.rows)}")
@@ -362,7 +358,7 @@ class Bench:
     def calls_before(self, count):
         """The calls that a run over memory makes until it has answered so many requests."""
         with tempfile.TemporaryDirectory(dir=self.folder) as folder:
-            with Talk(replay_words(self.program), environment(self.library, 0, folder), self.seconds) as talk:
+            with Talk(replay_words(self.program), environment(self.library, 0, folder), SECONDS) as talk:
                 for request in self.run.asked[:count]:
                     talk.ask(request)
                 return calls_in(folder)
@@ -377,22 +373,21 @@ class Bench:
                 outcome = "wrong"
             return outcome if calls_in(folder) >= number else None
 
-    def sweep(self, name, attempt, has_tables, first=1):
-        """Refuses each call from the first on, until no run of some makes it any more, and tells what came of it."""
+    def sweep(self, name, every, attempt, has_tables, first=1):
+        """Refuses each call from the first on, or one in so many, until no run of some makes it any more. How many it were."""
         outcomes = collections.Counter()
         with concurrent.futures.ThreadPoolExecutor(self.jobs) as pool:
-            for start in itertools.count(first, SOME * self.every):
-                numbers = range(start, start + SOME * self.every, self.every)
+            for start in itertools.count(first, SOME * every):
+                numbers = range(start, start + SOME * every, every)
                 each = pool.map(lambda number: self.tried(name, attempt, number), numbers)
                 found = [outcome for outcome in each if outcome]
                 outcomes.update(found)
                 if not found:
                     break
-        told = ", ".join(f"{count} {what}" for what, count in outcomes.most_common())
-        print(f"{name}: {outcomes.total()} calls refused, from the call {first} on: {told}", flush=True)
         self.counts.outcomes.update(outcomes)
         self.counts.targets += 1
         self.counts.compared += outcomes.total() - outcomes[DONE] if has_tables else outcomes[UNKEPT]
+        return outcomes.total()
 
 
 def opened(make):
@@ -400,7 +395,7 @@ def opened(make):
     return lambda bench: (partial(bench.open, opening=make(bench)), True)
 
 
-# The words of the sweep of each target, and those of `--whole`.
+# The words of the sweep of each target.
 UNTIL, OWN, LIFE = slice(0, IDENTITY + 1), slice(IDENTITY, IDENTITY + 1), slice(0, IDENTITY + 2)
 TARGETS = {
     "map": lambda bench: (bench.check_map, False),
@@ -409,8 +404,6 @@ TARGETS = {
     "full store": opened(lambda bench: bench.opening(bench.full())),
     "identity, memory": lambda bench: (partial(bench.over_memory, part=UNTIL), False, bench.calls_before(IDENTITY) + 1),
     "identity, store": lambda bench: (partial(bench.over_store, part=OWN), True),
-}
-WHOLE = {
     "life, memory": lambda bench: (partial(bench.over_memory, part=LIFE), False),
     "life, store": lambda bench: (partial(bench.over_store, part=LIFE), True),
     "killed store": opened(lambda bench: bench.opening(bench.killed())),
@@ -420,29 +413,27 @@ WHOLE = {
 }
 
 
-def main():
-    parser = argparse.ArgumentParser(description="Refuses the program each of its allocations in turn.")
-    parser.add_argument("--program", required=True, help="the built program")
-    parser.add_argument("--whole", action="store_true", help="the other openings and the whole life too")
-    parser.add_argument("--only", default="", help="the targets alone whose name has this in it")
-    parser.add_argument("--every", type=int, default=1, help="refuse one call in so many")
-    parser.add_argument("--jobs", type=int, default=os.cpu_count(), help="how many runs at once")
-    parser.add_argument("--seconds", type=float, default=60, help="the longest that a run may take")
-    parser.add_argument("--folder", default=MEMORY if MEMORY.is_dir() else None, help="where the stores are made")
-    args = parser.parse_args()
-    args.program = shutil.which(args.program) or parser.error(f"{args.program} is no program")
-    with tempfile.TemporaryDirectory(dir=args.folder) as folder:
-        bench = Bench(args, folder)
-        for name, words in (TARGETS | (WHOLE if args.whole else {})).items():
-            if args.only in name:
-                bench.sweep(name, *words(bench))
-        if args.only in "making":
-            bench.refuse_making()
-    for what in bench.counts.wrong[:20]:
-        print(f"FAILED: {what}", file=sys.stderr)
-    print(bench.counts.line())
-    return 1 if bench.counts.wrong else 0
+@pytest.fixture(scope="module")
+def bench(program):
+    with tempfile.TemporaryDirectory(dir=MEMORY if MEMORY.is_dir() else None) as folder:
+        yield Bench(program, folder)
 
 
-if __name__ == "__main__":
-    sys.exit(main())
+def expect_none_wrong(bench, refused):
+    """Fails where something was wrong since the last test, or nothing was refused."""
+    wrong, bench.counts.wrong = bench.counts.wrong, []
+    assert wrong[:20] == []
+    assert refused
+
+
+@pytest.mark.parametrize("every", [FEW, pytest.param(1, marks=pytest.mark.slow)])
+@pytest.mark.parametrize("target", TARGETS)
+def test_allocations(bench, target, every):
+    expect_none_wrong(bench, bench.sweep(target, every, *TARGETS[target](bench)))
+
+
+def test_making(bench, is_written):
+    """Behind all others, as it writes the row."""
+    expect_none_wrong(bench, bench.refuse_making())
+    if is_written and bench.counts.targets == len(TARGETS) + 1:
+        put_row("refuse", f"-k 'not {FEW}'", bench.counts.line())

@@ -4,8 +4,7 @@
 # is scrapped, and what each operation shows. The client holds each request to the description before it is sent, and
 # this script each reply's status; three wrong requests have to be refused before anything is sent.
 #
-#   openapi_client                   crates/station/out/station of this repository
-#   openapi_client --program P       another program
+#   perl openapi_client.pl --program P
 #
 # A line for each operation that isn't as it should be, and the status is 1 then.
 # Perl 5 with Debian's libopenapi-client-perl; python3-yaml for the twin.
@@ -19,11 +18,11 @@ use Mojo::File qw(tempdir);
 use Mojo::IOLoop::Server;
 use OpenAPI::Client;
 
-my $top = "$FindBin::Bin/..";
+my $top = "$FindBin::Bin/../..";
 my $program = "$top/crates/station/out/station";
-GetOptions('program=s' => \$program, 'help' => \my $help) or die "usage: openapi_client [--program P]\n";
-if ($help) { print "usage: openapi_client [--program P]\n"; exit 0 }
--x $program or die "openapi_client: $program is no program\n";
+GetOptions('program=s' => \$program, 'help' => \my $help) or die "usage: openapi_client.pl [--program P]\n";
+if ($help) { print "usage: openapi_client.pl [--program P]\n"; exit 0 }
+-x $program or die "openapi_client.pl: $program is no program\n";
 
 my $folder = tempdir;
 $| = 1;
@@ -31,7 +30,7 @@ my ($faults, $used, $nr) = (0, 0, 0);
 
 # The twin, whose only server is the one that is started here.
 my $port = Mojo::IOLoop::Server->generate_port;
-system("$top/tools/openapi30", '--out', "$folder/twin.json") == 0 or die "openapi_client: no twin\n";
+system("$top/tools/openapi30", '--out', "$folder/twin.json") == 0 or die "openapi_client.pl: no twin\n";
 my $twin = decode_json($folder->child('twin.json')->slurp);
 $twin->{servers} = [{url => "http://127.0.0.1:$port"}];
 $folder->child('twin.json')->spurt(encode_json($twin));
@@ -42,7 +41,7 @@ my $token = 'abc';
 $client->ua->on(start => sub { $_[1]->req->headers->authorization("Bearer $token") });
 
 my $server = open(my $listening, '-|', $program, 'serve', '--site', "$top/crates/station/data/site.toml",
-    '--db', "$folder/books.db", '--port', $port, '--connections', 1000) or die "openapi_client: $!\n";
+    '--db', "$folder/books.db", '--port', $port, '--connections', 1000) or die "openapi_client.pl: $!\n";
 # The status is kept: `close` puts the server's own in its place.
 END { my $status = $?; kill 'KILL', $server and close $listening if $server; $? = $status }
 readline $listening;
