@@ -6,7 +6,8 @@ Options have small defaults. A test that can't be run here is skipped, and says 
 import os
 import random
 import shutil
-from collections.abc import Callable
+import tempfile
+from collections.abc import Callable, Iterator
 from pathlib import Path
 
 import pytest
