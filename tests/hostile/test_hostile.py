@@ -8,7 +8,7 @@ The honest station is a seat of the customer `bolt`, at another address: it regi
 ships and looks, with a tenth of a second between its requests, in turn over a connection that it keeps and over a new
 one. It works while the attack does, and 3 seconds more.
 
-Each test prints a row (`tests/all -rP hostile` shows them): the seconds that one report of `acme` takes with nothing
+Each test tells a row, which `tests/all hostile --found FILE` keeps: the seconds that one report of `acme` takes with nothing
 beside it, the longer of one before the attack and one behind it, once the program is at rest; the honest station's
 requests; how many times something else came than the reply that it should get (then it asks again); the middle one and
 the longest of its waits, each until that reply; the goal; the longest report that was answered beside the attack, by
@@ -269,7 +269,7 @@ def stores(program, tmp_path_factory):
 
 
 def beside(scale, attack, place):
-    """A row of an attack, and what of it isn't as it has to be."""
+    """The row of an attack, and what of it isn't as it has to be."""
     one = place.report_seconds()
     waits, counts, seen = fought(scale, attack, place)
     if not attack.is_strangers:
@@ -281,8 +281,7 @@ def beside(scale, attack, place):
     wrong += [f"{it} {counts.get(it, 0)} and not {most}" for it, most in attack.most.items() if counts.get(it, 0) > most]
     cells = f"{one:7.2f}{len(waits.seconds):6}{waits.failures():5}{waits.middle():8.3f}{waits.longest():9.3f}"
     cells += f"{goal:7.2f}{place.longest_report():7.2f}{seen.load:5.1f}{seen.share:6.0%}"
-    print(f"{attack.name:38}{cells}  {said(counts)}\n{said(place.errors())}".rstrip())
-    return wrong
+    return f"{attack.name:38}{cells}  {said(counts)}", wrong
 
 
 def said(counts):
@@ -291,16 +290,20 @@ def said(counts):
 
 @pytest.mark.sizes(10, WHOLE)
 @pytest.mark.parametrize("attack", NGINX, ids=lambda it: it.name)
-def test_behind_nginx(program, stores, open_folder, attack, size):
+def test_behind_nginx(program, stores, open_folder, found, attack, size):
     scale, connections = Scale(size), FEW if attack.is_strangers else 1_000_000
     with Place(program, stores(scale.devices), open_folder, connections) as place:
-        expect("wrong", beside(scale, attack, place), [])
+        row, wrong = beside(scale, attack, place)
+    found(row)
+    expect("wrong", wrong, [])
 
 
 @pytest.mark.sizes(10, WHOLE)
 @pytest.mark.parametrize("attack", DIRECT, ids=lambda it: it.name)
-def test_directly(program, stores, open_folder, attack, size):
+def test_directly(program, stores, open_folder, found, attack, size):
     """On the program's own port."""
     scale = Scale(size)
     with Place(program, stores(scale.devices), open_folder, is_direct=True) as place:
-        expect("wrong", beside(scale, attack, place), [])
+        row, wrong = beside(scale, attack, place)
+    found(row)
+    expect("wrong", wrong, [])
