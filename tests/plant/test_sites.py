@@ -105,7 +105,7 @@ def test_faults(made: House, is_map: bool, text: str, number: int, line: int, me
     expect("the program's number", number_of(made, text, is_map), number)
     status, said = told(made, text)
     first = said.splitlines()[0]
-    wanted = rf"site: \S+/checked\.toml:{line}: {re.escape(member)}: .+ \(fault {number}\)"
+    wanted = rf"station-site: \S+/checked\.toml:{line}: {re.escape(member)}: .+ \(fault {number}\)"
     if status != 1 or not re.fullmatch(wanted, first):
         raise Failed(f"status {status}, {first!r}, and not {wanted!r}")
     expect("the last line", said.splitlines()[-1], f"station: {kind} fault {number}")

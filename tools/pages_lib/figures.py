@@ -222,6 +222,6 @@ def others_at_fault() -> Iterator[str]:
     yield from leads_at_fault()
     text = (TOP / "python/wanekupo/chips/families/esp32/map.toml").read_text("utf-8")
     if f'r#"{text}"#' not in (TOP / "crates/base_tests/src/esp32.rt").read_text("utf-8"):
-        yield "crates/base_tests/src/esp32.rt has another text than maps/esp32.toml"
+        yield "crates/base_tests/src/esp32.rt has another text than the map of the family esp32"
     if kit() and not any(KIT.search(page_text(page)) for page in pages()):
         yield "no page has the toolchain's line"

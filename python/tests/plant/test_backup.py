@@ -406,7 +406,7 @@ def test_what_is_anothers_is_done_as_that_user(tmp_path, monkeypatch, calls):
     monkeypatch.setattr(backup, "opened", lambda folder: os.open(folder, os.O_RDONLY))
     monkeypatch.setattr(backup, "user_of", lambda handle, folder: calls.append(("of", folder)) or user)
     backup.as_owner(tmp_path)(lambda: calls.append(("called",)))
-    assert calls == [("of", tmp_path), ("as", backup.said_of), ("called",)]
+    assert calls == [("of", tmp_path), ("as", backup.cause_of), ("called",)]
     user.call = lambda call, said: (_ for _ in ()).throw(UserError("killed"))
     with pytest.raises(BackupError, match="^killed$"):
         backup.done_as(user, lambda: None)

@@ -12,9 +12,10 @@ import time
 from pathlib import Path
 from types import SimpleNamespace
 
+from wanekupo.common.errors import cause_of
 from wanekupo.plant.backup import copies as backup_copy
 import pytest
-from wanekupo.plant.backup.copies import BackupError, copy_store, look_at, said_of, size_of, told_if_full
+from wanekupo.plant.backup.copies import BackupError, copy_store, look_at, size_of, told_if_full
 
 COUNTS = "orders|2\ndevices|3\nrecords|4\nseat|a1|17\n"
 
@@ -72,8 +73,8 @@ def program(tmp_path):
     (BackupError("why"), "why"), (ValueError(), "ValueError"), (OSError("odd"), "odd"),
     (KeyboardInterrupt(), "KeyboardInterrupt"),
 ])  # fmt: skip
-def test_said_of(error, said):
-    assert said_of(error) == said
+def test_cause_of(error, said):
+    assert cause_of(error) == said
 
 
 def test_size_of(tmp_path):

@@ -26,6 +26,20 @@ class StationError(Exception):
         return shown(super().__str__())
 
 
+class PlantError(Exception):
+    """What a tool of a plant refuses or can't do: a sentence, and the status with which the tool ends."""
+
+    status = 1
+
+
+def cause_of(error: BaseException) -> str:
+    """What went wrong, in words: of a call to the machine the file, or both of a copy, and the cause."""
+    if isinstance(error, OSError) and error.strerror:
+        files = " to ".join(str(it) for it in (error.filename, error.filename2) if it)
+        return ": ".join(it for it in (files, error.strerror) if it)
+    return str(error) or type(error).__name__
+
+
 class Refused(StationError):
     """A refusal of docs/reference/api.md: `no` and `name` are those of the table, `more` is what else the body says."""
 

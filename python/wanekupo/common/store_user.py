@@ -34,6 +34,8 @@ from dataclasses import dataclass
 from pathlib import Path
 from typing import NoReturn
 
+from wanekupo.common.errors import PlantError
+
 STOPS = (signal.SIGTERM, signal.SIGINT, signal.SIGHUP)
 # How a component of a folder's path is opened: a link is none.
 STEP = os.O_PATH | os.O_DIRECTORY | os.O_NOFOLLOW
@@ -49,7 +51,7 @@ PATIENCE, LINGER, LONGEST = 10, 3, 3600
 PDEATHSIG, DUMPABLE, NO_NEW_PRIVS = 1, 4, 38
 
 
-class UserError(Exception):
+class UserError(PlantError):
     """Why nothing is done as the store's user: a sentence."""
 
 

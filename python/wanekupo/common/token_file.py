@@ -16,6 +16,7 @@ from dataclasses import asdict, dataclass, field, replace
 from pathlib import Path
 from typing import Optional
 
+from wanekupo.common.errors import PlantError
 from wanekupo.common.whole_file import held, put_whole, sync
 
 HEAD = """# The outer tokens, the inner ones behind them, and what nginx makes of both. It has the tokens: root's alone.
@@ -36,7 +37,7 @@ LAST = "T23:59"
 MINUTE = "%Y-%m-%dT%H:%M"
 
 
-class TokenError(Exception):
+class TokenError(PlantError):
     """What can't be done; the status with which `token` ends, and a sentence."""
 
     def __init__(self, status: int, text: str):

@@ -36,6 +36,8 @@ from dataclasses import dataclass
 from pathlib import Path
 
 
+from wanekupo.common.process import end_tool
+from wanekupo.common.errors import PlantError
 from wanekupo.plant.trial_copy import Backup, copy_files, copy_running, newest_backup
 from wanekupo.common.store_user import LONGEST, ROOMS, STOPS, Store, UserError, clear_rooms, read_small, room, shown
 
@@ -47,7 +49,7 @@ TRIED_BY_BYTES = "reckoned by its bytes, as no start was tried"
 WRITTEN = 'umask 022; cat > "$1.new"; mv "$1.new" "$1"'
 
 
-class NoRestartError(Exception):
+class NoRestartError(PlantError):
     """Why nothing was restarted, or why it wasn't seen to be up again."""
 
 
@@ -267,9 +269,4 @@ def main() -> int:
     os.umask(0o077)
     for number in STOPS:
         signal.signal(number, stopped)
-    try:
-        run(args)
-        return 0
-    except (NoRestartError, UserError, OSError) as error:
-        print(f"restart: {error}", file=sys.stderr)
-        return 1
+    return end_tool("restart", lambda: run(args))

@@ -40,6 +40,7 @@ from pathlib import Path
 from typing import Optional
 
 
+from wanekupo.common.process import end_tool
 from wanekupo.standby import living
 from wanekupo.standby.half import SETTINGS, Half, Refused, read_settings
 from wanekupo.common.token_file import (
@@ -454,12 +455,5 @@ def parser() -> argparse.ArgumentParser:
 
 
 def main() -> int:
-    try:
-        run(parser().parse_args())
-    except TokenError as error:
-        print(f"{NAMED}: {error}", file=sys.stderr)
-        return error.status
-    except (OSError, UnicodeError) as error:
-        print(f"{NAMED}: {error}", file=sys.stderr)
-        return 1
-    return 0
+    args = parser().parse_args()
+    return end_tool(NAMED, lambda: run(args))

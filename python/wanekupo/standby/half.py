@@ -23,6 +23,7 @@ from datetime import datetime, timedelta, timezone
 from pathlib import Path
 from typing import Any, TextIO
 
+from wanekupo.common.errors import PlantError
 from wanekupo.common.store_user import UserError, shown
 from wanekupo.common.whole_file import put_whole
 
@@ -57,7 +58,7 @@ FROZEN = (
 )
 
 
-class Refused(Exception):
+class Refused(PlantError):
     """Why something isn't done, and what to do then: whole sentences."""
 
 

@@ -55,7 +55,8 @@ from collections.abc import Callable, Iterator
 from pathlib import Path
 
 
-from wanekupo.plant.backup.copies import BackupError, copy_for_trial, copy_store, name_of_user, said_of
+from wanekupo.common.errors import cause_of
+from wanekupo.plant.backup.copies import BackupError, copy_for_trial, copy_store, name_of_user
 from wanekupo.plant.backup.folder import (
     LAST, LOCK, NEW, bytes_of, copy_off, last_snapshot, new_name, note, placed, remove_begun, sole_backup, tidy,
 )  # fmt: skip
@@ -96,7 +97,7 @@ def keep(args: argparse.Namespace, name: str) -> None:
         for gone in tidy(args.into, args.keep_days, args.keep_weeks):
             out(f"removed {gone}")
     except OSError as error:
-        untidy = f"{path} is here, and an older one can't be removed: {said_of(error)}"
+        untidy = f"{path} is here, and an older one can't be removed: {cause_of(error)}"
     if args.copy_with:
         copy_off(args.copy_with, path)
     if untidy:
@@ -116,7 +117,7 @@ def as_owner(folder: Path) -> Callable[[Callable[[], None]], None]:
 
 def done_as(user: StoreUser, call: Callable[[], None]) -> None:
     try:
-        user.call(call, said_of)
+        user.call(call, cause_of)
     except UserError as error:
         raise BackupError(str(error)) from error
 
@@ -136,7 +137,7 @@ def note_failure(args: argparse.Namespace, said: str) -> None:
     try:
         as_owner(args.into)(lambda: note(args.into, False, 0, said, args.taken))
     except (BackupError, UserError, OSError) as error:
-        tell(f"{args.into / LAST} doesn't say so, and may still say that a backup was made: {said_of(error)}")
+        tell(f"{args.into / LAST} doesn't say so, and may still say that a backup was made: {cause_of(error)}")
 
 
 def clear(args: argparse.Namespace) -> None:
@@ -348,7 +349,7 @@ def main() -> int:
         run(args)
         return 0
     except (BackupError, UserError, OSError) as error:
-        tell(said_of(error))
+        tell(cause_of(error))
         if args.into and not args.clean and not args.trial:
-            note_failure(args, said_of(error))
+            note_failure(args, cause_of(error))
         return 1

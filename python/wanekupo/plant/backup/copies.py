@@ -16,6 +16,7 @@ import time
 from collections.abc import Iterator
 from pathlib import Path
 
+from wanekupo.common.errors import PlantError, cause_of
 from wanekupo.common.whole_file import put_whole, sync
 
 FILES = ("books.db", "books.db-wal")
@@ -32,16 +33,8 @@ SELECT 'records', count(*) FROM given;
 SELECT 'seat', name, last FROM seat ORDER BY name;"""
 
 
-class BackupError(Exception):
+class BackupError(PlantError):
     """Why there is no backup, in a line."""
-
-
-def said_of(error: BaseException) -> str:
-    """What went wrong, in words: of a call to the machine the file, or both of a copy, and the cause."""
-    if isinstance(error, OSError) and error.strerror:
-        files = " to ".join(str(it) for it in (error.filename, error.filename2) if it)
-        return ": ".join(it for it in (files, error.strerror) if it)
-    return str(error) or type(error).__name__
 
 
 def size_of(*paths: Path) -> int:
@@ -60,7 +53,7 @@ def told_if_full(folder: Path, size: int, what: str) -> Iterator[None]:
             raise
         needed = -(-(size + BESIDE) // 10**6)
         told = f"No space left at {folder}: {what} needs {needed} MB there"
-        raise BackupError(told if is_full else f"{said_of(error)}. {told}") from error
+        raise BackupError(told if is_full else f"{cause_of(error)}. {told}") from error
 
 
 def now() -> str:

@@ -39,7 +39,8 @@ from pathlib import Path
 from typing import Any
 
 
-from wanekupo.plant.backup.copies import BackupError, copy_store, counts_of, opened_by, said_of, told_if_full
+from wanekupo.common.errors import cause_of
+from wanekupo.plant.backup.copies import BackupError, copy_store, counts_of, opened_by, told_if_full
 from wanekupo.plant.restore.journals import half_of_memory, sources_of, take_journals
 from wanekupo.plant.restore.lost_store import (
     NEEDED, by_customer, contradictions, last_numbers, lost_copy, missing_rows, number_gaps, steps_of,
@@ -70,7 +71,7 @@ def say(*lines: str) -> None:
 
 def told(error: BaseException) -> str:
     """An error in a sentence."""
-    return told_of(error) if isinstance(error, StationError) else said_of(error)
+    return told_of(error) if isinstance(error, StationError) else cause_of(error)
 
 
 def stopped(number: int, _: object) -> None:

@@ -21,7 +21,7 @@ from dataclasses import dataclass
 from pathlib import Path
 from typing import Any, NoReturn
 
-from wanekupo.plant.backup.copies import said_of
+from wanekupo.common.errors import cause_of
 from wanekupo.plant.restore.plan import Customer, Placed, RestoreError, SeatJournal, error_of
 from wanekupo.books.steps import digest_fault
 from wanekupo.common.errors import StationError
@@ -225,7 +225,7 @@ def take_journals(sources: Iterable[Source], customers: dict[str, Customer], lef
                 raise MemoryError
             found = journals_in(source, sizes, frozenset(owner))
         except (RestoreError, StationError, OSError) as error:
-            raise _error_of(source, owner, said_of(error)) from None
+            raise _error_of(source, owner, cause_of(error)) from None
         except MemoryError:
             most = max(read, key=lambda it: read[it])
             told = f"no memory is left for all journals, and most are in {most.path}, {read[most] >> 20} MB"

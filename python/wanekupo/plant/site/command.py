@@ -27,11 +27,11 @@ import argparse
 import os
 import re
 import signal
-import sys
 from pathlib import Path
 from typing import Any
 
 
+from wanekupo.common.process import end_tool
 from wanekupo.plant.site.apply import Stopped, apply, say
 from wanekupo.plant.site.difference import given_of
 from wanekupo.plant.site.faults import NAME
@@ -39,7 +39,7 @@ from wanekupo.plant.site.growth import with_customer, with_items
 from wanekupo.plant.site.place import Place, text_in
 from wanekupo.plant.site.plan import PREPARED, Plan, Wish, drop_plan, keep_plan, read_plan
 from wanekupo.plant.site.trials import checked, is_map, tested_growth, tested_others, tried_over_copy
-from wanekupo.common.store_user import ROOMS, UserError
+from wanekupo.common.store_user import ROOMS
 from wanekupo.common.token_file import HEALTH, TokenError, Tokens, alone, put, read, tokens_of
 from wanekupo.common.site_file import digest_of
 
@@ -317,17 +317,5 @@ def main() -> int:
         args.pools = [(args.first, args.count)]
     for number in SIGNALS:
         signal.signal(number, stopped)
-    try:
-        os.umask(0o077)
-        COMMANDS[args.command](args, Place(args))
-    except TokenError as error:
-        print(f"{NAMED}: {error}", file=sys.stderr)
-        return error.status
-    except OSError as error:
-        told = ": ".join(str(it) for it in (error.filename, error.strerror) if it)
-        print(f"{NAMED}: {told or error}", file=sys.stderr)
-        return 1
-    except (UserError, UnicodeError) as error:
-        print(f"{NAMED}: {error}", file=sys.stderr)
-        return 1
-    return 0
+    os.umask(0o077)
+    return end_tool(NAMED, lambda: COMMANDS[args.command](args, Place(args)))
