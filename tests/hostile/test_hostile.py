@@ -1,16 +1,16 @@
 """Attacks on the deployed form, each while an honest station of another customer works: how long that one waits.
 
-The program serves a store of many devices of one customer, `acme`; nginx stands in front of it by deploy/nginx.conf, in
+The program serves a store of many devices of one customer, `acme`; nginx stands in front by deploy/nginx.conf, in
 which ports and paths are others, its log is on, and nothing else; the tokens are outer ones by station-token. For each
-attack all of this is started anew, over a copy of the store, and nginx with the 1,024 files that Debian's unit gives it.
+attack all of this is started anew, over a copy of the store, and nginx with the files that Debian's unit gives it.
 Those who attack have the tokens of `acme`, or none, and a lower priority than the server, as their machines are others.
 The honest station is a seat of the customer `bolt`, at another address: it registers chips, plans, gives identities,
 ships and looks, with a tenth of a second between its requests, in turn over a connection that it keeps and over a new
 one. It works while the attack does, and 3 seconds more.
 
-Each test tells a row, which `tests/all hostile --found FILE` keeps: the seconds that one report of `acme` takes with nothing
-beside it, the longer of one before the attack and one behind it, once the program is at rest; the honest station's
-requests; how many times something else came than the reply that it should get (then it asks again); the middle one and
+Each test tells a row, which `tests/all hostile --found FILE` keeps: the seconds that one report of `acme` takes with
+nothing beside it, the longer of one before the attack and one behind it, once the program is at rest; the honest
+station's requests; how many times something else came than the reply that it should get (then it asks again); the middle one and
 the longest of its waits, each until that reply; the goal; the longest report that was answered beside the attack, by
 nginx's log; the load of the machine, and how much the program got of the time of a processor that it could have used;
 and what the attack counted. The goals:
@@ -278,7 +278,7 @@ def beside(scale, attack, place):
     wrong = shortfalls(scale, attack, place.is_direct, counts, seen)
     wrong += [f"a wait of {waits.longest():.3f} s, and not {goal:.2f}"] if waits.longest() > goal else []
     wrong += [f"{waits.failures()} failures: {waits.told()}"] if waits.failures() else []
-    wrong += [f"{it} {counts.get(it, 0)} and not {most}" for it, most in attack.most.items() if counts.get(it, 0) > most]
+    wrong += [f"{it} {counts[it]} and not {most}" for it, most in attack.most.items() if counts.get(it, 0) > most]
     cells = f"{one:7.2f}{len(waits.seconds):6}{waits.failures():5}{waits.middle():8.3f}{waits.longest():9.3f}"
     cells += f"{goal:7.2f}{place.longest_report():7.2f}{seen.load:5.1f}{seen.share:6.0%}"
     return f"{attack.name:38}{cells}  {said(counts)}", wrong

@@ -159,8 +159,8 @@ class Bench:
         words += ["--into", str(self.all), "--snapshot", self.kind, *self.words, *more]
         before = [PYTHON, "-B", *(["-c", KILLED, *map(str, killed)] if killed else [])]
         return subprocess.run(
-            [*within, *before, *command("station-backup")[2:], *words], stdin=subprocess.DEVNULL, capture_output=True, text=True,
-            timeout=600, start_new_session=True, check=False,
+            [*within, *before, *command("station-backup")[2:], *words], stdin=subprocess.DEVNULL, capture_output=True,
+            text=True, timeout=600, start_new_session=True, check=False,
         )  # fmt: skip
 
     def leave(self):

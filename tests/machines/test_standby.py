@@ -40,7 +40,9 @@ from machines.standby.plants import PLANTS
 from machines.standby.runs import ELSE, SCENARIOS, Made, Run, set_up, tried
 from machines.standby.summary import HEAD, rows, total
 
-pytestmark = pytest.mark.needs("cpio", "busybox", "/sbin/mke2fs", "/sbin/dmsetup", "nginx", "sqlite3", "/usr/bin/python3.11")
+pytestmark = pytest.mark.needs(
+    "cpio", "busybox", "/sbin/mke2fs", "/sbin/dmsetup", "nginx", "sqlite3", "/usr/bin/python3.11"
+)  # fmt: skip
 CACHE = Path("~/.cache/wanekupo-standby").expanduser()
 # How many times as long as deployed DRBD waits, as a guest is slow; 1 on a quiet machine.
 SLOWER = 3
@@ -93,7 +95,7 @@ def tell_run(run: Run, found: Callable[[str], None]) -> None:
 @pytest.mark.qemu
 @pytest.mark.slow
 @pytest.mark.parametrize("name", [*(it for it in SCENARIOS if it not in ELSE), "frozen-10"])
-def test_scenario(made: Made, folder: Path, runs: list[Run], found: Callable[[str], None], seed: int, name: str) -> None:
+def test_scenario(made: Made, folder: Path, runs: list[Run], found: Callable, seed: int, name: str) -> None:
     run = tried(name, seed, folder / name, made)
     runs.append(run)
     tell_run(run, found)
@@ -115,5 +117,6 @@ def test_planted_fault(made: Made, packages: Packages, folder: Path, seed: int, 
 @pytest.mark.parametrize("name", ["none", *PLANTS])
 def test_guest_is_prepared(program: Path, tmp_path: Path, name: str) -> None:
     """The commands and settings of the guests, with each planted fault: all that needs no package and no guest."""
-    image_of(Packages(tmp_path), tmp_path, [program], SLOWER, PLANTS[name].edits if name in PLANTS else (), is_made=False)
+    edits = PLANTS[name].edits if name in PLANTS else ()
+    image_of(Packages(tmp_path), tmp_path, [program], SLOWER, edits, is_made=False)
     assert len(python_files()) > 100

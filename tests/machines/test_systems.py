@@ -1,5 +1,5 @@
-"""Whole systems, each by a script that is run and judged: the Debian packages, the container image, the roles of Ansible,
-and backups of a server under load from snapshots of Btrfs, ZFS and logical volumes.
+"""Whole systems, each by a script that is run and judged: the Debian packages, the container image, the roles of
+Ansible, and backups of a server under load from snapshots of Btrfs, ZFS and logical volumes.
 
 A fresh Debian is made by debootstrap, or taken from ~/.cache/wanekupo-NAME, where an earlier run left it.
 """

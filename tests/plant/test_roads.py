@@ -1,4 +1,5 @@
-"""The roads by which a store's user might become root, at each tool that root runs over that user's store: none is open.
+"""The roads by which a store's user might become root, at each tool that root runs over that user's store: none is
+open.
 
 roads.py walks one. As root, on x86-64, in mounts and processes of its own.
 """

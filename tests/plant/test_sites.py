@@ -368,9 +368,12 @@ def test_other_site_that_shares_nothing(house: House) -> None:
     expect(run.said, run.status, 0)
 
 
-@pytest.mark.parametrize(("is_grown", "said"), [(False, "still holds the old text"), (True, "holds the new text by now")])
+HOLDS = [(False, "still holds the old text"), (True, "holds the new text by now")]
+
+
+@pytest.mark.parametrize(("is_grown", "said"), HOLDS)
 def test_failed_start(served: House, is_grown: bool, said: str) -> None:
-    """A service that doesn't start, then a program that grows the store and doesn't serve: it says what text it holds."""
+    """A service that doesn't start, and a program that grows the store and doesn't serve: which text it holds."""
     house = served
     broken = house.folder / "broken"
     broken.touch()

@@ -56,6 +56,8 @@ PLANTS = {
         "the address still",
     ),
     "address-stays": Plant(
-        ((f"{STANDBY}/fence_peer.py", "    run(shlex.split(settings.leave_address))\n", ""),), "cable", "the address still"
+        ((f"{STANDBY}/fence_peer.py", "    run(shlex.split(settings.leave_address))\n", ""),),
+        "cable",
+        "the address still",
     ),
 }
