@@ -10,9 +10,9 @@ one. It works while the attack does, and 3 seconds more.
 
 Each test tells a row, which `tests/all hostile --found FILE` keeps: the seconds that one report of `acme` takes with
 nothing beside it, the longer of one before the attack and one behind it, once the program is at rest; the honest
-station's requests; how many times something else came than the reply that it should get (then it asks again); the middle one and
-the longest of its waits, each until that reply; the goal; the longest report that was answered beside the attack, by
-nginx's log; the load of the machine, and how much the program got of the time of a processor that it could have used;
+station's requests; how many times something else came than the reply that it should get (then it asks again); the
+middle one and the longest of its waits, each until that reply; the goal; the longest report that was answered beside
+the attack, by nginx's log; the load of the machine, and how much the program got of the time of a processor that it could have used;
 and what the attack counted. The goals:
 
     through nginx   a wait of 2 seconds and one report at most, and no failure
