@@ -6,7 +6,8 @@ Options have small defaults. A test that can't be run here is skipped, and says 
 import os
 import random
 import shutil
-from collections.abc import Callable
+import tempfile
+from collections.abc import Callable, Iterator
 from pathlib import Path
 
 import pytest
@@ -124,3 +125,11 @@ def port() -> int:
 def site(tmp_path: Path) -> Path:
     """A copy of the sample's site in a folder of its own: acme's seat a1 has the token abc, bolt's seat b1 hello."""
     return Path(shutil.copy(ROOT / "crates/station/data/site.toml", tmp_path / "site.toml"))
+
+
+@pytest.fixture
+def open_folder() -> Iterator[Path]:
+    """A folder that other users may enter, as they may not enter pytest's."""
+    with tempfile.TemporaryDirectory() as folder:
+        os.chmod(folder, 0o755)
+        yield Path(folder)

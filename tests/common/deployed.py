@@ -224,8 +224,9 @@ class Place:
         (folder / "ca.cnf").write_bytes(STATIONS.read_bytes())
         (folder / "index.txt").touch()
         (folder / "serial").write_text("1000\n", encoding="ascii")
-        words = ["-x509", *CURVE, "-days", "3650", "-subj", f"/O=Plant/CN={name}", "-keyout", "ca.key", "-out", "ca.pem"]
-        expect("a CA", ran(["openssl", "req", *words], folder).returncode, 0)
+        words = ["-x509", *CURVE, "-days", "3650", "-subj", f"/O=Plant/CN={name}"]
+        done = ran(["openssl", "req", *words, "-keyout", "ca.key", "-out", "ca.pem"], folder)
+        expect("a CA", done.returncode, 0)
         return folder
 
     def revocations(self, folder, *more):

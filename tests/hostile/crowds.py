@@ -1,4 +1,4 @@
-"""The attacks of `hostile` that hold connections: silent, dripping, half-closed and never-reading ones, by thousands.
+"""The attacks that hold connections: silent, dripping, half-closed and never-reading ones, by thousands.
 
 Each connection that the other side ends is made anew, so that as many are held the whole time as can be. Each attack
 returns what it counted: `opened` connections, the most that were `held` at a time, those that were `refused`, and the
@@ -18,7 +18,7 @@ import time
 from collections import Counter
 from dataclasses import dataclass
 
-from common.served import HOST
+from common.ports import HOST
 
 # How many connections are made at a time, and the longest that making one may take.
 OPENERS, OPENING = 8, 20

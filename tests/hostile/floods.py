@@ -1,4 +1,4 @@
-"""The attacks of `hostile` that send requests: reports in flight, reports hung up, HTTP/2's streams, imports, stations
+"""The attacks that send requests: reports in flight, reports hung up, HTTP/2's streams, imports, stations
 without a pause, strangers, and many requests in one send.
 
 Each returns what it counted: `requests` that were sent, replies by their status, and what else its check needs."""
@@ -13,10 +13,10 @@ import threading
 import time
 from collections import Counter
 
-from hostile_crowds import more_files
+from hostile.crowds import more_files
 from common.lives import ROWS
 from common.registrations import MAP, blocks_of
-from common.served import HOST
+from common.ports import HOST
 
 DIGEST = hashlib.sha256(MAP.encode()).hexdigest()
 

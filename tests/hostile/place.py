@@ -1,9 +1,8 @@
-"""The deployed form on ports of this machine, for `hostile`: a store of many devices, a program over a copy of it,
+"""The deployed form on ports of this machine, for attacks: a store of many devices, a program over a copy of it,
 nginx by deploy/nginx.conf with other ports and paths, with its log and with nothing else, and outer tokens by
-deploy/token."""
+station-token."""
 
 import hashlib
-import json
 import os
 import re
 import secrets
@@ -11,18 +10,15 @@ import shutil
 import signal
 import ssl
 import subprocess
-import sys
 import time
 from pathlib import Path
 
-from common.goals import tell
+from common.deployed import CONF, TOOL, certify, replaced
 from common.lives import DIGEST, LARGEST_ORDER, Orders, name_of
-from common.program import Program, send
+from common.ports import HOST, free_ports
+from common.program import Failed, Program, send
 from common.registrations import MAP, blocks_of
-from common.served import HOST, Caller, Server
-
-ROOT = Path(__file__).resolve().parent.parent
-DEPLOYED, TOKEN = ROOT / "deploy/nginx.conf", ROOT / "python/bin/station-token"
+from common.served import Caller, Server
 
 # The seats of the customer that attacks, the first of which made the store, and the honest station's seat.
 SEATS, HONEST = [f"a{number}" for number in range(10)], "b0"
@@ -86,22 +82,13 @@ class Store:
 
     def __init__(self, folder, devices):
         self.folder, self.devices = Path(folder), devices
-        self.facts = self.folder / "facts.json"
-
-    def is_there(self):
-        return self.facts.exists() and json.loads(self.facts.read_text())["devices"] == self.devices
-
-    def read(self):
-        facts = json.loads(self.facts.read_text())
-        self.tokens, self.number = facts["tokens"], facts["number"]
-        return self
 
     def make(self, program, entries=ENTRIES):
         """Has the program serve the requests that make it, by a stream."""
         self.folder.mkdir(parents=True, exist_ok=True)
         tokens = {seat: secrets.token_hex(32) for seat in [*SEATS, HONEST, "manager"]}
         (self.folder / "site.toml").write_text(site_text(tokens), encoding="utf-8")
-        seat, start = Maker(tokens[SEATS[0]]), time.monotonic()
+        seat = Maker(tokens[SEATS[0]])
         before = [seat.ask("/v1/map", text=MAP)]
         before += [seat.order_of(number, self.devices, 0) for number in range(1, self.devices + 1, LARGEST_ORDER)]
         words = ["replay", "--site", str(self.folder / "site.toml"), "--db", str(self.folder / "books.db")]
@@ -112,15 +99,13 @@ class Store:
                 send(made, [asked for number in numbers for asked in seat.settled_in(number)])
             send(made, seat.long_ledger(entries))
             made.end()
-        facts = {"devices": self.devices, "number": seat.number + 1, "tokens": tokens}
-        self.facts.write_text(json.dumps(facts), encoding="utf-8")
-        tell(f"a store of {self.devices} devices, {time.monotonic() - start:.0f} s")
-        return self.read()
+        self.tokens, self.number = tokens, seat.number + 1
+        return self
 
     def hand_out(self, folder):
-        """Outer tokens of the seats, by deploy/token."""
+        """Outer tokens of the seats, by station-token."""
         self.conf, self.outer = Path(folder) / "tokens.conf", {}
-        words = [sys.executable, str(TOKEN), "--file", str(self.conf), "--no-reload"]
+        words = [str(TOOL), "--file", str(self.conf), "--no-reload"]
         for seat, customer in [(seat, customer) for customer, seats in CUSTOMERS.items() for seat in seats]:
             known, given = Path(folder) / f"{seat}.known", Path(folder) / f"{seat}.token"
             known.write_text(self.tokens[seat], encoding="ascii")
@@ -143,36 +128,18 @@ def run(*words):
     """Runs a command that has to do what it says."""
     done = subprocess.run(words, capture_output=True, text=True)
     if done.returncode:
-        raise SystemExit(f"FAILED: {' '.join(words)}: {done.stderr}")
-
-
-def certificate(folder):
-    """A certificate of the address that is asked, as docs/how-to/install.md has it made."""
-    names = "subjectAltName=IP:127.0.0.1"
-    words = ["openssl", "req", "-x509", "-newkey", "ec", "-pkeyopt", "ec_paramgen_curve:prime256v1", "-noenc"]
-    words += ["-days", "2", "-subj", "/CN=hostile", "-addext", names]
-    run(*words, "-keyout", f"{folder}/key.pem", "-out", f"{folder}/cert.pem")
-
-
-def replaced(text, pairs):
-    """A text with other words, each of which has to be there."""
-    for old, new in pairs:
-        if old not in text:
-            raise SystemExit(f"FAILED: {DEPLOYED.name} has no {old!r}")
-        text = text.replace(old, new)
-    return text
+        raise Failed(f"{' '.join(words)}: {done.stderr}")
 
 
 class Place:
-    """A program over a copy of a store, and nginx in front of it, until it is left. nginx has `port`, the program the
-    one above it."""
+    """A program over a copy of a store, and nginx in front of it, until it is left. nginx has `port`, the program
+    `inner`."""
 
-    def __init__(self, args, store, folder, connections=1_000_000, is_direct=False):
-        self.port, self.inner, self.store, self.folder = args.port, args.port + 1, store, Path(folder)
-        self.program, self.connections, self.is_direct = args.program, connections, is_direct
-        self.changed = args.changed
+    def __init__(self, program, store, folder, connections=1_000_000, is_direct=False):
+        (self.port, self.inner), self.store, self.folder = free_ports(2), store, Path(folder)
+        self.program, self.connections, self.is_direct = str(program), connections, is_direct
         self.outer, self.server, self.nginx, self.context = {}, None, None, None
-        self.asked = 0  # the connections to the program that this script made, all in all
+        self.asked = 0  # the connections to the program that this test made, all in all
 
     def __enter__(self):
         try:
@@ -207,7 +174,7 @@ class Place:
             self.start_nginx()
 
     def start_nginx(self):
-        certificate(self.folder)
+        certify(self.folder, name="hostile", names="IP:127.0.0.1")
         self.context = ssl.create_default_context(cafile=self.folder / "cert.pem")
         (self.folder / "nginx.conf").write_text(self.conf(), encoding="utf-8")
         shutil.copy(self.store.conf, self.folder)
@@ -219,7 +186,7 @@ class Place:
         end = time.monotonic() + 20
         while self.status_of(self.outer[HONEST]) not in (200, 404):
             if time.monotonic() > end or self.nginx.poll() is not None:
-                raise SystemExit(f"FAILED: nginx: {(self.folder / 'nginx.said').read_text()}")
+                raise Failed(f"nginx: {(self.folder / 'nginx.said').read_text()}")
             time.sleep(0.1)
         self.asked += 1
 
@@ -237,7 +204,7 @@ class Place:
             ("log_format passed", f"access_log {self.folder}/access.log station if=$is_logged; log_format passed"),
             ("\nevents {\n", f"\npid {self.folder}/nginx.pid;\nevents {{\n"),
         ]
-        return replaced(DEPLOYED.read_text(encoding="utf-8"), [*pairs, *self.changed])
+        return replaced(CONF, pairs)
 
     def caller(self, token):
         """A seat's requests to the program itself."""
@@ -256,7 +223,7 @@ class Place:
         self.asked += 1
         status, text = self.caller(self.store.tokens[SEATS[0]]).ask("GET", target)
         if status != 200 or text.count(b"\n") + text.count(b"{") < 1:
-            raise SystemExit(f"FAILED: {target} is {status} {text[:80]!r}")
+            raise Failed(f"{target} is {status} {text[:80]!r}")
         return time.perf_counter() - start
 
     def report_seconds(self):
@@ -265,7 +232,6 @@ class Place:
         end = time.monotonic() + RESTS
         while not self.is_at_rest():
             if time.monotonic() > end:
-                tell(f"the program isn't at rest after {RESTS} seconds")
                 return 0.0
             time.sleep(0.5)
         return self.asked_alone("/v1/report")

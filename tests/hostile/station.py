@@ -8,7 +8,7 @@ import time
 from dataclasses import dataclass, field
 
 from common.registrations import MAP, blocks_of
-from common.served import HOST
+from common.ports import HOST
 
 # The station's own address, since those who attack have another one.
 ADDRESS = "127.0.0.2"

@@ -12,7 +12,8 @@ import subprocess
 import tempfile
 from pathlib import Path
 
-from common.chip import ROOT, Failed
+from common.needs import ROOT
+from common.program import Failed
 
 MIRROR = "http://deb.debian.org/debian"
 PACKAGES = (
@@ -133,7 +134,7 @@ def booted(cache, words, program, disk, is_reset=False):
         with open(disk, "wb") as out:
             out.truncate(1 << 30)
     with tempfile.TemporaryDirectory(dir=disk.parent) as folder:
-        command = shlex.join(["python3", "-B", *words, "--disk", "/dev/vda"])
+        command = f"cd {ROOT}/tests && {shlex.join(['python3', '-B', *words, '--disk', '/dev/vda'])}"
         shown = sorted({str(ROOT), str(program.parent)})
         initramfs = _initramfs(root, image.name.partition("-")[2], command, shown, Path(folder).resolve())
         # Without KVM, which a machine that is a guest itself may have and not serve.

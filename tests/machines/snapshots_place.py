@@ -1,4 +1,4 @@
-"""A volume with a store, its server and its load, for `snapshots`: on Btrfs, and on logical volumes."""
+"""A volume with a store, its server and its load, for snapshots.py: on Btrfs, and on logical volumes."""
 
 import contextlib
 import hashlib
@@ -13,10 +13,11 @@ from pathlib import Path
 
 from common.chip import CHIP, FAR, SITE, Failed
 from common.commands import PYTHON, command
+from common.ports import free_port
 from common.served import Caller, Server, station
+from common.users import USER
 
-USER = 65534
-PORT = 18880
+PORT = free_port()
 PLACE = Path("/run/station-backup")
 NAME = "station_backup"
 
@@ -158,8 +159,8 @@ class Bench:
         words += ["--into", str(self.all), "--snapshot", self.kind, *self.words, *more]
         before = [PYTHON, "-B", *(["-c", KILLED, *map(str, killed)] if killed else [])]
         return subprocess.run(
-            [*within, *before, *command("station-backup")[2:], *words], stdin=subprocess.DEVNULL, capture_output=True, text=True,
-            timeout=600, start_new_session=True, check=False,
+            [*within, *before, *command("station-backup")[2:], *words], stdin=subprocess.DEVNULL, capture_output=True,
+            text=True, timeout=600, start_new_session=True, check=False,
         )  # fmt: skip
 
     def leave(self):

@@ -12,7 +12,7 @@ import time
 from pathlib import Path
 
 from common.chip import Failed
-from snapshots_place import NAME, PLACE, Bench, run
+from machines.snapshots_place import NAME, PLACE, Bench, run
 
 POOL = "plant"
 DATASET = f"{POOL}/station"

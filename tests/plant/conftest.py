@@ -1,21 +1,11 @@
-"""The deployed form that tests of the plant run over, in folders that other users may enter."""
+"""The deployed form that tests of the plant run over."""
 
-import os
-import tempfile
 from collections.abc import Iterator
 from pathlib import Path
 
 import pytest
 
 from common.deployed import Place
-
-
-@pytest.fixture
-def open_folder() -> Iterator[Path]:
-    """A folder that other users may enter, as they may not enter pytest's."""
-    with tempfile.TemporaryDirectory() as folder:
-        os.chmod(folder, 0o755)
-        yield Path(folder)
 
 
 @pytest.fixture

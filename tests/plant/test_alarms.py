@@ -16,7 +16,7 @@ from datetime import datetime, timedelta, timezone
 
 import pytest
 from simulated_chip import SimulatedChip
-from support import DIGEST, MAP, Held, Journal, Station, bit
+from support import DIGEST, MAP, Held
 
 from common.deployed import expect, ran
 from common.needs import ROOT
@@ -24,6 +24,9 @@ from common.ports import HOST
 from common.program import Failed
 from plant.network import reached
 from plant.watched import DAYS_LEFT, DEPLOYED, plant_of
+from wanekupo.chips.chip import bit
+from wanekupo.seat.journal import Journal
+from wanekupo.seat.station import Station
 
 WATCHES = ["prometheus", "prometheus-alertmanager", "prometheus-blackbox-exporter", "prometheus-node-exporter"]
 # Beside a recorder whose server is away, or whose caller went: that is what is tried.

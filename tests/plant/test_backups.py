@@ -73,7 +73,8 @@ class Bench:
         return Server(words, self.port).wait(Server.is_listening)
 
     def words(self, path, program=None, site=SITE):
-        return [str(BACKUP), "--program", str(program or self.program), "--site", str(site), "--db", str(path), str(self.backup)]
+        named = ["--program", str(program or self.program), "--site", str(site), "--db", str(path)]
+        return [str(BACKUP), *named, str(self.backup)]
 
     def run(self, words):
         """The status, the lines and the error of a backup."""
@@ -86,7 +87,8 @@ class Bench:
         status, lines, error = self.run(words or self.words(path))
         if status or error or lines != [*said, f"backed up in {self.backup}"]:
             raise Failed(f"status {status}, {lines}, {error!r}")
-        files = dict(zip(("books.db", "books.db-wal"), (it.read_bytes() for it in store_at(path.resolve())), strict=True))
+        store = [it.read_bytes() for it in store_at(path.resolve())]
+        files = dict(zip(("books.db", "books.db-wal"), store, strict=True))
         found = files_in(self.backup)
         about = json.loads(found.pop("about.json"))
         if found != files | {"site.toml": SITE.read_bytes()}:
@@ -114,7 +116,7 @@ def bench(program: Path, tmp_path: Path) -> Bench:
 
 
 def test_made(bench):
-    """Stores are backed up: joined, by a link, killed before its first join, never used, with an earlier one's pages."""
+    """Stores are backed up: joined, by a link, killed before its first join, never used, with earlier pages."""
     path = bench.copy("joined")
     bench.makes(path, LIFE)
     if store_at(path)[1].stat().st_size != 41:

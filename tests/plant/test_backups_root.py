@@ -19,7 +19,8 @@ pytestmark = [pytest.mark.root, pytest.mark.needs("sqlite3", "unshare")]
 
 # Scripts that stand for those of LVM and ZFS: a snapshot is a file, and what it has a copy of the store.
 TOOLS = {
-    "findmnt": """echo '{"filesystems": [{"source": "tank/data", "fstype": "zfs", "fsroot": "/", "target": "'$HERE'"}]}'""",
+    "findmnt": """echo '{"filesystems":
+[{"source": "tank/data", "fstype": "zfs", "fsroot": "/", "target": "'$HERE'"}]}'""",
     "lvs": """case $* in
 *tank/data) echo '{"report": [{"lv": [{"vg_name": "tank", "lv_name": "data", "lv_attr": "owi-aos---"}]}]}';;
 *) test ! -e $HERE/lvm || own='{"lv_name": "station_backup", "origin": "data", "lv_tags": "station_backup",
@@ -124,8 +125,8 @@ def test_forked(tools, number):
 @pytest.mark.needs("age")
 @pytest.mark.parametrize("is_busy", [False, True])
 def test_plain_snapshot(tools, is_busy):
-    """A backup with a snapshot is killed while age works: `--clean` takes the copy in plain away, also where the snapshot
-    can't be removed."""
+    """A backup with a snapshot is killed while age works: `--clean` takes the copy in plain away, also where the
+    snapshot can't be removed."""
     (tools.bin / "age").write_text(SLOW.format(tools.here), encoding="utf-8")
     (tools.bin / "age").chmod(0o755)
     killed_at_work(tools.words("--snapshot", "lvm", "--recipient", "age1q"), tools.here)

@@ -9,8 +9,8 @@ Each station is told to go on with the number that is expected, treats the chips
 (docs/how-to/back-up-and-restore.md), and works on in the restored store.
 
 At the end of each day the journals of all days are read by json alone: each serial number of an issuer and each address
-stands for one chip, each chip has one of them, and the store has each of them with its key. What a station asks for, and
-the moments, are the seed's; what falls into which moment is the machine's.
+stands for one chip, each chip has one of them, and the store has each of them with its key. What a station asks for,
+and the moments, are the seed's; what falls into which moment is the machine's.
 """
 
 import tempfile

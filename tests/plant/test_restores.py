@@ -80,10 +80,10 @@ class Bench:
 
     def restore(self, folder, *more, call=0, **named):
         before = [PYTHON, "-B", *(["-c", KILLED, str(call)] if call else [])]
+        words = [*before, str(PROJECT), "station-restore", *self.words(folder, *more, **named)]
         return subprocess.run(
-            [*before, str(PROJECT), "station-restore", *self.words(folder, *more, **named)], capture_output=True, text=True, timeout=120,
-            stdin=subprocess.DEVNULL, check=False,
-        )  # fmt: skip
+            words, capture_output=True, text=True, timeout=120, stdin=subprocess.DEVNULL, check=False
+        )
 
     def ends_well(self, folder, done, lost, is_second=False):
         """Fails unless a restore put the store in place, left nothing, and kept what was there. One behind another that

@@ -105,7 +105,7 @@ def test_faults(made: House, is_map: bool, text: str, number: int, line: int, me
     expect("the program's number", number_of(made, text, is_map), number)
     status, said = told(made, text)
     first = said.splitlines()[0]
-    wanted = rf"site: \S+/checked\.toml:{line}: {re.escape(member)}: .+ \(fault {number}\)"
+    wanted = rf"station-site: \S+/checked\.toml:{line}: {re.escape(member)}: .+ \(fault {number}\)"
     if status != 1 or not re.fullmatch(wanted, first):
         raise Failed(f"status {status}, {first!r}, and not {wanted!r}")
     expect("the last line", said.splitlines()[-1], f"station: {kind} fault {number}")
@@ -368,9 +368,12 @@ def test_other_site_that_shares_nothing(house: House) -> None:
     expect(run.said, run.status, 0)
 
 
-@pytest.mark.parametrize(("is_grown", "said"), [(False, "still holds the old text"), (True, "holds the new text by now")])
+HOLDS = [(False, "still holds the old text"), (True, "holds the new text by now")]
+
+
+@pytest.mark.parametrize(("is_grown", "said"), HOLDS)
 def test_failed_start(served: House, is_grown: bool, said: str) -> None:
-    """A service that doesn't start, then a program that grows the store and doesn't serve: it says what text it holds."""
+    """A service that doesn't start, and a program that grows the store and doesn't serve: which text it holds."""
     house = served
     broken = house.folder / "broken"
     broken.touch()

@@ -333,7 +333,7 @@ def test_days(place):
     """a token ends with its day by nginx's own clock, and after a grace"""
     seats(place)
     here = time.time() % 86400
-    shift = int(here - (86400 - 6))  # midnight is six seconds away
+    shift = int(here - (86400 - 15))  # midnight is fifteen seconds away
     sign, rest = ("-" if shift < 0 else ""), abs(shift)
     zone = f"XXX{sign}{rest // 3600}:{rest // 60 % 60:02}:{rest % 60:02}"
     today = ran(["date", "+%Y-%m-%d"], env={**os.environ, "TZ": zone}).stdout.strip()
@@ -344,7 +344,7 @@ def test_days(place):
     expect("before midnight", [place.ask(by(place.outer[it]), ORDER, port=port)[0] for it in names], [404, 404])
     expect("the list", " past" in place.token("list", is_told=False, zone=zone)[1], False)
     asked = len(place.recorder.heads)
-    time.sleep(7 - (time.time() % 86400 - here))
+    time.sleep(max(0, 16 - (time.time() % 86400 - here)))
     expect(
         "after midnight, nothing reloaded", told(place.ask(by(place.outer["tonight"]), ORDER, port=port)), STRANGER
     )

@@ -78,7 +78,8 @@ class Place:
 
     def backup(self, *words, user: str = "root") -> subprocess.CompletedProcess:
         common = ["--program", self.program, "--site", self.house.site, "--db", self.house.db]
-        return ran("runuser", "-u", user, "--", *command("station-backup"), *common, "--into", self.house.backups, *words)
+        common += ["--into", self.house.backups, *words]
+        return ran("runuser", "-u", user, "--", *command("station-backup"), *common)
 
     def expect_backup(self) -> str:
         """An encrypted backup by a snapshot; what it told."""
@@ -90,7 +91,8 @@ class Place:
     def trial(self, *words, killed=()) -> subprocess.CompletedProcess:
         before = [PYTHON, "-B", *(["-c", KILLED, *killed] if killed else [])]
         common = ["--trial", "--db", self.house.db, "--into", self.house.backups, *words]
-        return ran(*before, *command("station-backup")[2:], *common, self.house.backups / "tried-by-site.x", start_new_session=True)
+        common.append(self.house.backups / "tried-by-site.x")
+        return ran(*before, *command("station-backup")[2:], *common, start_new_session=True)
 
     def restart_words(self, *words) -> list:
         metrics = self.folder / "metrics.prom"

@@ -211,7 +211,8 @@ class Plant:
     def watch(self):
         """Starts all that watches, by the files of deploy/prometheus with other ports and paths."""
         node, box, manager, self.prometheus_port = free_ports(4)
-        (self.folder / "wanekupo.yml").write_text(in_seconds((DEPLOYED / "rules.yml").read_text(encoding="utf-8")), encoding="utf-8")
+        rules = in_seconds((DEPLOYED / "rules.yml").read_text(encoding="utf-8"))
+        (self.folder / "wanekupo.yml").write_text(rules, encoding="utf-8")
         pairs = [("/etc/station/cert.pem", f"{self.small}/etc/cert.pem")]
         (self.folder / "blackbox.yml").write_text(replaced(DEPLOYED / "blackbox.yml", pairs), encoding="utf-8")
         pairs = [("15s", "1s"), ("127.0.0.1:9093", f"{HOST}:{manager}"), ("127.0.0.1:9100", f"{HOST}:{node}")]

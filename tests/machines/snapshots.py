@@ -1,9 +1,10 @@
-#!/usr/bin/env python3
 """Has station-backup back a store up while its server runs under load, from snapshots of the volume, and kills it.
 
-    snapshots --program P                             btrfs on a loop device
-    snapshots --program P --cache FOLDER              zfs and logical volumes too, in guests that qemu boots
-    snapshots --program P --cache FOLDER --only zfs   these alone
+This is run as a command, `python3 -m machines.snapshots` in tests, as a guest's Debian has no pytest: test_systems.py
+runs it for each kind and test.
+
+    --program P --only btrfs                   on a loop device
+    --program P --only zfs,lvm --cache FOLDER  in guests that qemu boots
 
 A station imports serial numbers all the while. Each backup has to have each request that was acknowledged before it
 began, and none that was asked behind its end; the program opens a copy of it. Then the backup and its processes are
@@ -18,8 +19,8 @@ it went, also where a command that copies it off fails.
 For zfs the machine is started anew for real, in the middle of a backup and without a sync; no power was cut. The head
 of snapshots_zfs.py has its other cases.
 
-Where this kernel has no device mapper or no ZFS, these need --cache. The first run makes a Debian there (some 2 GB),
-with a module for ZFS that dkms builds, which takes 10 to 25 minutes. Its kernel is booted with that folder and this
+A guest's Debian is made in --cache by the first run (some 2 GB), with a module for ZFS that dkms builds, which takes 10
+to 25 minutes. Its kernel is booted with that folder and this
 repository, read-only, and with a disk of its own. --stride says which calls are killed: in a guest each takes seconds.
 -k WORD runs the tests alone whose name has that word.
 
@@ -37,10 +38,12 @@ import sys
 import tempfile
 from pathlib import Path
 
-from common.chip import ROOT, SITE, Failed
-from snapshots_guest import booted
-from snapshots_place import USER, Bench, BtrfsBench, LvmBench, ThinBench, run
-from snapshots_zfs import ZFS, ZfsBench, test_reset, test_reset_ended
+from common.chip import SITE, Failed
+from common.needs import ROOT
+from common.users import USER
+from machines.snapshots_guest import booted
+from machines.snapshots_place import Bench, BtrfsBench, LvmBench, ThinBench, run
+from machines.snapshots_zfs import ZFS, ZfsBench, test_reset, test_reset_ended
 
 
 def test_opened(bench):
@@ -202,7 +205,7 @@ def tries_in_guest(kind, program, args):
         for part in STARTS[kind]:
             if not any(args.word in test.__name__ for _, tests in TESTS[part] for test in tests):
                 continue
-            words = [str(Path(__file__).resolve()), "--program", str(program), "--stride", str(args.stride)]
+            words = ["-m", "machines.snapshots", "--program", str(program), "--stride", str(args.stride)]
             words += ["-k", args.word]
             booted(Path(args.cache), [*words, "--only", part], program, Path(folder, "disk"), part == "zfs-reset")
 

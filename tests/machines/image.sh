@@ -12,7 +12,7 @@
 # no podman is tried. The status is 1 where anything is otherwise.
 # shellcheck disable=SC2016  # what other shells and awk expand is in quotes
 set -euo pipefail
-top=$(cd "$(dirname "$0")/.." && pwd)
+top=$(cd "$(dirname "$0")/../.." && pwd)
 program=$top/crates/station/out/station base='' keep='' is_prepared=
 while [ $# -gt 0 ]; do
     case $1 in

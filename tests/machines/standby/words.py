@@ -3,10 +3,10 @@ plant's own power switch, or a person who comes later than DRBD's tool waits."""
 
 import time
 
-from standby_place.pair import SCRIPTS, SEEN
-from standby_place.place import Cut, Place, back, is_alone
-from standby_place.power import PowerSwitch
-from standby_place.scenarios import NO_WORD
+from machines.standby.pair import SCRIPTS, SEEN
+from machines.standby.place import Cut, Place, back, is_alone
+from machines.standby.power import PowerSwitch
+from machines.standby.scenarios import NO_WORD
 
 # How long DRBD's handler waits for a word, and how long it does where that is tried: it's the same script.
 WAITS, SHORT = "LONGEST = 570", "LONGEST = 20"

@@ -5,8 +5,8 @@ import time
 from collections.abc import Iterator
 from datetime import datetime, timedelta, timezone
 
-from standby_place.place import ANSWERS, BEHIND, Place, back, is_alone
-from standby_place.scenarios import NO_WORD, OLDER
+from machines.standby.place import ANSWERS, BEHIND, Place, back, is_alone
+from machines.standby.scenarios import NO_WORD, OLDER
 
 FORM = "at %Y-%m-%dT%H:%M:%SZ"
 

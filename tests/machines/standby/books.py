@@ -9,7 +9,7 @@ from pathlib import Path
 
 from common.served import Caller, Server, station
 
-from standby_place.load import Asking
+from machines.standby.load import Asking
 
 # The tables of a store, without the numbers that the keeper draws.
 TABLES = {

@@ -1,26 +1,25 @@
 """A run of one scenario: both machines' start, the line, what befalls them, and the books at the end."""
 
-import json
 import random
 import time
 from collections.abc import Callable
-from dataclasses import asdict, dataclass, field, replace
+from dataclasses import dataclass, field, replace
 from pathlib import Path
 
 from common.goals import tell
 
-from standby_place import lost, scenarios, words
-from standby_place.books import compared, taken_out, undisturbed
-from standby_place.costs import cost
-from standby_place.guests import SilentGuest
-from standby_place.load import WORK, Line, site_text
-from standby_place.moved import moved
-from standby_place.network import free_ports
-from standby_place.pair import Pair, copied
-from standby_place.place import Cut, Place
-from standby_place.restored import newer_half_lost, restored_books
-from standby_place.tokens import ended_tokens
-from standby_place.witnesses import bad_witnesses, late_station
+from machines.standby import lost, scenarios, words
+from machines.standby.books import compared, taken_out, undisturbed
+from machines.standby.costs import cost
+from machines.standby.guests import SilentGuest
+from machines.standby.load import WORK, Line, site_text
+from machines.standby.moved import moved
+from machines.standby.network import free_ports
+from machines.standby.pair import Pair, copied
+from machines.standby.place import Cut, Place
+from machines.standby.restored import newer_half_lost, restored_books
+from machines.standby.tokens import ended_tokens
+from machines.standby.witnesses import bad_witnesses, late_station
 
 SCENARIOS: dict[str, Callable[[Place], None]] = {
     "a": scenarios.power_cut,
@@ -69,17 +68,6 @@ class Run:
     refusals: int = 0
     cut_count: int = 0
     seconds: float = 0.0
-
-
-def read_runs(file: Path) -> list[Run]:
-    """The runs that were kept in a file, one in each line."""
-    found = [json.loads(line) for line in file.read_text(encoding="utf-8").splitlines()] if file.exists() else []
-    return [Run(**{**values, "cuts": [Cut(**cut) for cut in values["cuts"]]}) for values in found]
-
-
-def keep_run(run: Run, file: Path) -> None:
-    with open(file, "a", encoding="utf-8") as out:
-        out.write(json.dumps(asdict(run)) + "\n")
 
 
 @dataclass

@@ -14,7 +14,7 @@
 # status is 1 where anything is otherwise.
 # shellcheck disable=SC2016  # what other shells and dpkg expand is in quotes
 set -euo pipefail
-top=$(cd "$(dirname "$0")/.." && pwd)
+top=$(cd "$(dirname "$0")/../.." && pwd)
 program=$top/crates/station/out/station base='' is_prepared=
 while [ $# -gt 0 ]; do
     case $1 in

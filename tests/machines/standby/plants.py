@@ -6,13 +6,13 @@ second time together with that test taken away, so that both lines of defence ar
 
 from dataclasses import dataclass
 
-from standby_place.image import Edit
-from standby_place.pair import SAMPLE, SECRET
+from machines.standby.image import Edit
+from machines.standby.pair import SAMPLE, SECRET
 
-STANDBY = "usr/share/wanekupo/standby"
+STANDBY = "usr/lib/python3/dist-packages/wanekupo/standby"
 RESOURCE = "etc/drbd.d/station.res"
 # Takes away the takeover's test of what DRBD runs with.
-UNTESTED: Edit = (f"{STANDBY}/takeover", "    needed.test(half)\n", "")
+UNTESTED: Edit = (f"{STANDBY}/takeover.py", "    needs.test(half)\n", "")
 # DRBD itself refuses A beside this fencing, and takes B.
 PROTOCOL_A: Edit = (RESOURCE, "protocol C;", "protocol A;")
 PROTOCOL_B: Edit = (RESOURCE, "protocol C;", "protocol B;")
@@ -44,18 +44,20 @@ PLANTS = {
     "witness-of-before": Plant(
         ((f"{STANDBY}/witness.py", "    if since and oldest < since:\n", NEVER),), "witness", "of before isn't refused"
     ),
-    "tested-state": Plant(((f"{STANDBY}/takeover", "    tested_state(state)\n", ""),), "both", "not refused as"),
+    "tested-state": Plant(((f"{STANDBY}/takeover.py", "    tested_state(state)\n", ""),), "both", "not refused as"),
     "word": Plant(
-        ((f"{STANDBY}/takeover", "    if is_alone:\n        shut_out(half, args.other_is_off)\n", ""),),
+        ((f"{STANDBY}/takeover.py", "    if is_alone:\n        shut_out(half, args.other_is_off)\n", ""),),
         "f-one",
         "not refused as",
     ),
     "always-7": Plant(
-        ((f"{STANDBY}/fence-peer", "def answered() -> int:\n", "def answered() -> int:\n    return IS_OFF\n"),),
+        ((f"{STANDBY}/fence_peer.py", "def answered() -> int:\n", "def answered() -> int:\n    return IS_OFF\n"),),
         "cable",
         "the address still",
     ),
     "address-stays": Plant(
-        ((f"{STANDBY}/fence-peer", "    run(shlex.split(settings.leave_address))\n", ""),), "cable", "the address still"
+        ((f"{STANDBY}/fence_peer.py", "    run(shlex.split(settings.leave_address))\n", ""),),
+        "cable",
+        "the address still",
     ),
 }

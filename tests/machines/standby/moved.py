@@ -7,10 +7,10 @@ from pathlib import Path
 
 from common.served import Server, station
 
-from standby_place.books import compared, undisturbed
-from standby_place.load import CUSTOMERS, Line, site_text, token_of
-from standby_place.network import Router, free_ports
-from standby_place.place import ANSWERS, BEHIND, Cut, Place
+from machines.standby.books import compared, undisturbed
+from machines.standby.load import CUSTOMERS, Line, site_text, token_of
+from machines.standby.network import Router, free_ports
+from machines.standby.place import ANSWERS, BEHIND, Cut, Place
 
 # The customers whose programs are on this machine, each with one seat. The first two customers' store is on the pair.
 OTHERS = range(CUSTOMERS, CUSTOMERS + 3)

@@ -3,10 +3,10 @@ takeover is killed, both halves were written, or the newer half is lost."""
 
 import time
 
-from standby_place.guests import Guest
-from standby_place.pair import SCRIPTS, SEEN
-from standby_place.place import ANSWERS, BEHIND, Place, back, is_alone
-from standby_place.scenarios import NO_WORD, OLDER
+from machines.standby.guests import Guest
+from machines.standby.pair import SCRIPTS, SEEN
+from machines.standby.place import ANSWERS, BEHIND, Place, back, is_alone
+from machines.standby.scenarios import NO_WORD, OLDER
 
 SETTINGS = "/etc/station/standby.toml"
 # What a half says that doesn't look for the other one any more.

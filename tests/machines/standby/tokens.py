@@ -2,8 +2,8 @@
 
 import time
 
-from standby_place.guests import Guest
-from standby_place.place import Place, back, is_alone
+from machines.standby.guests import Guest
+from machines.standby.place import Place, back, is_alone
 
 FILE = "/etc/station/tokens.conf"
 TOKEN = "/usr/share/wanekupo/token --no-reload"

@@ -12,7 +12,7 @@ import threading
 import time
 from pathlib import Path
 
-# A guest ends by itself where the script is killed. It is as nice as the script is: `nice bench/standby ..`.
+# A guest ends by itself where the script is killed. It is as nice as the tests are.
 FRONT = ["timeout", "--signal=KILL", "7200"]
 MEMORY = 320
 # How many MiB qemu keeps of translated code: it would keep a GiB.

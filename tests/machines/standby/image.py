@@ -1,22 +1,30 @@
 """The kernel and the first file system of a guest, made of Debian's packages and of what this machine has.
 
 The packages are fetched by apt-get and unpacked, and nothing is installed. The file system is one of memory: it has
-busybox, the modules of the disks and the network, DRBD's tools, Python with the modules that the scripts of
-deploy/standby import, sqlite3, nginx, and the server's program. It is made anew for each run, in a second or two.
+busybox, the modules of the disks and the network, DRBD's tools, the package wanekupo with what its commands of a plant
+import of Python, sqlite3, nginx, and the server's program. It is made anew for each run, in a second or two.
 """
 
 import os
 import re
 import shutil
 import subprocess
+import tomllib
 from collections.abc import Iterable
 from pathlib import Path
 
-ROOT = Path(__file__).resolve().parent.parent.parent
+from common.commands import PROJECT
+from common.needs import ROOT
+
 HERE = Path(__file__).resolve().parent / "guest"
 DEPLOYED = ROOT / "deploy/standby"
-# What the scripts there import of the folder above, and the tokens' tool.
-SHARED = ("store_user.py", "token", "token_file.py", "token_site.py", "whole_file.py")
+# Where the package has its modules, and a command of it, by the module and the function that it runs.
+PACKAGE = "usr/lib/python3/dist-packages"
+COMMAND = "#!/usr/bin/python3 -IB\nimport sys\n\nfrom {} import {}\n\nsys.exit({}())\n"
+# The words of before, which units, pages and DRBD's handler name.
+CALLS = {f"standby/{it}": f"station-standby {it}" for it in ("takeover", "stepdown", "other-is-off", "fence-peer",
+                                                             "is-mounted")}  # fmt: skip
+CALLS |= {it: f"station-{it}" for it in ("token", "site", "backup", "restore", "restart")}
 
 # Debian's kernel of this name, and the modules of it in the order in which they are loaded.
 KERNEL = "linux-image-amd64"
@@ -43,10 +51,10 @@ FOLDERS = """bin dev etc/drbd.d etc/station lib/drbd lib64 mnt modules proc root
 
 # Those of Python's modules that the scripts import, and that a restore needs, as a Python says that has imported them.
 IMPORTED = """
-import argparse, encodings.idna, importlib, pathlib, secrets, sys, wanekupo.seat.replays
-for folder in sys.argv[1:]:
-    for path in pathlib.Path(folder).glob("*.py"):
-        importlib.import_module(path.stem)
+import argparse, encodings.idna, importlib, pathlib, pkgutil, secrets, sys, wanekupo.seat.replays
+for name in ("wanekupo.standby", "wanekupo.plant"):
+    for found in pkgutil.walk_packages(importlib.import_module(name).__path__, f"{name}."):
+        importlib.import_module(found.name)
 for module in list(sys.modules.values()):
     print(getattr(module, "__cached__", None) or "")
     print(getattr(module, "__file__", None) or "")
@@ -110,9 +118,8 @@ def libraries_of(program: Path) -> set[Path]:
 
 def python_files() -> set[Path]:
     """The files of Python's modules that the scripts need, and all encodings of its start."""
-    where = f"PYTHONPATH={ROOT}/deploy:{DEPLOYED}:{ROOT}/python"
-    words = ["env", where, "/usr/bin/python3.11", "-B", "-S", "-c", IMPORTED, str(ROOT / "deploy"), str(DEPLOYED)]
-    found = {Path(line) for line in said_by(*words).split("\n") if line.startswith("/usr/lib")}
+    said = said_by("/usr/bin/python3.11", "-B", "-S", "-c", IMPORTED, folder=PROJECT)
+    found = {Path(line) for line in said.split("\n") if line.startswith("/usr/lib")}
     return found | {path for path in Path("/usr/lib/python3.11/encodings").glob("*.py")}
 
 
@@ -132,6 +139,11 @@ class Image:
         to.parent.mkdir(parents=True, exist_ok=True)
         shutil.copy2(source, to)
         to.chmod(mode)
+
+    def write(self, place: str, text: str) -> None:
+        """A command."""
+        (self.tree / place).write_text(text, encoding="ascii")
+        (self.tree / place).chmod(0o755)
 
     def put_program(self, source: Path, place: str) -> None:
         self.put(source, place)
@@ -167,11 +179,13 @@ class Image:
 
     def put_scripts(self) -> None:
         """The scripts that a plant installs, as they are, and the few that stand for a whole Debian."""
-        for path in DEPLOYED.iterdir() if DEPLOYED.is_dir() else ():
-            if path.is_file():
-                self.put(path, f"usr/share/wanekupo/standby/{path.name}", 0o755 if os.access(path, os.X_OK) else 0o644)
-        for name in SHARED:
-            self.put(ROOT / "deploy" / name, f"usr/share/wanekupo/{name}")
+        for path in (PROJECT / "wanekupo").rglob("*.py"):
+            self.put(path, f"{PACKAGE}/{path.relative_to(PROJECT)}", 0o644)
+        scripts = tomllib.loads((PROJECT / "pyproject.toml").read_text(encoding="utf-8"))["project"]["scripts"]
+        for name, (module, _, call) in ((name, goal.partition(":")) for name, goal in scripts.items()):
+            self.write(f"usr/sbin/{name}", COMMAND.format(module, call, call))
+        for place, words in CALLS.items():
+            self.write(f"usr/share/wanekupo/{place}", f'#!/bin/sh\nexec /usr/sbin/{words} "$@"\n')
         for path in HERE.rglob("*"):
             if path.is_file():
                 place = str(path.relative_to(HERE))

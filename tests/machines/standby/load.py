@@ -2,7 +2,6 @@
 
 import hashlib
 import random
-import sys
 import threading
 import time
 from collections.abc import Iterable, Iterator
@@ -11,13 +10,10 @@ from typing import Any
 
 from common.registrations import MAP, blocks_of, key_of
 
-ROOT = Path(__file__).resolve().parent.parent.parent
-sys.path.insert(0, str(ROOT / "python"))
-
-from wanekupo.common.errors import Refused  # noqa: E402
-from wanekupo.seat.journal import Journal  # noqa: E402
-from wanekupo.seat.station import Station  # noqa: E402
-from wanekupo.cli.witness import acknowledged  # noqa: E402
+from wanekupo.common.errors import Refused
+from wanekupo.seat.journal import Journal
+from wanekupo.seat.station import Station
+from wanekupo.cli.witness import acknowledged
 
 CUSTOMERS, SEATS = 2, 2
 DIGEST = hashlib.sha256(MAP.encode()).hexdigest()

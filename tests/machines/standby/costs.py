@@ -7,10 +7,10 @@ from collections.abc import Iterator
 
 from common.served import Server, station
 
-from standby_place.load import Line
-from standby_place.network import Address, free_ports
-from standby_place.pair import MAKE_STORE, SEEN, UP
-from standby_place.place import ANSWERS, BEHIND, Place, back
+from machines.standby.load import Line
+from machines.standby.network import Address, free_ports
+from machines.standby.pair import MAKE_STORE, SEEN, UP
+from machines.standby.place import ANSWERS, BEHIND, Place, back
 
 # How long requests are counted in each place.
 COST = 40

@@ -4,8 +4,8 @@ import contextlib
 import socket
 import threading
 
-from standby_place.guests import Guest
-from standby_place.pair import Pair
+from machines.standby.guests import Guest
+from machines.standby.pair import Pair
 
 SETTINGS = "/etc/station/standby.toml"
 

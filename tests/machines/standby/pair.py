@@ -11,10 +11,10 @@ from pathlib import Path
 
 from common.goals import tell
 
-from standby_place.guests import Guest, SilentGuest
-from standby_place.image import DEPLOYED, Edit, Image, Packages
-from standby_place.load import site_text
-from standby_place.network import Address, Cable, free_ports
+from machines.standby.guests import Guest, SilentGuest
+from machines.standby.image import DEPLOYED, Edit, Image, Packages
+from machines.standby.load import site_text
+from machines.standby.network import Address, Cable, free_ports
 
 PLACES = {"alpha": "192.0.2.1", "beta": "192.0.2.2"}
 SCRIPTS = "/usr/share/wanekupo/standby"

@@ -3,8 +3,8 @@ machine and both halves equal, and ends so again; the stations ask all the time.
 
 import time
 
-from standby_place.pair import JOINED, SEEN, UP
-from standby_place.place import (
+from machines.standby.pair import JOINED, SEEN, UP
+from machines.standby.place import (
     ANSWERS,
     BEHIND,
     DISK_FAILS,

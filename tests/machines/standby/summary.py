@@ -3,8 +3,8 @@
 import statistics
 from collections.abc import Iterable
 
-from standby_place.place import Cut
-from standby_place.runs import Run
+from machines.standby.place import Cut
+from machines.standby.runs import Run
 
 COLUMNS = ["Times", "Replies", "Serials", "Refused", "Seen", "`takeover`", "Processor", "Reply"]
 HEAD = f"| What befell | {' | '.join(COLUMNS)} |\n|---|{len(COLUMNS) * '---:|'}"

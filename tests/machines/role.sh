@@ -13,7 +13,7 @@
 # such a system, so units are enabled, and not started; a network namespace keeps the ports to itself. The status is 1
 # where anything is otherwise.
 set -euo pipefail
-top=$(cd "$(dirname "$0")/.." && pwd)
+top=$(cd "$(dirname "$0")/../.." && pwd)
 program=$top/crates/station/out/station base='' is_prepared=
 while [ $# -gt 0 ]; do
     case $1 in

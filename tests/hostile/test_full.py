@@ -1,59 +1,33 @@
-#!/usr/bin/env python3
-"""A store that one seat's imports fill until its file may not grow any more, for `hostile`.
-
-    hostile_full.py --program P --port N       what `hostile --only full` runs, in a mount namespace of its own
+"""A store that one seat's imports fill until its file may not grow any more.
 
 There are four ways to bound the file: a limit of its size (`ulimit -f`) where SIGXFSZ is ignored, and with the signal
 as it is; a file system of its own, ext4 in a file; and one in memory. Each is filled, asked and started again; then it
-is made larger, and the request that was refused is sent again. Each step is a line, and where something else came than
-what was expected that is told, and the status is 1. What stands in the stopped store at the end SQLite counts: each row
-of each import that was accepted is there once, and nothing else.
+is made larger, and the request that was refused is sent again. What stands in the stopped store at the end SQLite
+counts: each row of each import that was accepted is there once, and nothing else.
 """
 
-import argparse
-import http.client
 import os
 import signal
 import subprocess
-import sys
 import tempfile
-import time
 from pathlib import Path
 
-from hostile_floods import ROWS, import_of
-from hostile_place import HONEST, SEATS, site_text
+import pytest
+
+from common.deployed import expect
+from common.ports import free_port
 from common.served import Caller, Server, station
+from hostile.floods import ROWS, import_of
+from hostile.place import HONEST, SEATS, site_text
+
+pytestmark = [pytest.mark.root, pytest.mark.needs("sqlite3", "mkfs.ext4", "resize2fs")]
 
 SMALL, LARGE = 8 << 20, 16 << 20
-MIB = 1 << 20
 UNKEPT = (503, b'{"error":"unkept","no":50}')
 
 # How a shell tells that a signal ended a program: 128 and its number, which is 25 of SIGXFSZ on Linux.
 KILLED = 153
 ENDED = "Terminated"
-
-
-class Unexpected(Exception):
-    """Something else came than what was expected."""
-
-
-class Steps:
-    """The lines of one way."""
-
-    def __init__(self, name):
-        self.name = name
-        print(f"full: {name}", flush=True)
-
-    def expect(self, what, got, wanted):
-        """A line, and the end of this way where something else came."""
-        parts = got if isinstance(got, tuple) else (got,)
-        shown = " ".join(it.decode()[:60] if isinstance(it, bytes) else str(it) for it in parts)
-        print(f"    {what}: {shown}{'' if got == wanted else f', and not {wanted}'}", flush=True)
-        if got != wanted:
-            raise Unexpected(what)
-
-    def tell(self, what):
-        print(f"    {what}", flush=True)
 
 
 class Limited:
@@ -113,18 +87,16 @@ class Mounted:
 class Books:
     """A store of the sample's two customers, by one of the ways, and the server over it."""
 
-    def __init__(self, args, way, steps):
-        self.way, self.port, self.program, self.steps = way, args.port + 1, args.program, steps
+    def __init__(self, program, way):
+        self.way, self.port, self.program = way, free_port(), str(program)
         self.tokens = {name: f"token-{name}" for name in [*SEATS, HONEST, "manager"]}
         self.site, self.db = way.folder / "site.toml", way.folder / "books.db"
         self.site.write_text(site_text(self.tokens), encoding="utf-8")
         self.server, self.number, self.rows, self.honest = None, 1, 0, 1
 
     def start(self):
-        began = time.monotonic()
         words = self.way.command(station(self.program, str(self.site), str(self.db), self.port))
         self.server = Server(words, self.port).wait(Server.is_answering)
-        return time.monotonic() - began
 
     def stop(self):
         """Stops it as systemd does, and says with which signal it ended."""
@@ -171,9 +143,6 @@ class Books:
         members = {"name": "h1", "issuer": "bolt-ca", "prefix": "H", "width": 3, "first": 1}
         return self.ask(HONEST, "POST", "/v1/order", {"nr": self.honest, **members, "quantity": 9, "macs": 0})
 
-    def sizes(self):
-        return " and ".join(f"{path.stat().st_size / MIB:.1f} MiB" for path in (self.db, Path(f"{self.db}-wal")))
-
     def shown(self):
         """What only shows: an order that isn't there, each customer's report and the site's."""
         asked = [(HONEST, "/v1/order?name=none"), (SEATS[0], "/v1/report"), (HONEST, "/v1/report")]
@@ -190,63 +159,55 @@ class Books:
             return tuple(subprocess.run(words, capture_output=True, text=True).stdout.split())
 
 
-def filled(books, steps):
+def filled(books):
     """Fills the store, and asks it."""
     books.start()
-    steps.expect("the first import that is refused", books.fill(), UNKEPT)
-    steps.tell(f"{books.rows} rows were imported; file and log have {books.sizes()}")
-    steps.expect("the same again", books.refused_import(), UNKEPT)
-    steps.expect("another customer's order", books.order(), UNKEPT)
-    steps.expect("what only shows, by three seats", books.shown(), (404, 200, 200, 200))
-    steps.expect("the server runs", books.server.process.poll(), None)
+    expect("the first import that is refused", books.fill(), UNKEPT)
+    expect("the same again", books.refused_import(), UNKEPT)
+    expect("another customer's order", books.order(), UNKEPT)
+    expect("what only shows, by three seats", books.shown(), (404, 200, 200, 200))
+    expect("the server runs", books.server.process.poll(), None)
 
 
-def started_again(books, steps):
+def started_again(books):
     """Another start over it, which is full still."""
-    steps.expect("stopped by SIGTERM", books.stop(), ENDED)
-    steps.tell(f"the unit's run behind a stop ends with {books.join()}; file and log have {books.sizes()}")
-    steps.tell(f"a start over it answers after {books.start():.1f} s")
-    steps.expect("what only shows", books.shown(), (404, 200, 200, 200))
-    before, reply = books.rows, books.fill()
-    steps.tell(f"{books.rows - before} rows more were imported; file and log have {books.sizes()}")
-    steps.expect("and then the import is refused", reply, UNKEPT)
-    steps.expect("stopped by SIGTERM", books.stop(), ENDED)
+    expect("stopped by SIGTERM", books.stop(), ENDED)
+    books.join()
+    books.start()
+    expect("what only shows", books.shown(), (404, 200, 200, 200))
+    expect("and then the import is refused", books.fill(), UNKEPT)
+    expect("stopped by SIGTERM", books.stop(), ENDED)
 
 
-def goes_on(books, steps):
+def goes_on(books):
     """With more room the request that was refused is done, once."""
     books.way.enlarge()
-    steps.tell(f"with {LARGE // MIB} MiB a start answers after {books.start():.1f} s")
+    books.start()
     number, first = books.number, books.rows + 1
     reply = books.refused_import()
-    steps.expect("the import that was refused", reply, (200, b'{"added":%d,"present":0}' % ROWS))
-    steps.expect("it was accepted", books.accepted(reply), True)
+    expect("the import that was refused", reply, (200, b'{"added":%d,"present":0}' % ROWS))
+    expect("it was accepted", books.accepted(reply), True)
     again = books.ask(SEATS[0], "POST", "/v1/import", {"nr": number, **import_of(first)})
-    steps.expect("sent once more it gets the same reply", again == reply, True)
-    steps.expect("another customer's order", books.order()[0], 200)
-    steps.expect("stopped by SIGTERM", books.stop(), ENDED)
+    expect("sent once more it gets the same reply", again == reply, True)
+    expect("another customer's order", books.order()[0], 200)
+    expect("stopped by SIGTERM", books.stop(), ENDED)
     wanted = (f"{books.rows}|{books.rows}", "ok")
-    steps.expect("rows and different ones, and what SQLite finds", books.counted(), wanted)
+    expect("rows and different ones, and what SQLite finds", books.counted(), wanted)
 
 
-def killed(books, steps):
+def killed(books):
     """With the signal as it is the kernel ends the server at the write that goes over the limit."""
     books.start()
-    try:
+    with pytest.raises(OSError):
         books.fill()
-    except OSError as error:
-        steps.tell(f"the import that goes over the limit gets no reply: {error!r}")
     status, books.server = books.server.process.wait(10), None
-    steps.expect("the server's status, as a shell tells it", 128 - status if status < 0 else status, KILLED)
-    steps.tell(f"{books.rows} rows were imported; file and log have {books.sizes()}")
-    steps.tell(f"a start over it answers after {books.start():.1f} s")
-    steps.expect("what only shows", books.shown(), (404, 200, 200, 200))
-    try:
+    expect("the server's status, as a shell tells it", 128 - status if status < 0 else status, KILLED)
+    books.start()
+    expect("what only shows", books.shown(), (404, 200, 200, 200))
+    with pytest.raises(OSError):
         books.fill()
-    except OSError as error:
-        steps.tell(f"and the import ends it again: {error!r}")
     status, books.server = books.server.process.wait(10), None
-    steps.expect("its status", 128 - status if status < 0 else status, KILLED)
+    expect("its status", 128 - status if status < 0 else status, KILLED)
 
 
 WAYS = {
@@ -257,44 +218,16 @@ WAYS = {
 }
 
 
-def tried_way(args, name):
-    """Goes through the steps of one way, and says whether all was as expected."""
-    kind, words, parts = WAYS[name]
-    steps = Steps(name)
-    with tempfile.TemporaryDirectory(dir=args.folder) as folder:
-        try:
-            way = kind(folder, *words)
-        except subprocess.CalledProcessError as error:
-            steps.tell(f"left out, as this machine doesn't let it be mounted: {error.stderr.decode().strip()}")
-            return True
-        books = Books(args, way, steps)
-        try:
-            for part in parts:
-                part(books, steps)
-            return True
-        except (Unexpected, OSError, http.client.HTTPException, subprocess.SubprocessError) as error:
-            steps.tell(f"FAILED: {error!r}")
-            return False
-        finally:
-            books.close()
-            way.close()
-
-
-def tried(args):
-    """All ways, in a mount namespace of their own, where it can be had."""
-    words = [sys.executable, os.path.abspath(__file__), "--program", args.program, "--port", str(args.port)]
-    words += ["--folder", args.folder] if args.folder else []
-    return subprocess.run(["unshare", "-m", "--propagation", "private", *words], timeout=1200).returncode == 0
-
-
-def main():
-    parser = argparse.ArgumentParser(description="A store that is filled until its file may not grow.")
-    parser.add_argument("--program", required=True, help="the built program")
-    parser.add_argument("--port", type=int, default=19200, help="the port below that of the program")
-    parser.add_argument("--folder", help="where the stores lie")
-    args = parser.parse_args()
-    return 0 if all([tried_way(args, name) for name in WAYS]) else 1
-
-
-if __name__ == "__main__":
-    sys.exit(main())
+@pytest.mark.parametrize(("kind", "words", "parts"), WAYS.values(), ids=WAYS)
+def test_full(program, open_folder, kind, words, parts):
+    try:
+        way = kind(open_folder, *words)
+    except subprocess.CalledProcessError as error:
+        pytest.skip(f"this machine doesn't let it be mounted: {error.stderr.decode().strip()}")
+    books = Books(program, way)
+    try:
+        for part in parts:
+            part(books)
+    finally:
+        books.close()
+        way.close()

@@ -11,9 +11,9 @@ from typing import Any
 from common.goals import tell
 from common.served import Caller
 
-from standby_place.guests import Guest
-from standby_place.load import Asking, Line
-from standby_place.pair import SEEN, UP, Pair, disk_of_zeros
+from machines.standby.guests import Guest
+from machines.standby.load import Asking, Line
+from machines.standby.pair import SEEN, UP, Pair, disk_of_zeros
 
 # How many replies come before something happens, and behind it.
 BEFORE, BEHIND = (5, 40), 12

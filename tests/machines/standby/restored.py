@@ -6,16 +6,13 @@ import tarfile
 import time
 from pathlib import Path
 
-from standby_place.books import given_twice
-from standby_place.guests import SilentGuest
-from standby_place.load import CUSTOMERS, WORK, Asking, Line, token_of
-from standby_place.pair import SEEN
-from standby_place.place import ANSWERS, BEHIND, Place, is_alone, new_disk
-from standby_place.scenarios import OLDER
+from machines.standby.books import given_twice
+from machines.standby.guests import SilentGuest
+from machines.standby.load import CUSTOMERS, WORK, Asking, Line, token_of
+from machines.standby.pair import SEEN
+from machines.standby.place import ANSWERS, BEHIND, Place, is_alone, new_disk
+from machines.standby.scenarios import OLDER
 
-ROOT = Path(__file__).resolve().parents[2]
-# What a guest hasn't that a restore needs, beside the client's package.
-TOOLS = ("backup", "restore", *(path.name for path in (ROOT / "deploy").glob("*.py")))
 # What the page has the operator type, each command by itself.
 DISTRUST = " ".join(f"--distrust-lost c{customer}" for customer in range(CUSTOMERS))
 TYPED = f"""
@@ -58,7 +55,7 @@ def newer_half_lost(place: Place) -> None:
 
 
 def stick(place: Place) -> None:
-    """What the operator brings on a stick: the journals, the tokens, and the programs that this guest hasn't."""
+    """What the operator brings on a stick: the journals and the tokens."""
     data = io.BytesIO()
     with tarfile.open(fileobj=data, mode="w") as tar:
         texts = {"journals.toml": "[folders]\n"}
@@ -70,14 +67,8 @@ def stick(place: Place) -> None:
             found = tarfile.TarInfo(f"run/stick/{name}")
             found.size, found.mode = len(text), 0o600
             tar.addfile(found, io.BytesIO(text.encode()))
-        for name in TOOLS:
-            tar.add(ROOT / "deploy" / name, f"usr/share/wanekupo/{name}")
-        package = ROOT / "python"
-        for path in (package / "wanekupo").rglob("*.py"):
-            tar.add(path, f"usr/lib/python3/dist-packages/{path.relative_to(package)}")
     place.second.stick.write_bytes(data.getvalue())
     place.second.ask("cd / && timeout 120 nc 10.0.2.100 10 < /dev/null > /run/stick.tar; tar xf /run/stick.tar", 200)
-    place.second.ask("chown -R root:root /usr/lib/python3/dist-packages /usr/share/wanekupo", 60)
     place.second.ask("chown -R station:station /run/stick && chown root:root /run/stick/journals.toml")
     place.second.ask("mkdir -p /var/backups/station")
     place.second.ask("chown station:station /var/backups/station && chmod 700 /var/backups/station")
