@@ -1,5 +1,5 @@
-"""docs/openapi.yaml as test_openapi.py holds requests and replies to it: a validator for each of its schemas, and what of the
-description contradicts itself."""
+"""docs/openapi.yaml as test_openapi.py holds requests and replies to it: a validator for each of its schemas, and what
+of the description contradicts itself."""
 
 import contextlib
 import csv

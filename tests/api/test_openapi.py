@@ -1,5 +1,5 @@
-"""Holds docs/openapi.yaml, and its twin by OpenAPI 3.0.3 (tools/openapi30), to the built program: every request and every
-reply of docs/tutorial/first-chip.md, of the tests' conversations and of random requests over a running server.
+"""Holds docs/openapi.yaml, and its twin by OpenAPI 3.0.3 (tools/openapi30), to the built program: every request and
+every reply of docs/tutorial/first-chip.md, of the tests' conversations and of random requests over a running server.
 
 A request is one that the description has exactly where the server answers neither 7 (no such path or method) nor 9 nor
 10 (the body or the parameter has another form); a reply has to be of the form that the description has for its path,

@@ -18,7 +18,8 @@ from pathlib import Path
 
 import pytest
 
-from common.chip import MAP, ROOT, SITE, body_of, empty_page, get, replies_in, requests, rows_of, status_of, without_release
+from common.chip import MAP, ROOT, SITE, body_of, empty_page, get, replies_in, requests, rows_of, status_of
+from common.chip import without_release
 from common.ports import HOST, free_port
 from common.served import Caller
 

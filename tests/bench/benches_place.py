@@ -73,7 +73,7 @@ def stray_of(family):
 
 
 class Plant:
-    """A folder with a server, two orders, so many chips, simulated ones or espefuse's, and what befalls each of them."""
+    """A folder with a server, two orders, so many chips, simulated ones or espefuse's, and what befalls each."""
 
     def __init__(self, folder, size, seed, espefuse=None):
         self.folder, self.size, self.espefuse, self.chance = folder, size, espefuse, random.Random(seed)

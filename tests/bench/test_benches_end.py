@@ -82,7 +82,7 @@ def expect_same(what, *found):
 
 
 def test_chips(plant, found):
-    """What became of each chip, beside what it shows. Those that were burnt in vain, and those registered so, are told."""
+    """What became of each chip, beside what it shows. Those that were registered in vain are told."""
     burnt, registered = [], []
     for mac in plant.macs:
         device = plant.asked(mac)
@@ -95,8 +95,8 @@ def test_chips(plant, found):
         else:
             expect_same(f"the state of {mac}, {kind}", state, "scrapped" if kind in OWN else "shipped")
         expect_same(f"{mac} is burnt and has no number", mac in burnt, False)
-    kind, said = "espefuse's virtual" if plant.espefuse else "simulated", sum((it.said for it in plant.benches), Counter())
-    found(f"stays: {told_of(said)}")
+    kind = "espefuse's virtual" if plant.espefuse else "simulated"
+    found(f"stays: {told_of(sum((it.said for it in plant.benches), Counter()))}")
     found(f"{len(plant.macs)} {kind} chips of {len(FAMILIES)} families, {sum(it.kills for it in plant.benches)} kills; "
           f"{len(burnt)} burnt in vain, {len(registered)} registered in vain")  # fmt: skip
 

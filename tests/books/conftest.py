@@ -11,8 +11,8 @@ from common.ports import free_port
 
 @pytest.fixture(scope="module")
 def made(program, tmp_path_factory) -> Iterator[Plant]:
-    """The plant, which is served. In its folder are the journals of acme and bolt; of its store a copy from the middle of
-    the morning in `early`, one from its end in `copy`, and a seal of that in `plant`."""
+    """The plant, which is served. In its folder are the journals of acme and bolt; of its store a copy from the middle
+    of the morning in `early`, one from its end in `copy`, and a seal of that in `plant`."""
     folder = tmp_path_factory.mktemp("morning")
     with plant(str(program), folder, free_port()) as made:
         work(made, lambda: made.copied("early"))

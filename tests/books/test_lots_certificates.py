@@ -206,7 +206,7 @@ def seen_in_arguments(secret, is_over):
 
 
 def test_clouds(lot):
-    """Files for clouds of an order: where the spool has all of its devices in use they have each, else none are made."""
+    """Files for clouds of an order: where the spool has all of its devices in use they have each, else none is made."""
     more = ["--spool", lot.spool, "--aws", "aws.jsonl", "--azure", "azure.jsonl", "--out", "joined.csv"]
     status, _, told, _ = lot.place.ran("a1", "manifest", "o1", *more)
     if lot.in_use != lot.certified:

@@ -1,6 +1,6 @@
-"""Seals: killed before each call that the outside sees, made while a station works, signed by minisign and time-stamped by
-a service of `openssl ts`, by a customer's engineer through nginx, and over 10,000 devices; and chains that somebody made
-who has the seals' keys."""
+"""Seals: killed before each call that the outside sees, made while a station works, signed by minisign and time-stamped
+by a service of `openssl ts`, by a customer's engineer through nginx, and over 10,000 devices; and chains that somebody
+made who has the seals' keys."""
 
 import os
 import shutil
@@ -202,7 +202,8 @@ def test_signatures_and_stamps(keys, stamped):
     plain = ["minisign", "-V", "-q", "-p", keys / "own.pub", "-m", stamped / "000002.seal"]
     assert subprocess.run(plain, capture_output=True).returncode == 0, "by minisign itself"
     digest = (stamped / "chain").read_text().split()[-1]
-    plain = ["openssl", "ts", "-verify", "-digest", digest, "-in", stamped / "000002.tsr", "-CAfile", keys / "tsa-ca.pem"]
+    plain = ["openssl", "ts", "-verify", "-digest", digest, "-in", stamped / "000002.tsr"]
+    plain += ["-CAfile", keys / "tsa-ca.pem"]
     assert subprocess.run(plain, capture_output=True).returncode == 0, "by openssl itself"
 
 

@@ -1,13 +1,13 @@
 """clients/web/yield.html in a browser: through nginx, as deploy/nginx.conf has it, over a running server.
 
-    tests/all books/test_yield_page.py --write     puts the policy's SHA-256 into deploy/nginx.conf, and the picture of an
-                                                   open bar into docs/pictures, after a change of the page
+    tests/all books/test_yield_page.py --write     puts the policy's SHA-256 into deploy/nginx.conf, and the picture
+                                                   of an open bar into docs/pictures, after a change of the page
 
 With no order, one and 300; a wrong token; the manager's; a server that answers 503, none at all; and a report whose
 names would be markup elsewhere. Bars are opened into their chips, by the keyboard and by a click, over several pages
 of devices. The page's sentence, its yields and the looks of its states are those of wanekupo.books.yields. Tokens are
-outer ones that look. What the page shows is read in the browser, and the policy must have kept nothing of the page's own
-back.
+outer ones that look. What the page shows is read in the browser, and the policy must have kept nothing of the page's
+own back.
 """
 
 import base64

@@ -1,8 +1,8 @@
 """The commands of a page of docs, run in one bash after another, and their replies beside the page's.
 
-A page's commands stand in blocks of ```console, each behind `$ `, its further lines behind `> `, and its reply below it.
-They run in a new folder in which `crates`, `clients`, `deploy` and `python` are those of the repository and `station` is
-the program.
+A page's commands stand in blocks of ```console, each behind `$ `, its further lines behind `> `, and its reply below
+it. They run in a new folder in which `crates`, `clients`, `deploy` and `python` are those of the repository and
+`station` is the program.
 """
 
 import os

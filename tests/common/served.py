@@ -1,4 +1,4 @@
-"""A server on a port of this machine, and the requests of a seat over HTTP, for what is tried and measured over a port."""
+"""A server on a port of this machine, and the requests of a seat over HTTP."""
 
 import contextlib
 import glob

@@ -31,7 +31,8 @@ HEAD = re.compile(rb"HTTP/1\.1 (200|4\d\d|503) [A-Za-z ]+\r\n%b*?Content-Length:
 
 def made_by():
     """The requests that make the store."""
-    order = {"nr": 1, "name": "o1", "issuer": "acme-ca", "prefix": "A", "width": 3, "first": 998, "quantity": 2, "macs": 0}
+    order = {"nr": 1, "name": "o1", "issuer": "acme-ca", "prefix": "A", "width": 3, "first": 998}
+    order |= {"quantity": 2, "macs": 0}
     blocks = [["00000000"] * words for words in (7, 8, 8, 8)]
     digest = hashlib.sha256(MAP.encode()).hexdigest()
     device = {"nr": 3, "chip": CHIP, "order": "o1", "map": digest, "blocks": blocks}

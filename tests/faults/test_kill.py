@@ -328,7 +328,7 @@ def counts_of(stations, shown):
 
 @pytest.mark.sizes(4, 200)
 def test_kills(program, tmp_path, port, size, seed, is_written):
-    """`lost` are requests whose reply came and that the books don't have; `twice` those that they have more than once."""
+    """`lost` are requests whose reply came and that the books don't have; `twice` those that they have too often."""
     site, db, calm_db = (str(tmp_path / name) for name in ("site.toml", "killed.db", "calm.db"))
     (tmp_path / "site.toml").write_text(site_text(), encoding="utf-8")
     run = Run(station(program, site, db, port), port)

@@ -448,7 +448,7 @@ def test_cuts(program, folder, tmp_path, size, seed, is_written):
 
 
 def test_a_disk_that_lies_is_found(program, folder, tmp_path, seed):
-    """Where no sync of a file counts, each write since the start may be lost: wrong books have to be found, older ones or
-    others. Where the program refuses what is left that counts for nothing."""
+    """Where no sync of a file counts, each write since the start may be lost: wrong books have to be found, older ones
+    or others. Where the program refuses what is left that counts for nothing."""
     _, wrong = cut_all(Bench(program, folder, seed, tmp_path, are_syncs_ignored=True), 60)
     assert [what for kind, what in wrong if kind.endswith("books")]

@@ -374,7 +374,8 @@ class Bench:
             return outcome if calls_in(folder) >= number else None
 
     def sweep(self, name, every, attempt, has_tables, first=1):
-        """Refuses each call from the first on, or one in so many, until no run of some makes it any more. How many it were."""
+        """Refuses each call from the first on, or one in so many, until no run of some makes it any more. Returns how
+        many were refused."""
         outcomes = collections.Counter()
         with concurrent.futures.ThreadPoolExecutor(self.jobs) as pool:
             for start in itertools.count(first, SOME * every):
