@@ -24,7 +24,7 @@ from common.ports import HOST, free_port
 from common.served import Caller
 
 UNIT = ROOT / "deploy/station.service"
-SECONDS = 60
+SECONDS = 600
 THOUSANDS = 5000
 
 # The rows of an import, and a bound that the store's file meets, as the log beside it is joined at a thousand pages.

@@ -92,7 +92,7 @@ class Plant:
         for file in self.folder.glob("books.db*"):
             shutil.copy(file, copy)
         words = [self.program, "replay", "--site", self.site, "--db", str(copy / "books.db"), "--existing"]
-        with Program(words, 60) as it:
+        with Program(words, 600) as it:
             it.end()
         self.server = Server(station(self.program, self.site, str(self.folder / "books.db"), self.port), self.port)
         self.server.wait(Server.is_answering)

@@ -16,7 +16,7 @@ def test_forged(made, folder, tmp_path, it):
     """By a seal of before, and by an audit."""
     store = forge(it, folder, tmp_path)
     words = [made.program, "replay", "--site", made.site, "--db", store, "--existing"]
-    opened = subprocess.run(words, stdin=subprocess.DEVNULL, capture_output=True, timeout=60)
+    opened = subprocess.run(words, stdin=subprocess.DEVNULL, capture_output=True, timeout=600)
     assert (not opened.returncode) == it.opens
     expect_said(run("seal", "--verify", folder / "plant/000001.rows", store), it.seal)
     period = ["--from", it.period[0], "--to", it.period[1]]

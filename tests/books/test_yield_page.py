@@ -53,7 +53,7 @@ meter-2026-42,200,12,6,1,9,140,2,0,51
 probe-2026-42,50,0,0,0,0,0,0,0,50
 """,
 }
-SECONDS = 30
+SECONDS = 600
 
 # How a seat of acme asks the server itself; and what lets the browser take the proxy's own certificate.
 OWN = {"Authorization": "Bearer abc"}

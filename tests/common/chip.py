@@ -154,7 +154,7 @@ def replay_words(program, db=None, site=SITE):
     return [str(program), "replay", "--site", str(site), *(["--db", str(db)] if db else [])]
 
 
-def served(words, stream, seconds=60):
+def served(words, stream, seconds=600):
     """The replies of a run that has to end well and to write nothing else."""
     try:
         done = subprocess.run(words, input=stream, capture_output=True, timeout=seconds, check=False)

@@ -53,7 +53,7 @@ def certify(folder, days="2", name="localhost", names="DNS:localhost"):
 
 def ran(words, folder=None, **named):
     return subprocess.run(
-        [str(word) for word in words], cwd=folder, capture_output=True, text=True, check=False, timeout=60, **named
+        [str(word) for word in words], cwd=folder, capture_output=True, text=True, check=False, timeout=600, **named
     )
 
 

@@ -18,7 +18,7 @@ from common.needs import ROOT
 
 FOLDERS = ["crates", "clients", "python"]
 PORT, PORTS = 8080, 4
-SECONDS = 120
+SECONDS = 600
 BLOCK = re.compile(r"^```console\n(.*?)^```$", re.MULTILINE | re.DOTALL)
 MARK = "end of the walk's command"
 

@@ -50,7 +50,7 @@ class Server:
         finally:
             connection.close()
 
-    def wait(self, is_ready, seconds=60):
+    def wait(self, is_ready, seconds=600):
         """Waits until the server is ready."""
         end = time.monotonic() + seconds
         while not is_ready(self):

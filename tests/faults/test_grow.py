@@ -66,7 +66,7 @@ class Bench:
 
     def refused(self, path, text):
         """The line with which the program ends, before it replied to anything."""
-        done = subprocess.run(self.words(path, text), input=self.stream, capture_output=True, timeout=60, check=False)
+        done = subprocess.run(self.words(path, text), input=self.stream, capture_output=True, timeout=600, check=False)
         if done.returncode != 1 or done.stdout:
             raise Failed(f"status {done.returncode} and {done.stdout[:60]!r}, {done.stderr[:60]!r}")
         return done.stderr.decode()

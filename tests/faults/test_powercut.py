@@ -53,7 +53,7 @@ pytestmark = pytest.mark.needs("strace")
 # The stores are made in memory where there is such a disk; a run may take so many seconds; and of so many of the cuts
 # there is another behind it.
 MEMORY = Path("/dev/shm")
-SECONDS, SHARE = 60, 0.3
+SECONDS, SHARE = 600, 0.3
 SECTOR = 512
 FILES = ("file", "log", "new")
 

@@ -68,7 +68,7 @@ pytestmark = pytest.mark.needs("gcc", "strace")
 # The stores are made in memory where there is such a disk; a run may take so many seconds; where it is to be short one
 # call in so many is refused.
 MEMORY = Path("/dev/shm")
-SECONDS, FEW = 60, 97
+SECONDS, FEW = 600, 97
 MAP_LINE = b"ok esp32-sample 4 7\n"
 GROWN = '[[customer]]\nname = "cord"\nissuer = ["cord-ca"]\n'
 

@@ -29,7 +29,7 @@ from common.pages import BLOCK, ROOT, steps_of, unsafe_lines, without_packages
 
 PAGES = ROOT / "docs"
 BACKUP = ROOT / "python/bin/station-backup"
-SECONDS = 30
+SECONDS = 600
 NEEDED = pytest.mark.needs("reader", "bash", "sqlite3", "xxd")
 RUN = "sqlite3 -safe -readonly"
 
