@@ -44,12 +44,19 @@ def pytest_configure(config: pytest.Config) -> None:
 def pytest_generate_tests(metafunc: pytest.Metafunc) -> None:
     """A test with `sizes` is run with each of its sizes, or with that of --size alone."""
     marker, chosen = metafunc.definition.get_closest_marker("sizes"), metafunc.config.option.size
-    if marker and chosen is None:
+    if not marker or "size" not in metafunc.fixturenames:
+        return
+    if chosen is None:
         short, *long = marker.args
         sizes = [short, *(pytest.param(it, marks=pytest.mark.slow) for it in long)]
         metafunc.parametrize("size", sizes, scope="module")
-    elif marker:
+    else:
         metafunc.parametrize("size", [chosen], scope="module")
+
+
+def pytest_collection_finish() -> None:
+    """A module of python/tests/client takes the modes of files away for all; a test that wants that says so."""
+    os.umask(0o022)
 
 
 def pytest_runtest_setup(item: pytest.Item) -> None:

@@ -9,7 +9,6 @@ import shlex
 import sys
 from collections import Counter
 from concurrent.futures import ThreadPoolExecutor
-from pathlib import Path
 
 from common.needs import ROOT
 from running import Running, script, toml

@@ -70,8 +70,7 @@ class Bench:
         """The bytes of the closed store, and of the file and log of the open one."""
         closed, copied = self.folder / "closed.db", self.folder / "open.db"
         status, output, _ = self.replay(closed, b"".join(made_by()))
-        if (status, replies_in(output)) != (0, 3):
-            sys.exit("damage: no store is made")
+        assert (status, replies_in(output)) == (0, 3), "no store is made"
         with subprocess.Popen([*self.line, str(copied)], stdin=subprocess.PIPE, stdout=subprocess.PIPE) as program:
             for one in made_by():
                 program.stdin.write(one)

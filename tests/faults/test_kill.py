@@ -339,7 +339,7 @@ def test_kills(program, tmp_path, port, size, seed, is_written):
     faults += [fault for each in stations for fault in each.faults]
     faults += differences(stations, (shown, tables(db)), (others, tables(calm_db)))
     assert (faults[:20], counts["lost"], counts["twice"]) == ([], 0, 0)
-    assert counts["serials"] and counts["refused"]
+    assert counts["requests"] and counts["repeated"]
     line = (
         f"{size} kills, {counts['requests']} requests ({counts['refused']} refused), "
         f"{counts['repeated']} without a reply and repeated, {counts['done']} of them done before the kill; "

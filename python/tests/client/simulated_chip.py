@@ -33,8 +33,8 @@ import tempfile
 import types
 from pathlib import Path
 
-MAPS = Path(__file__).resolve().parents[3] / "maps"
-MAP = MAPS / "esp32.toml"
+FAMILIES = Path(__file__).resolve().parents[2] / "wanekupo/chips/families"
+MAP = FAMILIES / "esp32/map.toml"
 WORDS = [7, 8, 8, 8]
 NEWER = ("esp32s2", "esp32s3", "esp32c3", "esp32c6", "esp32h2", "esp32p4")
 
@@ -105,7 +105,7 @@ class SimulatedChip:
             os.replace(f"{self.file}.new", self.file)
 
     def fields(self):
-        return [field for field in map_fields(MAPS / f"{self.family}.toml") if field["block"] == 0]
+        return [field for field in map_fields(FAMILIES / self.family / "map.toml") if field["block"] == 0]
 
     def is_locked(self, start, place):
         return place is not None and bool(self.blocks[0] >> start + place & 1)

@@ -26,7 +26,7 @@ from pathlib import Path
 from simulated_chip import SimulatedChip
 
 ROOT = Path(__file__).resolve().parents[3]
-sys.path.insert(0, str(ROOT / "python"))
+sys.path[:0] = [str(ROOT / "python"), str(ROOT / "clients/python")]
 
 from wanekupo_journal import Journal  # noqa: E402
 from wanekupo_station import (  # noqa: E402

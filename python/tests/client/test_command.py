@@ -18,7 +18,7 @@ import tomllib
 import unittest
 
 from commanding import CLIENT, NEEDS_KEYS, OTHER_MAC, CommandCase, digest_by_openssl, made_key
-from simulated_chip import chip_class
+from simulated_chip import FAMILIES, chip_class
 from support import DIGEST, HOST, MAC, MAP, ORDER, ROOT, SIMULATED, SITE, Canned, free_port
 
 from wanekupo.cli.main import COMMANDS, parser
@@ -267,11 +267,15 @@ class Words(CommandCase):
 
     def test_a_map_by_its_name(self):
         """Of the folder first, as a recipe finds it, and then of those that come with the program."""
-        for name, folder in (("none.toml", self.folder), ("esp32s3.toml", ROOT / "maps"), ("none.toml", ROOT / "maps")):
-            with self.subTest(name, folder=folder), contextlib.chdir(self.folder):
-                if folder == self.folder:
-                    (folder / name).write_text(MAP, encoding="utf-8")
-                digest = hashlib.sha256((folder / name).read_bytes()).hexdigest()
+        for name, file in (
+            ("none.toml", self.folder / "none.toml"),
+            ("esp32s3.toml", FAMILIES / "esp32s3/map.toml"),
+            ("none.toml", FAMILIES / "none/map.toml"),
+        ):
+            with self.subTest(name, file=file), contextlib.chdir(self.folder):
+                if file.parent == self.folder:
+                    file.write_text(MAP, encoding="utf-8")
+                digest = hashlib.sha256(file.read_bytes()).hexdigest()
                 self.made_by(["map", name], {"map": digest})
                 (self.folder / name).unlink(missing_ok=True)
 

@@ -428,7 +428,7 @@ class Form(unittest.TestCase):
         named = {name for it in asked for name in re.findall(r"\b(?:wanekupo|probe)_\w+|\bALERTS\b", it)}
         self.assertEqual(named - set(METRICS) - OTHERS, set())
         self.assertGreater(len(named), 25)
-        self.assertIn("wanekupo_restart_end_timestamp_seconds", (ROOT / "python/bin/station-restart").read_text(encoding="utf-8"))
+        self.assertIn("wanekupo_restart_end_timestamp_seconds", (ROOT / "python/wanekupo/plant/restart.py").read_text(encoding="utf-8"))
         pages = re.findall(r'page: "\{\{ \$externalLabels.docs \}\}([^#"]+)#([^"]+)"', rules)
         self.assertEqual(len(pages), rules.count("- alert:"))
         for page, section in pages:
@@ -455,7 +455,7 @@ class Form(unittest.TestCase):
     def test_cards(self):
         """A card has nine points at most and then a command, alone, that is there."""
         cards = (ROOT / "docs/how-to/cards.md").read_text(encoding="utf-8").split("\n## ")[1:]
-        tokens = (ROOT / "python/bin/station-token").read_text(encoding="utf-8")
+        tokens = (ROOT / "python/wanekupo/plant/token.py").read_text(encoding="utf-8")
         for card in cards:
             name, _, body = card.partition("\n")
             *points, command = body.strip().split("\n\n")

@@ -8,25 +8,21 @@ import contextlib
 import hashlib
 import json
 import shutil
-import sys
 import time
 from dataclasses import dataclass, field
 from pathlib import Path
 
-ROOT = Path(__file__).resolve().parent.parent
-sys.path.insert(0, str(ROOT / "python"))
-
-from common.lives import SITE, Orders  # noqa: E402
-from common.program import Program, send  # noqa: E402
-from common.registrations import MAP as LARGE_MAP  # noqa: E402
-from common.served import HOST, Server, station  # noqa: E402
-from common.stores import parts_of  # noqa: E402
-
-from wanekupo.seat import journal as journals  # noqa: E402
-from wanekupo.chips.chip import bit, key, redacted, rlock, wlock  # noqa: E402
-from wanekupo.seat.journal import Journal, request_digest  # noqa: E402
-from wanekupo.seat.rows import csv_of  # noqa: E402
-from wanekupo.seat.station import Station  # noqa: E402
+from common.lives import SITE, Orders
+from common.needs import ROOT
+from common.program import Program, send
+from common.registrations import MAP as LARGE_MAP
+from common.served import HOST, Server, station
+from common.stores import parts_of
+from wanekupo.chips.chip import bit, key, redacted, rlock, wlock
+from wanekupo.seat import journal as journals
+from wanekupo.seat.journal import Journal, request_digest
+from wanekupo.seat.rows import csv_of
+from wanekupo.seat.station import Station
 
 MAP = (ROOT / "python/wanekupo/chips/families/esp32/map.toml").read_text(encoding="utf-8")
 NONE = (ROOT / "python/wanekupo/chips/families/none/map.toml").read_text(encoding="utf-8")

@@ -14,8 +14,6 @@ from dataclasses import dataclass
 from pathlib import Path
 from typing import Callable
 
-from seal_places import run
-
 ORDER = {"first": 1, "issuer": "acme-ca", "mac": None, "macs": 0, "name": "o1", "not_before": None, "prefix": "S"}
 DAY = datetime.timedelta(days=1)
 
@@ -167,17 +165,3 @@ CHAINS = [
     Chained("words around a stamp", _words_around, ("000001.tsr is of", "its seal says 2026-01-01T02:00:00Z")),
     Chained("numbers taken back", _taken_back, ("numbers that were given are free again",)),
 ]
-
-
-def try_chains(tried, keys, folder):
-    """Each chain that somebody with the keys made."""
-    for place, it in enumerate(CHAINS):
-        seals = folder / f"chain{place}"
-        seals.mkdir()
-        it.make(Maker(keys, seals))
-        words = ["--minisign", keys / "own.pub", "--tsa-ca", keys / "tsa-ca.pem"]
-        status, text = run("seal", "--verify", seals, *words)
-        tried.want(f"{it.name}: the status", status, it.status)
-        for word in it.words:
-            tried.want(f"{it.name}: says {word!r} in {text!r}", word in text, True)
-    print(f"chains: {len(CHAINS)} that somebody with the keys made")

@@ -1,5 +1,4 @@
-"""A list of 1,000 devices whose serial numbers and orders read as something else, through LibreOffice and gnumeric, for
-bench/lots.
+"""A list of 1,000 devices whose serial numbers and orders read as something else, through LibreOffice and gnumeric.
 
 The list as .xlsx has to come back from both text for text. Of the list as comma-separated values each field that one of
 them changes is one of which the command warned. What it calls a number, or true or false, one of them changes. All
@@ -11,19 +10,11 @@ forms of names and serial numbers are held to the same.
 import csv
 import io
 import os
-import random
-import re
 import subprocess
-import sys
 import warnings
 
-from lots_place import life, rows_of, shown
+from books.lots_place import life
 from common.registrations import MAP
-from common.deployed import ROOT
-
-sys.path.insert(0, str(ROOT / "python"))
-
-from wanekupo.lots.sheets import reading_of  # noqa: E402
 
 EACH = 22
 
@@ -146,66 +137,3 @@ def changed_in(folder, name, rows):
         assert [len(row) for row in again] == [len(row) for row in rows], reader
         found |= {(y, x) for y, row in enumerate(rows) for x, it in enumerate(row) if it != again[y][x]}
     return found
-
-
-# What is tried.
-
-
-def tried_sheets(place, tried):
-    status, _, told, _ = place.ran("a1", "manifest", "--all", "--out", "sheet.csv", "--xlsx", "sheet.xlsx")
-    if status:
-        raise SystemExit(f"lots: no list was made by {sys.executable}: {told}")
-    expected = [shown(row) for row in rows_of(place.copy(), "acme")]
-    rows = fields_in(place.folder / "sheet.csv")
-    tried.same(f"a list of {len(expected)} devices", (status, rows[1:] == expected), (0, True))
-    for reader in ("plain", "gnumeric"):
-        for ending in ("xlsx", "csv"):
-            again = fields_in(through(place.folder, "sheet.xlsx", ending, reader))
-            tried.same(f".xlsx through {reader}, as {ending}: text for text", again == rows, True)
-    changed = changed_in(place.folder, "sheet.csv", rows)
-    tried.others += not changed
-    tried_warnings(tried, rows, changed)
-    counts = {(name, said[:11]): 1 + int(more or 0) for name, said, more in WARNING.findall(told)}
-    names, found = rows[0], {}
-    for row in rows[1:]:
-        for name, reading in ((name, reading_of(it)) for name, it in zip(names, row)):
-            found[name, reading] = found.get((name, reading), 0) + 1
-    found = sorted(count for (_, reading), count in found.items() if reading)
-    tried.same(f"{sum(found)} warnings, and {len(changed)} fields changed", sorted(counts.values()), found)
-    tried_documents(tried, expected)
-    tried_texts(place, tried)
-
-
-WARNING = re.compile(r"^warning: (\w+) '[^']*' ([^;\n]*)(?:; so (?:is|are) (\d+) more of this column)?$", re.MULTILINE)
-
-
-def tried_warnings(tried, rows, changed):
-    """Both ways: what is changed is told, and what is told as changed is."""
-    readings = {(y, x): reading_of(it) for y, row in enumerate(rows) for x, it in enumerate(row)}
-    missed = [rows[y][x] for y, x in changed if not readings[y, x]]
-    tried.same("none that is changed goes untold", missed, [])
-    false = [rows[y][x] for (y, x), it in readings.items() if it in ("number", "truth") and (y, x) not in changed]
-    tried.same("none that is told as a number stays as it is", false, [])
-
-
-def tried_documents(tried, expected):
-    """What is told of each order's name and serial numbers, by the table."""
-    kinds = {"number": "n", "truth": "n", "": ""}
-    found = {row[-1]: [kinds.get(reading_of(row[-1]), "x"), set()] for row in expected}
-    for row in expected:
-        found[row[-1]][1].add(kinds.get(reading_of(row[0]), "x"))
-    others = [it for it in ORDERS if found[it[0]] != [it[1], {it[4]}]]
-    tried.same("each order's name and numbers as the documents say", [(it, found[it[0]]) for it in others], [])
-
-
-def tried_texts(place, tried):
-    """Random texts, of which a third are built of numbers, months and what stands between."""
-    chance = random.Random(88)
-    parts = [*WORDS, *map(str, range(0, 40)), "2026", "007", "99999", "-", "-", "-", ".", ""]
-    texts = {"".join(chance.choices(parts, k=chance.randint(1, 5))) for _ in range(OTHERS // 3)}
-    texts |= {"".join(chance.choices("0123456789Ee.-", k=chance.randint(1, 9))) for _ in range(OTHERS // 3)}
-    texts |= {"".join(chance.choices(NAMES, k=chance.randint(1, 5))) for _ in range(OTHERS // 3)}
-    rows = [["text"], *([it] for it in sorted(texts) if 0 < len(it) <= 32)]
-    (place.folder / "texts.csv").write_text("".join(f"{it}\n" for (it,) in rows), encoding="ascii")
-    print(f"        {len(rows) - 1} random texts", flush=True)
-    tried_warnings(tried, rows, changed_in(place.folder, "texts.csv", rows))

@@ -1,19 +1,18 @@
-"""What `seals` has around the command: how it is run, what was tried, and a time-stamp service of its own (RFC 3161),
-made of `openssl ts -reply`."""
+"""What tests of seals have around the command: how it is run, and a time-stamp service of its own (RFC 3161), made of
+`openssl ts -reply`."""
 
 import contextlib
 import http.server
 import os
 import subprocess
-import sys
 import tempfile
 import threading
 import time
 from pathlib import Path
 
-from seal_plant import END, ROOT, START
+from books.seal_plant import END, START
+from common.commands import command
 
-PYTHON = ROOT / "python"
 PERIOD = ["--from", START, "--to", END]
 SECONDS = 600
 
@@ -72,8 +71,7 @@ class Service(http.server.BaseHTTPRequestHandler):
 
 @contextlib.contextmanager
 def stamp_service(folder: Path):
-    """The service, over a folder that gets its keys."""
-    make_keys(folder)
+    """The service, over a folder with its keys."""
     server = http.server.HTTPServer(("127.0.0.1", 0), Service)
     server.folder, server.fault, server.url = folder, "", f"http://127.0.0.1:{server.server_address[1]}/"
     threading.Thread(target=server.serve_forever, daemon=True).start()
@@ -84,42 +82,31 @@ def stamp_service(folder: Path):
         server.server_close()
 
 
-def run(*words, program=("-m", "wanekupo"), folder=None):
+def environment():
+    return {**os.environ, "HOME": "/nonexistent"}
+
+
+def run(*words, program=command("wanekupo"), folder=None):
     """The status of the command, run in a folder, and what it printed on both outputs."""
-    environment = {**os.environ, "PYTHONPATH": str(PYTHON), "PYTHONDONTWRITEBYTECODE": "1", "HOME": "/nonexistent"}
-    command = [sys.executable, *program, *map(str, words)]
-    done = subprocess.run(command, env=environment, capture_output=True, text=True, timeout=SECONDS, cwd=folder)
+    made = {"env": environment(), "capture_output": True, "text": True, "timeout": SECONDS, "cwd": folder}
+    done = subprocess.run([*program, *map(str, words)], **made)
     return done.returncode, done.stdout + done.stderr
 
 
 def measured(*words):
     """The same with the seconds and the megabytes of memory that it took."""
-    environment = {**os.environ, "PYTHONPATH": str(PYTHON), "PYTHONDONTWRITEBYTECODE": "1", "HOME": "/nonexistent"}
-    command, begun = [sys.executable, "-m", "wanekupo", *map(str, words)], time.monotonic()
+    begun = time.monotonic()
     with tempfile.TemporaryFile("w+") as out:
-        process = subprocess.Popen(command, env=environment, stdout=out, stderr=subprocess.STDOUT)
+        words = [*command("wanekupo"), *map(str, words)]
+        process = subprocess.Popen(words, env=environment(), stdout=out, stderr=subprocess.STDOUT)
         _, status, used = os.wait4(process.pid, 0)
         process.returncode = os.waitstatus_to_exitcode(status)
         out.seek(0)
         return process.returncode, out.read(), time.monotonic() - begun, used.ru_maxrss / 1024
 
 
-class Tried:
-    """What was tried, and what isn't as it should be."""
-
-    def __init__(self):
-        self.count, self.faults = 0, []
-
-    def want(self, what, found, wanted):
-        self.count += 1
-        if found != wanted:
-            self.faults.append(f"{what}: {found!r}, and not {wanted!r}")
-
-    def said(self, what, told, words):
-        """Whether all words are in what was told; without words nothing was to be found."""
-        status, text = told
-        self.want(f"{what}: the status", status, 1 if words else 0)
-        for word in words:
-            self.want(f"{what}: says {word!r}", word in text, True)
-        if not words:
-            self.want(f"{what}: says that nothing is found", "Nothing found." in text, True)
+def expect_said(told, words):
+    """Fails unless all words are in what was told; without words nothing was to be found."""
+    status, text = told
+    assert status == (1 if words else 0), text
+    assert not [word for word in words or ("Nothing found.",) if word not in text], text

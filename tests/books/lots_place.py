@@ -1,4 +1,4 @@
-"""Two customers with two orders each, and the deployed form over their store, for bench/lots."""
+"""Two customers with two orders each, and the deployed form over their store."""
 
 import contextlib
 import hashlib
@@ -7,14 +7,15 @@ import re
 import shutil
 import sqlite3
 import subprocess
-import sys
+import tempfile
 import time
+from pathlib import Path
 
 from common import lives
-from common.goals import tell
+from common.commands import command
 from common.program import Program, send
 from common.registrations import MAP, blocks_of, request
-from common.deployed import ROOT, Place
+from common.deployed import Place
 
 # Customers by their seats' names and inner tokens, with a pool each.
 SEATS = {"a1": ("acme", "abc"), "b1": ("bolt", "hello")}
@@ -91,15 +92,13 @@ def made_store(folder, program, keys, devices, requests=requests_of):
     """A store with both customers' devices, and its site."""
     site, store = folder / "lots.toml", folder / "books.db"
     site.write_text(SITE, encoding="ascii")
-    begun = time.monotonic()
-    with Program([program, "replay", "--site", str(site), "--db", str(store)], 3600) as running:
+    with Program([str(program), "replay", "--site", str(site), "--db", str(store)], 3600) as running:
         for customer, token in SEATS.values():
             seat = Seat(token)
             seat.issuer = f"{customer}-ca"
             for part in requests(seat, keys, devices):
                 send(running, part)
         running.end()
-    tell(f"{4 * devices} devices in {time.monotonic() - begun:.0f} s")
     return site
 
 
@@ -137,7 +136,7 @@ def shown(row):
 class LotsPlace(Place):
     """nginx in front of the program itself, with the rate of a caller in another size."""
 
-    def __init__(self, folder, program, port, site, rate):
+    def __init__(self, folder, program, site, rate):
         super().__init__(folder, program, site)
         self.recorded, self.rate = self.server.port, rate
         for seat, (_, token) in SEATS.items():
@@ -146,7 +145,6 @@ class LotsPlace(Place):
             assert taken[0] == 0, taken
             self.made(seat, "add", seat, "--look", is_told=False)
             (self.folder / seat).write_text(self.outer[seat], encoding="ascii")
-            (self.folder / seat).chmod(0o600)
             (self.folder / seat).chmod(0o600)
 
     def conf(self, name, port):
@@ -163,16 +161,15 @@ class LotsPlace(Place):
             return super().words(*words, **named)
         url = f"https://localhost:{self.port}"
         more = ["--url", url, "--ca", self.folder / "etc/cert.pem", "--token", self.folder / seat, *words]
-        return [sys.executable, "-m", "wanekupo", *map(str, more)]
+        return [*command("wanekupo"), *map(str, more)]
 
     def ran(self, seat, *words, **named):
         """The command's status, its output, what it told, and its seconds."""
         begun = time.monotonic()
-        environment = {**os.environ, "PYTHONPATH": str(ROOT / "python"), **named}
         done = subprocess.run(
             self.words(*words, seat=seat),
             cwd=self.folder,
-            env=environment,
+            env={**os.environ, **named},
             stdin=subprocess.DEVNULL,
             capture_output=True,
             text=True,
@@ -195,6 +192,19 @@ class LotsPlace(Place):
         return folder / "books.db"
 
 
-def commit():
-    done = subprocess.run(["git", "-C", ROOT, "describe", "--always", "--dirty"], capture_output=True, text=True)
-    return done.stdout.strip()
+# Requests a second that nginx gives a caller: more than anybody asks for, and its usual share.
+FAST, USUAL = 100_000, 20
+
+
+@contextlib.contextmanager
+def opened_lots(program, rate, keys, devices, requests=requests_of):
+    """The deployed form over a store of both customers, whose nginx gives a caller so many requests a second."""
+    with tempfile.TemporaryDirectory() as name:
+        folder = Path(name)
+        folder.chmod(0o755)
+        place = LotsPlace(folder, program, made_store(folder, program, keys, devices, requests), rate)
+        try:
+            place.nginx()
+            yield place
+        finally:
+            place.close()

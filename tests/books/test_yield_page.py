@@ -1,20 +1,15 @@
-#!/usr/bin/env python3
-"""Tries clients/web/yield.html in a browser: through nginx, as deploy/nginx.conf has it, over a running server.
+"""clients/web/yield.html in a browser: through nginx, as deploy/nginx.conf has it, over a running server.
 
-    yield                        crates/station/out/station of this repository
-    yield --program P            another program
-    yield --write                puts the policy's SHA-256 into deploy/nginx.conf, and the picture of an open bar into
-                                 docs/pictures, after a change of the page
+    tests/all books/test_yield_page.py --write     puts the policy's SHA-256 into deploy/nginx.conf, and the picture of an
+                                                   open bar into docs/pictures, after a change of the page
 
 With no order, one and 300; a wrong token; the manager's; a server that answers 503, none at all; and a report whose
 names would be markup elsewhere. Bars are opened into their chips, by the keyboard and by a click, over several pages
-of devices. The page's sentence, its yields and the looks of its states are those of wanekupo.books.yields. Tokens are outer
-ones that look. What the page shows is read in the browser, and the policy must have kept nothing of the page's own
-back. The status is 1 where something differs. Python 3.11, standard library alone, with Debian's chromium, nginx and
-openssl; as root, as nginx's file asks for its own user.
+of devices. The page's sentence, its yields and the looks of its states are those of wanekupo.books.yields. Tokens are
+outer ones that look. What the page shows is read in the browser, and the policy must have kept nothing of the page's own
+back.
 """
 
-import argparse
 import base64
 import contextlib
 import hashlib
@@ -24,26 +19,23 @@ import os
 import re
 import socket
 import subprocess
-import sys
 import tempfile
 import threading
 import time
 import urllib.request
 from pathlib import Path
 
-ROOT = Path(__file__).resolve().parent.parent
-sys.dont_write_bytecode = True
+import pytest
 
-sys.path.insert(0, str(ROOT / "python"))
-sys.path.insert(0, str(ROOT / "python/tests/client"))
-
-from browser import Browser  # noqa: E402
-from wanekupo.common.token_file import PREFIX, Outer, Seat, Tokens, mark_of, now, text_of  # noqa: E402
-
-from wanekupo.books.yields import LOOKS, SENTENCE  # noqa: E402
+from browser import Browser
+from common.deployed import certify, replaced
+from common.needs import ROOT
+from common.ports import free_ports
+from common.served import Server, station
+from wanekupo.books.yields import LOOKS, SENTENCE
+from wanekupo.common.token_file import PREFIX, Outer, Seat, Tokens, mark_of, now, text_of
 
 PAGE, CONF, PICTURE = ROOT / "clients/web/yield.html", ROOT / "deploy/nginx.conf", ROOT / "docs/pictures/yield-open.png"
-SITE = ROOT / "crates/station/data/site.toml"
 HEAD = "order,quantity,registered,planned,settled,identified,shipped,quarantined,scrapped,serials_left\n"
 MARKUP = "<img src=x onerror=document.title=1>&amp;"
 # Reports by tokens: one whose name would be markup elsewhere, and one with invented figures, of which the picture is
@@ -115,12 +107,6 @@ def sums():
         yield tag, "sha256-" + base64.b64encode(hashlib.sha256(part.encode()).digest()).decode()
 
 
-def free_port():
-    with socket.socket() as free:
-        free.bind(("127.0.0.1", 0))
-        return free.getsockname()[1]
-
-
 # ---- what stands behind nginx
 def devices_behind(after, token):
     """A page of invented devices: every third is of the order gate-2026-42, the others of one named as markup."""
@@ -167,20 +153,6 @@ def stub(port):
         server.server_close()
 
 
-@contextlib.contextmanager
-def station(program, folder, port):
-    words = [program, "serve", "--site", SITE, "--db", f"{folder}/books.db", "--port", str(port)]
-    words += ["--connections", "1000000"]
-    process = subprocess.Popen(words, stdout=subprocess.PIPE)
-    process.stdout.readline()
-    try:
-        yield
-    finally:
-        process.kill()
-        process.wait()
-        process.stdout.close()
-
-
 def order(port, number):
     """Makes an order of the seat's request of that number."""
     names = {"name": f"o{number}", "issuer": "acme-ca", "prefix": f"P{number}-"}
@@ -192,15 +164,16 @@ def order(port, number):
 @contextlib.contextmanager
 def nginx(folder, port, upstream):
     """nginx with the deployed file, but for its ports, its certificate and the page's place."""
-    words = "openssl req -x509 -newkey rsa:2048 -nodes -days 2 -subj /CN=localhost -keyout key.pem -out cert.pem"
-    subprocess.run(words.split(), cwd=folder, check=True, stderr=subprocess.DEVNULL)
-    text = CONF.read_text(encoding="utf-8")
-    for old, new in [("listen 8443", f"listen 127.0.0.1:{port}"), ("127.0.0.1:880;", f"127.0.0.1:{upstream};"),
-                     ("/etc/station/", f"{folder}/"), ("/usr/share/wanekupo/yield.html", str(PAGE)),
-                     ("/var/lib/nginx/", f"{folder}/"), ("/var/log/nginx/", f"{folder}/")]:
-        if old not in text:
-            raise SystemExit(f"yield: deploy/nginx.conf has no {old}")
-        text = text.replace(old, new)
+    certify(Path(folder))
+    pairs = [
+        ("listen 8443", f"listen 127.0.0.1:{port}"),
+        ("127.0.0.1:880;", f"127.0.0.1:{upstream};"),
+        ("/etc/station/", f"{folder}/"),
+        ("/usr/share/wanekupo/yield.html", str(PAGE)),
+        ("/var/lib/nginx/", f"{folder}/"),
+        ("/var/log/nginx/", f"{folder}/"),
+    ]
+    text = replaced(CONF, pairs)
     Path(folder, "nginx.conf").write_text(text, encoding="utf-8")
     Path(folder, "tokens.conf").write_text(tokens(), encoding="ascii")
     words = ["nginx", "-p", folder, "-e", f"{folder}/error.log", "-c", f"{folder}/nginx.conf"]
@@ -218,16 +191,11 @@ def nginx(folder, port, upstream):
 
 
 # ---- the page
-class Tried:
-    """What was tried in the page, and what differs."""
+class YieldPage:
+    """The page in a browser, with the port of what stands behind nginx."""
 
-    def __init__(self, browser, address):
-        self.browser, self.address, self.count, self.others = browser, address, 0, []
-
-    def same(self, what, got, wanted):
-        self.count += 1
-        if got != wanted:
-            self.others.append(f"{what}: {got!r}, and not {wanted!r}")
+    def __init__(self, browser, address, upstream):
+        self.browser, self.address, self.upstream = browser, address, upstream
 
     def show(self, token):
         """Opens the page, gives it a token by the keyboard alone, and waits for its answer."""
@@ -283,116 +251,6 @@ class Tried:
         })""")
 
 
-def try_page(tried, program, folder, upstream, write):
-    """All of it, one after another."""
-    with station(program, folder, upstream):
-        try_orders(tried, upstream)
-        try_opened(tried)
-        try_tokens(tried)
-    with stub(upstream):
-        tried.show("picture")
-        cells = "[...document.querySelectorAll('#rows td:nth-child(2)')].map((cell) => cell.textContent).join()"
-        tried.same("yields", tried.browser.value(cells), YIELDS)
-        try_bars(tried, write)
-    with stub(upstream):
-        tried.same("503", tried.show("abc"), "The server couldn't answer just now (503). Ask again.")
-        tried.show("markup")
-        tried.press("document.querySelector('#figure [role=button]')")
-        tried.same("chips of markup", tried.chips()["whose"], f"Chips of {MARKUP}")
-        pictures = tried.browser.value("document.querySelectorAll('#shown img').length + document.title")
-        tried.same("markup", (tried.shown()["names"], pictures), ([MARKUP], "0Yield"))
-    tried.same("no server", tried.show("abc"), "The server answered 502.")
-    try_requests(tried)
-
-
-def try_orders(tried, upstream):
-    """With no order, one and 300: the table, the bars, and the picture that is saved."""
-    said = tried.show("abc")
-    tried.same("no order", (said, tried.shown()["names"]), ("There are no orders yet.", []))
-    order(upstream, 1)
-    tried.show("abc")
-    first = "o1: nothing finished, 0 devices, 9 serial numbers left"
-    tried.same("one order", tried.shown(), {"names": ["o1"], "groups": 1, "bars": 0, "hidden": False, "first": first})
-    lives(upstream)
-    for number in range(2, 301):
-        order(upstream, number + 11)
-    tried.show("abc")
-    shown = tried.shown()
-    tried.same("300 orders", (len(shown["names"]), shown["groups"]), (300, 300))
-    counts = "4 devices, 1 registered, 1 shipped, 1 quarantined, 1 scrapped"
-    tried.same("devices", shown["first"], f"o1: yield 33.3 %, {counts}, 8 serial numbers left")
-    tried.same("bars", shown["bars"], 4)
-    tried.choose("part", "o31", "input")
-    tried.same("only some names", tried.shown()["names"], ["o31", "o310", "o311"])
-    count = tried.browser.value("document.getElementById('count').textContent")
-    tried.same("how many", count, "3 of 300 orders")
-    tried.choose("part", "", "input")
-    tried.choose("order", "yield")
-    tried.same("lowest yield first", tried.shown()["names"][0], "o1")
-    saved = tried.browser.value(SAVED)
-    found = (saved[:4], saved.count('role="listitem"'), saved.count("<pattern "), "o1: yield 33.3 %" in saved)
-    tried.same("the picture that is saved", found, ("<svg", 300, 7, True))
-
-
-def try_opened(tried):
-    """A bar is opened into its chips, and the browser keeps nothing of what it was given."""
-    tried.press("document.querySelector('#figure [role=button]')")
-    rows = ["240000000000 registered  ", "240000000001 shipped  P1-001", "240000000002 quarantined stray "]
-    rows.append("240000000003 scrapped  ")
-    wanted = {"whose": "Chips of o1", "found": "4 chips", "state": "", "more": False, "rows": rows}
-    tried.same("an open bar", tried.chips(), wanted)
-    tried.same("stored", tried.browser.value(STORED), [0, 0, "", tried.address, ""])
-
-
-def try_tokens(tried):
-    """The manager's token, and a wrong one."""
-    tried.show("test")
-    tried.same("the manager", tried.shown()["names"], ["acme", "bolt"])
-    bars = tried.browser.value("document.querySelectorAll('#figure [role=button]').length")
-    tried.same("the manager's bars", bars, 0)
-    tried.same("a wrong token", tried.show("nobody"), "No seat and no manager has this token.")
-    tried.same("nothing of it", tried.shown()["hidden"], True)
-
-
-def try_requests(tried):
-    """What the page's policy kept back, and what the browser asked for."""
-    entries = [told["params"]["entry"] for told in tried.browser.told if told.get("method") == "Log.entryAdded"]
-    tried.same("what the policy kept back", [it["text"] for it in entries if it["source"] == "security"], [])
-    sent = [told["params"] for told in tried.browser.told if told.get("method") == "Network.requestWillBeSent"]
-    urls = [it["request"]["url"] for it in sent if it["request"]["url"].startswith("https")]
-    paths = {url.removeprefix(tried.address.removesuffix("/yield")).partition("?")[0] for url in urls}
-    tried.same("addresses that were asked for", paths, {"/yield", "/v1/report", "/v1/site/report", "/v1/devices"})
-
-
-def try_bars(tried, write):
-    """A bar is opened by a click into a part of it, and shows the chips of that state from all pages."""
-    tried.same("the sentence", tried.browser.value("document.getElementById('meant').textContent"), SENTENCE)
-    looks = [[f"look-{it.state}", it.colour, it.ink if it.lines else "", it.lines] for it in LOOKS]
-    tried.same("the looks of states", tried.browser.value(DRAWN), looks)
-    bar = "[...document.querySelectorAll('#figure [role=button]')]"
-    bar += ".find((it) => it.getAttribute('aria-label').startsWith('gate-2026-42'))"
-    tried.click(f"{bar}.querySelector('[data-state=planned]')")
-    chips = tried.chips()
-    found = (chips["whose"], chips["state"], chips["found"], len(chips["rows"]))
-    tried.same("a part of a bar", found, ("Chips of gate-2026-42", "planned", "35 chips", 35))
-    tried.choose("state", "")
-    chips = tried.chips()
-    found = (chips["found"], len(chips["rows"]), chips["more"])
-    tried.same("the first of many", found, ("200 or more chips", 200, True))
-    tried.press("document.getElementById('more')")
-    tried.press("document.getElementById('more')")
-    chips = tried.chips()
-    found = (chips["found"], len(chips["rows"]), chips["more"])
-    tried.same("all of them", found, (f"{len(OF_ORDER)} chips", len(OF_ORDER), False))
-    tried.choose("state", "quarantined")
-    rows = [f"240ac4{place:06x} quarantined stray " for place, state in OF_ORDER if state == "quarantined"]
-    tried.same("the lost ones", tried.chips()["rows"], rows)
-    if write:
-        tried.browser.picture(PICTURE, 1100)
-    tried.press("document.getElementById('close')")
-    tried.same("closed", tried.browser.value("document.getElementById('opened').hidden"), True)
-
-
 def lives(port):
     """Four devices of the first order: one registered, one shipped, one quarantined, one scrapped."""
     digest = "453e1a59aaf4956999cac589cf209d34bfa882946bada4f1aa5199c4256c4fab"
@@ -416,38 +274,174 @@ def lives(port):
         urllib.request.urlopen(request, timeout=SECONDS).read()
 
 
-def main():
-    parser = argparse.ArgumentParser(description="Tries clients/web/yield.html in a browser.")
-    parser.add_argument("--program", default=ROOT / "crates/station/out/station", help="the built program")
-    said = "put the policy's SHA-256 into deploy/nginx.conf, and the picture into docs"
-    parser.add_argument("--write", action="store_true", help=said)
-    parser.add_argument("--prepare", action="store_true", help="make ready what it runs on, and end")
-    args = parser.parse_args()
-    program = Path(args.program).resolve()
-    if not os.access(program, os.X_OK):
-        parser.error(f"{program} is no program")
+def seen(test):
+    """A test of the page, which takes root, since nginx's file asks for its own user."""
+    return pytest.mark.root(pytest.mark.nginx(pytest.mark.browser(test)))
+
+
+def policy():
+    """deploy/nginx.conf with the SHA-256 of the page's script and of its style."""
     text = CONF.read_text(encoding="utf-8")
     for tag, told in sums():
         text = re.sub(rf"{tag}-src '[^']*'", f"{tag}-src '{told}'", text)
-    if args.write:
+    return text
+
+
+def test_the_policy(is_written):
+    """It has the page's SHA-256; --write mends it."""
+    text = policy()
+    if is_written:
         CONF.write_text(text, encoding="utf-8")
-    elif text != CONF.read_text(encoding="utf-8"):
-        print("deploy/nginx.conf: its policy isn't that of the page; yield --write mends it")
-        return 1
+    assert text == CONF.read_text(encoding="utf-8")
+
+
+@pytest.fixture(scope="module")
+def page(program):
+    port, upstream = free_ports(2)
     with tempfile.TemporaryDirectory() as folder:
         os.chmod(folder, 0o755)
-        port, upstream = free_port(), free_port()
-        if args.prepare:
-            with nginx(folder, port, upstream):
-                return 0
         with nginx(folder, port, upstream), contextlib.closing(Browser(1200, 900, UNSAFE)) as browser:
-            tried = Tried(browser, f"https://127.0.0.1:{port}/yield")
-            try_page(tried, program, folder, upstream, args.write)
-    for other in tried.others:
-        print(other)
-    print(f"{tried.count} things tried in the page, {len(tried.others)} differ")
-    return 1 if tried.others else 0
+            yield YieldPage(browser, f"https://127.0.0.1:{port}/yield", upstream)
 
 
-if __name__ == "__main__":
-    sys.exit(main())
+@pytest.fixture
+def served(page, program, site):
+    """The program behind nginx, over a new store."""
+    words = station(str(program), str(site), str(site.with_name("books.db")), page.upstream)
+    server = Server(words, page.upstream).wait(Server.is_answering)
+    yield server
+    server.kill()
+
+
+@seen
+def test_no_order(page, served):
+    assert (page.show("abc"), page.shown()["names"]) == ("There are no orders yet.", [])
+
+
+@seen
+def test_one_order(page, served):
+    order(page.upstream, 1)
+    page.show("abc")
+    first = "o1: nothing finished, 0 devices, 9 serial numbers left"
+    assert page.shown() == {"names": ["o1"], "groups": 1, "bars": 0, "hidden": False, "first": first}
+
+
+@pytest.fixture
+def orders(page, served):
+    """The page with 300 orders, of which the first has devices."""
+    order(page.upstream, 1)
+    lives(page.upstream)
+    for number in range(2, 301):
+        order(page.upstream, number + 11)
+    page.show("abc")
+
+
+@seen
+def test_300_orders(page, orders):
+    """The table and the bars, and the picture that is saved."""
+    shown = page.shown()
+    assert (len(shown["names"]), shown["groups"]) == (300, 300)
+    counts = "4 devices, 1 registered, 1 shipped, 1 quarantined, 1 scrapped"
+    assert shown["first"] == f"o1: yield 33.3 %, {counts}, 8 serial numbers left"
+    assert shown["bars"] == 4
+    page.choose("part", "o31", "input")
+    assert page.shown()["names"] == ["o31", "o310", "o311"]
+    assert page.browser.value("document.getElementById('count').textContent") == "3 of 300 orders"
+    page.choose("part", "", "input")
+    page.choose("order", "yield")
+    assert page.shown()["names"][0] == "o1", "lowest yield first"
+    saved = page.browser.value(SAVED)
+    found = (saved[:4], saved.count('role="listitem"'), saved.count("<pattern "), "o1: yield 33.3 %" in saved)
+    assert found == ("<svg", 300, 7, True), "the picture that is saved"
+
+
+@seen
+def test_an_open_bar(page, orders):
+    """A bar is opened into its chips, and the browser keeps nothing of what it was given."""
+    page.press("document.querySelector('#figure [role=button]')")
+    rows = ["240000000000 registered  ", "240000000001 shipped  P1-001", "240000000002 quarantined stray "]
+    rows.append("240000000003 scrapped  ")
+    assert page.chips() == {"whose": "Chips of o1", "found": "4 chips", "state": "", "more": False, "rows": rows}
+    assert page.browser.value(STORED) == [0, 0, "", page.address, ""]
+
+
+@seen
+def test_the_manager(page, served):
+    page.show("test")
+    assert page.shown()["names"] == ["acme", "bolt"]
+    assert page.browser.value("document.querySelectorAll('#figure [role=button]').length") == 0
+
+
+@seen
+def test_a_wrong_token(page, served):
+    assert page.show("nobody") == "No seat and no manager has this token."
+    assert page.shown()["hidden"] is True
+
+
+@pytest.fixture
+def invented(page):
+    """What answers with the invented figures, in the program's place."""
+    with stub(page.upstream):
+        yield
+
+
+@seen
+def test_the_yields(page, invented):
+    page.show("picture")
+    cells = "[...document.querySelectorAll('#rows td:nth-child(2)')].map((cell) => cell.textContent).join()"
+    assert page.browser.value(cells) == YIELDS
+    assert page.browser.value("document.getElementById('meant').textContent") == SENTENCE
+    looks = [[f"look-{it.state}", it.colour, it.ink if it.lines else "", it.lines] for it in LOOKS]
+    assert page.browser.value(DRAWN) == looks
+
+
+@seen
+def test_a_click(page, invented, is_written):
+    """A bar is opened by a click into a part of it, and shows the chips of that state from all pages."""
+    page.show("picture")
+    bar = "[...document.querySelectorAll('#figure [role=button]')]"
+    bar += ".find((it) => it.getAttribute('aria-label').startsWith('gate-2026-42'))"
+    page.click(f"{bar}.querySelector('[data-state=planned]')")
+    chips = page.chips()
+    found = (chips["whose"], chips["state"], chips["found"], len(chips["rows"]))
+    assert found == ("Chips of gate-2026-42", "planned", "35 chips", 35), "a part of a bar"
+    page.choose("state", "")
+    chips = page.chips()
+    assert (chips["found"], len(chips["rows"]), chips["more"]) == ("200 or more chips", 200, True)
+    page.press("document.getElementById('more')")
+    page.press("document.getElementById('more')")
+    chips = page.chips()
+    assert (chips["found"], len(chips["rows"]), chips["more"]) == (f"{len(OF_ORDER)} chips", len(OF_ORDER), False)
+    page.choose("state", "quarantined")
+    rows = [f"240ac4{place:06x} quarantined stray " for place, state in OF_ORDER if state == "quarantined"]
+    assert page.chips()["rows"] == rows, "the lost ones"
+    if is_written:
+        page.browser.picture(PICTURE, 1100)
+    page.press("document.getElementById('close')")
+    assert page.browser.value("document.getElementById('opened').hidden") is True
+
+
+@seen
+def test_503(page, invented):
+    assert page.show("abc") == "The server couldn't answer just now (503). Ask again."
+
+
+@seen
+def test_markup(page, invented):
+    page.show("markup")
+    page.press("document.querySelector('#figure [role=button]')")
+    assert page.chips()["whose"] == f"Chips of {MARKUP}"
+    pictures = page.browser.value("document.querySelectorAll('#shown img').length + document.title")
+    assert (page.shown()["names"], pictures) == ([MARKUP], "0Yield")
+
+
+@seen
+def test_no_server(page):
+    """Behind it, what the policy kept back so far, and what the browser asked for."""
+    assert page.show("abc") == "The server answered 502."
+    entries = [told["params"]["entry"] for told in page.browser.told if told.get("method") == "Log.entryAdded"]
+    assert [it["text"] for it in entries if it["source"] == "security"] == [], "what the policy kept back"
+    sent = [told["params"] for told in page.browser.told if told.get("method") == "Network.requestWillBeSent"]
+    urls = [it["request"]["url"] for it in sent if it["request"]["url"].startswith("https")]
+    paths = {url.removeprefix(page.address.removesuffix("/yield")).partition("?")[0] for url in urls}
+    assert {"/yield", "/v1/report"} <= paths <= {"/yield", "/v1/report", "/v1/site/report", "/v1/devices"}

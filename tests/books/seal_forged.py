@@ -16,7 +16,7 @@ from dataclasses import dataclass
 from pathlib import Path
 from typing import Callable
 
-from seal_plant import END, JTAG, MAP, READ_1, START, WRITE_1, chip_of, shown
+from books.seal_plant import END, JTAG, MAP, READ_1, START, WRITE_1, chip_of, shown
 
 from wanekupo.seat.journal import request_digest
 from wanekupo.seat.rows import csv_of
