@@ -150,8 +150,9 @@ def bench(program):
     next(made, None)
 
 
-@pytest.fixture(scope="module")
+@pytest.fixture
 def roots_bench(program):
+    """Root's own bench, whose files a test gives away."""
     yield from made_bench(program)
 
 
