@@ -11,6 +11,16 @@ AS_USER = ["setpriv", f"--reuid={USER}", f"--regid={USER}", "--clear-groups", "-
 
 
 @contextlib.contextmanager
+def umask(mask: int) -> Iterator[None]:
+    """Files that are made meanwhile lack these modes."""
+    before = os.umask(mask)
+    try:
+        yield
+    finally:
+        os.umask(before)
+
+
+@contextlib.contextmanager
 def another_user() -> Iterator[None]:
     """Where root came: goes on as another user, as a store is never root's. What is started has no way back."""
     if os.geteuid():

@@ -260,15 +260,6 @@ class Place:
         took = REPORTED.findall(file.read_text(errors="replace")) if file.exists() else []
         return max((float(seconds) for seconds in took), default=0.0)
 
-    def errors(self):
-        """The words of nginx's log, without its times, each with how often."""
-        counts = {}
-        file = self.folder / "error.log"
-        for line in file.read_text(errors="replace").splitlines() if file.exists() else []:
-            if found := re.search(r"\[(crit|alert|emerg|error|warn)\] \d+#\d+: (?:\*\d+ )?([^,(]{0,60})", line):
-                counts[found[2]] = counts.get(found[2], 0) + 1
-        return counts
-
 
 def established(port):
     """How many connections of a port of this machine are there, by the kernel's own table."""

@@ -151,6 +151,14 @@ DIRECT = [
 ]
 
 
+# The goals that are known to be missed: the program's own port is nginx's alone for that.
+MISSED_THROUGH = {"ten seats, all that is dear"}
+MISSED_DIRECTLY = {
+    "silent connections, 5", "silent connections, 20", "dripping head, 1", "dripping body, 1",
+    "reports hung up, one at a time", "reports hung up, 50 at a time",
+}  # fmt: skip
+
+
 def attacking(pipe, attack, target):
     """The process of an attack, in a group of its own, which ends in any case. It gives way to the server, as those who
     attack have machines of their own."""
@@ -269,23 +277,27 @@ def stores(program, tmp_path_factory):
 
 
 def beside(scale, attack, place):
-    """The row of an attack, and what of it isn't as it has to be."""
+    """The row of an attack, what it did less of than it says, and which goals are missed."""
     one = place.report_seconds()
     waits, counts, seen = fought(scale, attack, place)
     if not attack.is_strangers:
         one = max(one, place.report_seconds())
     goal = one + (DIRECTLY if place.is_direct else THROUGH)
-    wrong = shortfalls(scale, attack, place.is_direct, counts, seen)
-    wrong += [f"a wait of {waits.longest():.3f} s, and not {goal:.2f}"] if waits.longest() > goal else []
-    wrong += [f"{waits.failures()} failures: {waits.told()}"] if waits.failures() else []
-    wrong += [f"{it} {counts[it]} and not {most}" for it, most in attack.most.items() if counts.get(it, 0) > most]
+    missed = [f"a wait of {waits.longest():.3f} s, and not {goal:.2f}"] if waits.longest() > goal else []
+    missed += [f"{waits.failures()} failures: {waits.told()}"] if waits.failures() else []
+    missed += [f"{it} {counts[it]} and not {most}" for it, most in attack.most.items() if counts.get(it, 0) > most]
     cells = f"{one:7.2f}{len(waits.seconds):6}{waits.failures():5}{waits.middle():8.3f}{waits.longest():9.3f}"
     cells += f"{goal:7.2f}{place.longest_report():7.2f}{seen.load:5.1f}{seen.share:6.0%}"
-    return f"{attack.name:38}{cells}  {said(counts)}", wrong
+    told = ", ".join(f"{name} {count}" for name, count in counts.items())
+    return f"{attack.name:38}{cells}  {told}", shortfalls(scale, attack, place.is_direct, counts, seen), missed
 
 
-def said(counts):
-    return ", ".join(f"{name} {count}" for name, count in counts.items())
+def judge(attack, known, short, missed):
+    """Fails where the attack did less than it says, or a goal is missed that isn't known to be."""
+    expect("what it did less of than it says", short, [])
+    if missed and attack.name in known:
+        pytest.xfail(f"bench/RESULTS.md has that this goal is missed: {missed}")
+    expect("goals that are missed", missed, [])
 
 
 @pytest.mark.sizes(10, WHOLE)
@@ -293,9 +305,9 @@ def said(counts):
 def test_behind_nginx(program, stores, open_folder, found, attack, size):
     scale, connections = Scale(size), FEW if attack.is_strangers else 1_000_000
     with Place(program, stores(scale.devices), open_folder, connections) as place:
-        row, wrong = beside(scale, attack, place)
+        row, *judged = beside(scale, attack, place)
     found(row)
-    expect("wrong", wrong, [])
+    judge(attack, MISSED_THROUGH, *judged)
 
 
 @pytest.mark.sizes(10, WHOLE)
@@ -304,6 +316,6 @@ def test_directly(program, stores, open_folder, found, attack, size):
     """On the program's own port."""
     scale = Scale(size)
     with Place(program, stores(scale.devices), open_folder, is_direct=True) as place:
-        row, wrong = beside(scale, attack, place)
+        row, *judged = beside(scale, attack, place)
     found(row)
-    expect("wrong", wrong, [])
+    judge(attack, MISSED_DIRECTLY, *judged)

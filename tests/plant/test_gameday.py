@@ -19,7 +19,7 @@ from pathlib import Path
 import pytest
 
 from common.chip import Failed
-from common.users import another_user
+from common.users import another_user, umask
 from plant.gameday_plant import Plant
 
 
@@ -27,7 +27,7 @@ from plant.gameday_plant import Plant
 @pytest.mark.sizes(2, 20)
 def test_days(program, seed, size):
     """`size` days."""
-    with another_user(), tempfile.TemporaryDirectory() as folder:
+    with umask(0o077), another_user(), tempfile.TemporaryDirectory() as folder:
         plant = Plant(program, Path(folder), seed)
         try:
             for number in range(1, size + 1):

@@ -20,7 +20,7 @@ import pytest
 
 from common.chip import Failed
 from common.commands import PROJECT, PYTHON, command
-from common.users import AS_USER, USER, another_user
+from common.users import AS_USER, USER, another_user, umask
 from plant.gameday_plant import CUSTOMERS, KILLED, Plant
 from plant.restores_forged import first_of, signed, test_folders, test_foreign, test_left_out, test_lost, written
 
@@ -143,22 +143,23 @@ def made_bench(program):
 @pytest.fixture(scope="module")
 def bench(program):
     """The bench of another user than root, as a store is never root's."""
-    with another_user():
+    with umask(0o077), another_user():
         made = made_bench(program)
         bench = next(made)
     yield bench
     next(made, None)
 
 
-@pytest.fixture(scope="module")
+@pytest.fixture
 def roots_bench(program):
+    """Root's own bench, whose files a test gives away."""
     yield from made_bench(program)
 
 
 @pytest.fixture(autouse=True)
 def leave_root(request):
-    """Root's tests go on as another user, but those that are of root."""
-    with contextlib.nullcontext() if request.node.get_closest_marker("root") else another_user():
+    """Root's tests go on as another user, but those that are of root. Nobody else reads a station's files."""
+    with umask(0o077), contextlib.nullcontext() if request.node.get_closest_marker("root") else another_user():
         yield
 
 

@@ -267,7 +267,6 @@ class Plant:
 @contextlib.contextmanager
 def plant_of(program, megabytes):
     """The plant, over a file system of so many megabytes. Other users use folders of it."""
-    mask = os.umask(0o022)
     with tempfile.TemporaryDirectory() as folder, tempfile.TemporaryDirectory() as small:
         words = ["mount", "-t", "tmpfs", "-o", f"size={megabytes}m,mode=0755", "small", small]
         expect("a small file system", ran(words).returncode, 0)
@@ -279,4 +278,3 @@ def plant_of(program, megabytes):
                 plant.close()
         finally:
             ran(["umount", "--lazy", small])
-            os.umask(mask)
