@@ -5,7 +5,7 @@ from collections.abc import Iterator
 import pytest
 
 from books.seal_places import run
-from books.seal_plant import Plant, plant, work
+from books.seal_plant import TOKENS, Plant, plant, work
 from common.ports import free_port
 
 
@@ -26,3 +26,12 @@ def made(program, tmp_path_factory) -> Iterator[Plant]:
 @pytest.fixture
 def folder(made):
     return made.folder
+
+
+@pytest.fixture
+def looks(folder):
+    """The words that ask what is left, by a token that looks of each customer."""
+    for name, seat in (("acme", "a1"), ("bolt", "b1")):
+        (folder / f"{name}.look").write_text(TOKENS[seat])
+        (folder / f"{name}.look").chmod(0o600)
+    return [word for name in ("acme", "bolt") for word in ("--left", f"{name}={folder / name}.look")]

@@ -45,15 +45,6 @@ def journals_of(folder):
     return [f"{name}={folder / name}" for name in ("acme", "bolt")]
 
 
-@pytest.fixture
-def looks(folder):
-    """The words that ask what is left, by a token that looks of each customer."""
-    for name, seat in (("acme", "a1"), ("bolt", "b1")):
-        (folder / f"{name}.look").write_text(TOKENS[seat])
-        (folder / f"{name}.look").chmod(0o600)
-    return [word for name in ("acme", "bolt") for word in ("--left", f"{name}={folder / f'{name}.look'}")]
-
-
 @pytest.mark.needs("jq")
 @pytest.mark.parametrize("start, end", [(START, END), ("2026-11-27T06:10:00Z", "2026-11-27T07:21:00Z")])
 def test_counts(folder, tmp_path, start, end):
