@@ -1,5 +1,5 @@
-"""More stores and journals that somebody changed by hand. Behind each one stands who could do it: a customer who writes to
-the store's file (store), a station with its journal (journal), or both hands."""
+"""More stores and journals that somebody changed by hand. Behind each one stands who could do it: a customer who writes
+to the store's file (store), a station with its journal (journal), or both hands."""
 
 import hashlib
 import json
