@@ -6,7 +6,8 @@ import subprocess
 
 import pytest
 
-from books.seal_forged import CLOCKS, FORGED, forge
+from books.seal_clocks import CLOCKS
+from books.seal_forged import FORGED, forge
 from books.seal_places import PERIOD, expect_said, run
 from books.seal_plant import END, START
 

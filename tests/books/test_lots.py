@@ -7,7 +7,6 @@ signatures have to hold by the commands of the page. The goal is 10 seconds for 
 caller another rate than its usual one. With that one a hundred records are timed.
 """
 
-import os
 import signal
 import subprocess
 import time
@@ -110,14 +109,13 @@ def test_signatures(place, name):
     assert 0 not in [ran(words.split(), here).returncode for words in looks]
 
 
-# Asks for a hundred records, and prints the seconds; its words are the project, the URL, the token and the CA.
+# Asks for a hundred records, and prints the seconds; its words are the URL, the token and the CA.
 ASKING = f"""
 import sys, time
 from pathlib import Path
-sys.path.insert(0, sys.argv[1])
 from wanekupo.seat import listings
 from wanekupo.seat.settings import Settings, looking_station_of
-station = looking_station_of(Settings(url=sys.argv[2], token=Path(sys.argv[3]), ca=Path(sys.argv[4])))
+station = looking_station_of(Settings(url=sys.argv[1], token=Path(sys.argv[2]), ca=Path(sys.argv[3])))
 rows = [it for it in listings.devices(station) if it.serial][:{TIMED}]
 begun = time.monotonic()
 for it in rows:
@@ -130,7 +128,7 @@ def test_usual_shares(program, found):
     """With nginx's usual rate: how long a hundred records take, of an order that is asked for by a script."""
     with opened_lots(program, USUAL, {}, TIMED) as place:
         given = [f"https://localhost:{place.port}", place.folder / "a1", place.folder / "etc/cert.pem"]
-        done = ran([PYTHON, "-B", "-c", ASKING, PROJECT, *given], env=os.environ)
+        done = ran([PYTHON, "-B", "-c", ASKING, *given], PROJECT)
     assert done.returncode == 0, done.stderr
     seconds = float(done.stdout)
     found(f"lots: {TIMED} records by nginx's usual shares: {seconds:.1f} s, so 10,000 in {seconds * 100 / 60:.0f} min")
