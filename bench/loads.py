@@ -7,7 +7,7 @@ from collections.abc import Iterable
 from pathlib import Path
 from typing import NamedTuple
 
-from served import HOST
+from common.served import HOST
 
 SOURCE = Path(__file__).resolve().parent / "load.c"
 

@@ -17,11 +17,11 @@ from pathlib import Path
 from types import ModuleType
 from typing import NamedTuple
 
-from chip import empty_page
-from lives import SITE, STEPS
-from program import Failed, Program, send
-from schemas import OWN, take_back
-from stores import command_of, run_lives, start_of
+from common.chip import empty_page
+from common.lives import SITE, STEPS
+from common.program import Failed, Program, send
+from common.schemas import OWN, take_back
+from common.stores import command_of, run_lives, start_of
 
 HERE = os.path.dirname(os.path.abspath(__file__))
 MILLION = 10**6

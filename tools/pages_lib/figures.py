@@ -27,8 +27,9 @@ MARK = re.compile(rf"(?P<number>{NUMBER}|\b[a-z]+)<!-- =(?P<name>\w+) -->")
 TESTS = ["crates/*_tests", "crates/test_*"]
 KIT = re.compile(r"rattle-kit-\S+ logic (?P<logic>\w+)")
 
-# A row of what was tried on the built program: the script, the commit, and whether files were changed. Its sources.
-DISTURBED = r"^\| `(bench/(?:kill|powercut|refuse))\b.* \| ([0-9a-f]{7,40}) of [\d-]{10}( and [^|]*)? \|$"
+# A row of what was tried on the built program: the command, the commit, and whether files were changed. Its sources.
+DISTURBED = r"^\| `(tests/all faults/test_(?:kill|powercut|refuse)\.py [^`]*)` .*"
+DISTURBED += r" \| ([0-9a-f]{7,40}) of [\d-]{10}( and [^|]*)? \|$"
 SOURCES = ("crates/*/src/*", ":!crates/*_tests", ":!crates/test_*")
 
 # A page or a crate's first lines, the words around a number, and which figure it is.
@@ -214,7 +215,7 @@ def rows_of_other_sources() -> Iterator[str]:
         return
     for name, commit, more in re.findall(DISTURBED, page_text("docs/reference/tests.md"), re.MULTILINE):
         if more or asked_git("diff", "--quiet", commit, "HEAD", "--", *SOURCES).returncode:
-            yield f"docs/reference/tests.md: {name} is of {commit}{more}, of other sources: bench/disturbed --write"
+            yield f"docs/reference/tests.md: {name} is of {commit}{more}, of other sources: it takes --write"
 
 
 def others_at_fault() -> Iterator[str]:

@@ -1,7 +1,7 @@
 """Seals, the audit and the shift's report, as a person gives the commands. Counts are made up and counted by hand, what
 a store is forged to is by sqlite3, and digests are those of hashlib over the page's own words.
 
-`bench/seals` tries many more forged stores, kills, signatures, time stamps and large stores.
+`tests/books` tries many more forged stores, kills, signatures, time stamps and large stores.
 """
 
 from __future__ import annotations

@@ -1,5 +1,5 @@
 """As whom the store's work is done: which folder is one, who is no store's user, and what a process of his gets. What
-needs root is tried by bench/roads."""
+needs root is tried by tests/plant/test_roads.py."""
 
 import contextlib
 import math

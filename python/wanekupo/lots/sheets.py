@@ -1,6 +1,6 @@
 """Spreadsheets: which fields of a list one of them changes as it opens it, and a list as a file whose cells are texts.
 
-What LibreOffice and gnumeric make of a field is as they were seen to (`bench/lots --only sheets` tries it). Excel's
+What LibreOffice and gnumeric make of a field is as they were seen to (`tests/books/test_lots_sheets.py`). Excel's
 part is by its maker's pages: leading zeros, more than 15 digits, digits around an E, and letters with digits that may
 be a date are converted, and a number of more than 11 digits is shown, and so saved, with an exponent.
 """

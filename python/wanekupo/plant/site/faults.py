@@ -1,7 +1,7 @@
 """A fault of a text: its number, which is the program's, the line, the member, and the cause in words.
 
 docs/reference/files.md has the numbers. The reader of a site and that of a map find faults here by its rules; which
-number a text has is the program's to say, and bench/sites holds the readers to it.
+number a text has is the program's to say, and tests/plant/test_sites.py holds the readers to it.
 """
 
 import math

@@ -1,0 +1,99 @@
+"""A server on a port of this machine, and the requests of a seat over HTTP."""
+
+import contextlib
+import glob
+import http.client
+import json
+import os
+import signal
+import socket
+import subprocess
+import time
+from pathlib import Path
+
+HOST = "127.0.0.1"
+
+# In how many parts Linux counts a second of a processor.
+TICKS = os.sysconf("SC_CLK_TCK")
+
+
+def station(program, site, db, port):
+    """The command that serves a store until it is ended."""
+    words = ["serve", "--site", site, "--db", db, "--port", str(port), "--connections", "1000000"]
+    return [program, *words]
+
+
+class Server:
+    """A process that serves, in a group of its own, so that its workers end with it."""
+
+    def __init__(self, command, port):
+        self.port = port
+        self.process = subprocess.Popen(
+            command, stdin=subprocess.DEVNULL, stdout=subprocess.DEVNULL, start_new_session=True
+        )
+
+    def is_listening(self):
+        try:
+            socket.create_connection((HOST, self.port), 1).close()
+            return True
+        except OSError:
+            return False
+
+    def is_answering(self):
+        """Whether a request is answered: a port may be listened on before anybody serves it."""
+        connection = http.client.HTTPConnection(HOST, self.port, timeout=5)
+        try:
+            connection.request("GET", "/", headers={"Connection": "close"})
+            return connection.getresponse().status > 0
+        except (http.client.HTTPException, OSError):
+            return False
+        finally:
+            connection.close()
+
+    def wait(self, is_ready, seconds=600):
+        """Waits until the server is ready."""
+        end = time.monotonic() + seconds
+        while not is_ready(self):
+            if self.process.poll() is not None or time.monotonic() > end:
+                self.kill()
+                raise SystemExit(f"FAILED: {self.process.args[0]} doesn't listen on port {self.port}")
+            time.sleep(0.001)
+        return self
+
+    def used(self):
+        """The seconds of a processor that its processes took until now."""
+        ticks = 0
+        for path in glob.glob("/proc/[0-9]*/stat"):
+            with contextlib.suppress(OSError):
+                fields = Path(path).read_text(encoding="utf-8", errors="replace").rpartition(")")[2].split()
+                ticks += int(fields[11]) + int(fields[12]) if int(fields[2]) == self.process.pid else 0
+        return ticks / TICKS
+
+    def kill(self):
+        try:
+            os.killpg(self.process.pid, signal.SIGKILL)
+        except ProcessLookupError:
+            pass
+        self.process.wait()
+
+
+class Caller:
+    """A seat's requests over one connection, or each over a new one."""
+
+    def __init__(self, port, token, is_kept=True):
+        self.is_kept = is_kept
+        self.fields = {"Authorization": f"Bearer {token}"} | ({} if is_kept else {"Connection": "close"})
+        self.connection = http.client.HTTPConnection(HOST, port, timeout=30)
+
+    def ask(self, method, target, members=None):
+        """The status and the body of the reply."""
+        body = None if members is None else json.dumps(members, separators=(",", ":")).encode()
+        self.connection.request(method, target, body, self.fields)
+        reply = self.connection.getresponse()
+        text = reply.read()
+        if not self.is_kept:
+            self.connection.close()
+        return reply.status, text
+
+    def close(self):
+        self.connection.close()

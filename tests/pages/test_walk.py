@@ -1,0 +1,47 @@
+"""Runs the commands of the pages in docs against the built program, and compares every reply with its page.
+
+    tests/all pages/test_walk.py --write             puts this run's replies into the pages
+    tests/all pages/test_walk.py -k security.md      one page
+
+The commands of a page run in one bash, in a new folder in which `crates`, `clients`, `deploy` and `python` are the
+repository's and `station` is the program. A page whose commands run nginx, age or minisign is skipped where there is
+none. That a page runs sqlite3 in its safe mode alone is looked at in test_crafted.py.
+"""
+
+import re
+
+import pytest
+
+from common.needs import missing
+from common.pages import BLOCK, ROOT, SECONDS, others_than_on, steps_of, walk
+from common.ports import ports_in_row
+
+DOCS = ROOT / "docs"
+
+# Programs that not every machine has, as a page runs them.
+RARE = re.compile(r"(?:^|[|;&(]\s*)(nginx|age|minisign)\b")
+
+
+def pages_with_commands():
+    """The pages that have commands, by their paths from docs."""
+    pages = (page for page in sorted(DOCS.glob("**/*.md")) if BLOCK.search(page.read_text(encoding="utf-8")))
+    return [str(page.relative_to(DOCS)) for page in pages]
+
+
+def needs(name):
+    """The programs that a page runs and that not every machine has."""
+    steps = (step for block in BLOCK.findall((DOCS / name).read_text(encoding="utf-8")) for step in steps_of(block))
+    return sorted({program for step in steps for line in step.lines for program in RARE.findall(line)})
+
+
+@pytest.mark.needs("reader", "bash", "curl", "jq", "xxd", "sqlite3", "sha256sum")
+@pytest.mark.parametrize("name", pages_with_commands())
+def test_a_page(program, name, is_written):
+    if lacking := missing(needs(name)):
+        pytest.skip(f"there is no {', '.join(lacking)}")
+    page = DOCS / name
+    text, told = walk(page, program, ports_in_row(4), SECONDS)
+    if is_written:
+        page.write_text(text, encoding="utf-8")
+    else:
+        assert not others_than_on(told)

@@ -1,0 +1,126 @@
+"""Texts with a fault each, for test_sites.py: sites and maps, the number that docs/reference/files.md gives them, the
+line, and the member that a person has to look at.
+"""
+
+from common.chip import ROOT, SITE
+
+A1 = "ba7816bf8f01cfea414140de5dae2223b00361a396177a9cb410ff61f20015ad"
+SAMPLE = SITE.read_text(encoding="utf-8")
+NONE = (ROOT / "python/wanekupo/chips/families/none/map.toml").read_text(encoding="utf-8")
+
+KEYED = """name = "k"
+wr = "W"
+rd = "R"
+coding = "C"
+block = [{ words = 1 }, { words = 8 }]
+field = [
+    { name = "W", block = 0, bit = 0, count = 4, write = 1 },
+    { name = "R", block = 0, bit = 4, count = 2 },
+    { name = "C", block = 0, bit = 6, count = 2 },
+    { name = "K", block = 1, bit = 0, count = 256, write = 2, read = 1, key = true },
+]
+"""
+
+
+def changed(text: str, old: str, new: str) -> str:
+    """A text with one place of it otherwise."""
+    assert text.count(old) == 1, (old, text.count(old))
+    return text.replace(old, new)
+
+
+def sample(old: str, new: str) -> str:
+    return changed(SAMPLE, old, new)
+
+
+def keyed(old: str, new: str) -> str:
+    return changed(KEYED, old, new)
+
+
+def seats(count: int) -> str:
+    return "".join(f'[[customer.seat]]\nname = "s{n}"\ntoken = "{n:064x}"\n' for n in range(count))
+
+
+def pools(count: int) -> str:
+    return "".join(f'[[customer.pool]]\nfirst = "02{n:010x}"\ncount = 1\n' for n in range(count))
+
+
+def customers(count: int) -> str:
+    return "".join(f'[[customer]]\nname = "c{n}"\nissuer = []\n' for n in range(count))
+
+
+ONE = '[[customer]]\nname = "one"\nissuer = []\n'
+BOLT_SEAT = 'name = "b1"\ntoken = "2cf24dba5fb0a30e26e83b2ac5b9e29e1b161e5c1fa7425e73043362938b9824"'
+
+# What stands for a token in these texts, and may be in no line that is told.
+SECRET = 31415926535897932
+
+# What it is, the text, the number, the line, the member.
+SITES = [
+    ("an open text", sample('"acme"', '"acme'), 1, 2, "the text"),
+    ("no closing mark", sample("[manager]", "[manager"), 1, 19, "the text"),
+    ("a member twice", sample('name = "bolt"', 'name = "bolt"\nname = "core"'), 1, 15, "the text"),
+    ("a number of 65 bits", f"x = 9223372036854775808\n{SAMPLE}", 1, 1, "x"),
+    ("no customers", '[manager]\ntoken = "' + A1 + '"\n', 2, 1, "customer"),
+    ("a customer that is a table", '[customer]\nname = "a"\n', 2, 1, "customer"),
+    ("no issuers", sample('issuer = ["bolt-ca"]\n', ""), 2, 13, "customer.issuer"),
+    ("an issuer that is no array", sample('issuer = ["bolt-ca"]', 'issuer = "bolt-ca"'), 2, 15, "customer.issuer"),
+    ("an issuer with a blank", sample('"bolt-ca"', '"bolt ca"'), 2, 15, "customer.issuer"),
+    ("a name of 33 letters", sample('"bolt"', f'"{"b" * 33}"'), 2, 14, "customer.name"),
+    ("a token of 63 digits", sample(A1, A1[1:]), 2, 12, "customer.seat.token"),
+    ("a token itself", sample(A1, "abc"), 2, 12, "customer.seat.token"),
+    ("a token that is a number", sample(f'"{A1}"', str(SECRET)), 2, 12, "customer.seat.token"),
+    ("a token in the place of a name", sample('"b1"', f'"wanekupo_{SECRET:064x}"'), 2, 17, "customer.seat.name"),
+    ("a token in the place of a seat", f'{ONE}seat = ["{SECRET:064x}"]\n', 2, 4, "customer.seat"),
+    ("an escape in a key", sample('token = "' + A1, '"t\\u006fken" = "abc'), 2, 12, "customer.seat.token"),
+    ("an address with capitals", sample("020000000010", "02000000001A"), 2, 5, "customer.pool.first"),
+    ("a pool of none", ONE + '[[customer.pool]]\nfirst = "020000000010"\ncount = 0\n', 2, 6, "customer.pool.count"),
+    ("a pool that is too long", ONE + '[[customer.pool]]\nfirst = "020000000010"\ncount = 16777217\n', 2, 6,
+     "customer.pool.count"),
+    ("a manager without a token", "customer = []\n[manager]\n", 2, 2, "manager.token"),
+    ("a customer twice", sample('"bolt"', '"acme"'), 3, 14, "customer.name"),
+    ("an issuer twice", sample('"bolt-ca"', '"acme-ca"'), 3, 15, "customer.issuer"),
+    ("a seat twice", sample('"b1"', '"a1"'), 3, 17, "customer.seat.name"),
+    ("a token twice, in the other case", sample(BOLT_SEAT, f'name = "b1"\ntoken = "{A1.upper()}"'), 3, 18,
+     "customer.seat.token"),
+    ("the manager's token", sample("9f86d081884c7d659a2feaa0c55ad015a3bf4f1b2b0b822cd15d6c15b0f00a08", A1), 3, 20,
+     "manager.token"),
+    ("two pools that meet", sample("020000000020", "020000000013"), 4, 8, "customer.pool.first"),
+    ("a group address", sample("020000000020", "030000000020"), 5, 8, "customer.pool.first"),
+    ("a pool that runs into group addresses", sample("020000000020", "02fffffffffe"), 5, 8, "customer.pool.first"),
+    ("a pool beyond 48 bits", sample("020000000020", "fefffffffffe").replace("fefff", "fffff"), 5, 9,
+     "customer.pool.count"),
+    ("65 customers", customers(65), 6, 193, "customer"),
+    ("65 seats", ONE + seats(65), 6, 196, "customer.seat"),
+    ("9 issuers", ONE.replace("[]", str([f"i{n}" for n in range(9)])), 6, 3, "customer.issuer"),
+    ("17 pools", ONE + pools(17), 6, 52, "customer.pool"),
+    ("a text that is too long", SAMPLE + "#" * (1_048_577 - len(SAMPLE)), 6, 1, "the text"),
+    ("faults 3, 4 and 5 together", sample("020000000020", "030000000013").replace('"b1"', '"a1"'), 3, 17,
+     "customer.seat.name"),
+]  # fmt: skip
+
+MAPS = [
+    ("an open text", keyed('wr = "W"', 'wr = "W'), 1, 2, "the text"),
+    ("no name", keyed('name = "k"\n', ""), 2, 1, "name"),
+    ("a name of 33 letters", keyed('"k"', f'"{"k" * 33}"'), 2, 1, "name"),
+    ("a field's name of 33 letters", keyed('"C", block', f'"{"C" * 33}", block'), 2, 9, "field.name"),
+    ("a block of 9 words", keyed("words = 8", "words = 9"), 2, 5, "block.words"),
+    ("five blocks", keyed("[{ words = 1 }, ", "[" + "{ words = 1 }, " * 4), 2, 5, "block"),
+    ("a field of no bits", keyed("bit = 4, count = 2", "bit = 4, count = 0"), 2, 8, "field.count"),
+    ("a negative block", keyed('"R", block = 0', '"R", block = -1'), 2, 8, "field.block"),
+    ("a key that is a number", keyed("key = true", "key = 1"), 2, 10, "field.key"),
+    ("no fields", NONE[: NONE.index("field = ")] + "field = []\n", 2, 9, "field"),
+    ("a text that is too long", NONE + "#" * 32_768, 2, 1, "the text"),
+    ("a field twice", keyed('{ name = "C"', '{ name = "R"'), 3, 9, "field.name"),
+    ("a field in no block", keyed('"K", block = 1', '"K", block = 2'), 4, 10, "field.block"),
+    ("a field beyond its block", keyed("bit = 6, count = 2", "bit = 6, count = 27"), 4, 9, "field.count"),
+    ("fields that overlap", keyed("bit = 6, count = 2", "bit = 5, count = 2"), 5, 9, "field.bit"),
+    ("no such field", keyed('wr = "W"', 'wr = "V"'), 6, 2, "wr"),
+    ("a key field for locks", keyed('rd = "R"', 'rd = "K"'), 6, 3, "rd"),
+    ("one field for both", keyed('rd = "R"', 'rd = "W"'), 6, 3, "rd"),
+    ("a coding that is the locks'", keyed('coding = "C"', 'coding = "R"'), 6, 4, "coding"),
+    ("locks that can be hidden", keyed("count = 4, write = 1", "count = 4, write = 1, read = 0"), 6, 2, "wr"),
+    ("a lock beyond its field", keyed("write = 2", "write = 4"), 7, 10, "field.write"),
+    ("a read lock beyond its field", keyed("read = 1", "read = 2"), 7, 10, "field.read"),
+    ("a key without a read lock", keyed("read = 1, ", ""), 8, 10, "field.key"),
+    ("a key of half a block", keyed("count = 256", "count = 128"), 8, 10, "field.key"),
+]
