@@ -490,7 +490,7 @@ def test_one_of_two_machines(file, tmp_path, monkeypatch, capsys, is_mounted, le
 
     def leave(half, tokens):
         if left:
-            raise token.Refused(left)
+            raise token.StandbyError(left)
 
     monkeypatch.setattr(token.living, "leave", leave)
     missed = token.left_to_the_other(file, seats())
