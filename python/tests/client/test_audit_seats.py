@@ -25,9 +25,10 @@ from wanekupo.books.audit import Audit, Left, Unheld, _idle_faults, _journal_fau
 from wanekupo.books.audit_page import counted
 from wanekupo.books.chain import BadChain, Chain, sealed
 from wanekupo.books.clocks import contradictions
+from wanekupo.books.given import given_twice
 from wanekupo.books.matches import Seated, seated, steps_by_chip
 from wanekupo.books.numbers import Span, counts, spans_of
-from wanekupo.books.papers import given_twice, unasked
+from wanekupo.books.papers import unasked
 from wanekupo.books.shift import Period
 from wanekupo.books.stamp import verified
 from wanekupo.books.steps import book_of
@@ -101,6 +102,9 @@ class Turns(SeatCase):
              ["became an older one", "the numbers 3 to 6 have no line"]),
             ("the same in front", [[*row(1, 3, "05"), goes_on("06:06:00", 3), *row(7, 7, "07")]], (7, "c7"),
              ["the numbers 3 to 6 have no line"]),
+            ("a gap in front of a made-up restore",
+             [[*row(1, 1, "05"), *row(9, 9, "05"), goes_on("06:06:00", 6), *row(6, 7, "07")]], (7, "c7"),
+             ["the numbers 2 to 4 have no line"]),
             ("a number twice", [[*row(1, 5, "07"), *done("07:06:00", 2, "x")]], (5, "c5"), ["have the number 2, and"]),
             ("the same in a journal of its own", [row(1, 5, "07"), done("07:06:00", 2, "x")], (5, "c5"),
              ["became an older one", "the numbers 3 to 5 have no line"]),
@@ -302,6 +306,44 @@ class Journals(SeatCase):
         for turn, meant in ((0, found), (1, found[1:])):
             own.book.steps[3].turn = turn
             self.assertEqual([(it[4], it[5].split()[1]) for it in given_twice([own])], meant)
+
+    def test_what_lines_of_imports_say_was_given_twice(self):
+        """A number or a key beside another one, of a chip or an import: not where both agree, and not where a restore
+        took the import away."""
+        def identity(number, chip, serial, key, mac=None):
+            reply = {"issuer": "ca", "serial": serial, "key_sha256": key, "mac": mac}
+            return [asked(f"07:{number:02}:00", number, chip, "/v1/identity"),
+                    answered(f"07:{number:02}:01", number, **reply)]
+
+        def imported(number, *rows):
+            text = "".join(f"{it}\n" for it in ("serial,key_sha256", *rows))
+            return [asked(f"07:{number:02}:00", number, "", "/v1/import", issuer="ca", csv=text),
+                    answered(f"07:{number:02}:01", number, added=len(rows), present=0)]
+
+        def ordered(number, name, macs):
+            return [asked(f"07:{number:02}:00", number, "", "/v1/order", name=name, macs=macs),
+                    answered(f"07:{number:02}:01", number)]
+
+        def registered(number, chip, order):
+            return [asked(f"07:{number:02}:00", number, chip, "/v1/device", order=order),
+                    answered(f"07:{number:02}:01", number)]
+
+        spans = [*ordered(1, "o", 2), *registered(2, "c1", "o"), *identity(3, "c1", "S1", "k1", "020000000010")]
+        for name, lines, meant in (
+            ("agree", [*identity(1, "c1", "S1", "k1"), *imported(2, "S1,k1"), *imported(3, "S1,K1", "S2,k2")], []),
+            ("another key", [*identity(1, "c1", "S1", "k1"), *imported(2, "S1,k2")], ["the serial S1 was given twice"]),
+            ("another number", [*imported(1, "S1,k1"), *identity(2, "c1", "S2", "k1")], ["the key_sha256 k1 was"]),
+            ("two imports", [*imported(1, "S1,k1"), *imported(2, "S1,k2")], ["the serial S1 was given twice"]),
+            ("a restore", [*imported(1, "S1,k1"), goes_on("07:05:00", 1), *imported(1, "S1,k2")], []),
+            ("a chip again", [*identity(1, "c1", "S1", "k1"), goes_on("07:05:00", 1), *identity(1, "c1", "S2", "k1")],
+             []),
+            ("addresses apart", [*spans, *identity(4, "c2", "S2", "k2", "020000000012")], []),
+            ("an address within", [*spans, *identity(4, "c2", "S2", "k2", "020000000011")], ["020000000011 was giv"]),
+        ):
+            with self.subTest(name):
+                _, journals = self.spans([lines], self.store(4))
+                told = [it[5] for it in given_twice(journals)]
+                self.assertEqual((len(told), all(it in own for it, own in zip(meant, told))), (len(meant), True), told)
 
     def test_what_is_held_to_no_line(self):
         self.assertIn("imports of acme, bolt are held to no line", counted(Audit(PERIOD, parts=["acme", "bolt"])))

@@ -7,6 +7,7 @@ tables of docs/reference/api.md. No server is asked.
 from __future__ import annotations
 
 import hashlib
+import json
 import unittest
 from types import SimpleNamespace
 
@@ -188,6 +189,16 @@ class Asked(SeatCase):
                 is_said = all(words in it for words, it in zip(meant, told))
                 self.assertEqual((len(told), is_said), (len(meant), True), told)
 
+    def test_the_reply_that_is_kept(self):
+        """A seat's last identity, whose reply was lost: its station is to get the one that the store keeps."""
+        record = {"serial": "A998", "issuer": "acme-ca", "chip": "c1", "key_sha256": FLASH}
+        for serial, meant in (("A998", 0), ("A999", 1)):
+            store = self.store(1, "c1", "/v1/identity")
+            store.seats["a1"].reply = json.dumps({**record, "serial": serial})
+            store.record = lambda issuer, serial: record if serial == "A998" else None
+            _, journals = self.spans([[asked("07:01:00", 1, "c1", "/v1/identity")]], store)
+            self.assertEqual(len(list(papers(journals, store, ALWAYS))), meant)
+
     def test_one_of_two_without_a_reply(self):
         """Of two with a number, of which the replies were lost, one was done: nobody can tell which, and neither is
         missed. One alone is."""
@@ -212,7 +223,8 @@ class Asked(SeatCase):
             unread_maps=lambda: [("bolt", "can't be read")],
             places=lambda: (), addressed=lambda: (), identified=lambda: (),
             issuers=lambda: [("acme", "acme-ca", 9), ("acme", "bolt-ca", 2), ("bolt", "x", 1)],
-            records=lambda _: (), twice=lambda _: (),
+            records=lambda _: (), twice=lambda _: (), pools={}, site_seats={}, stray_bytes=lambda: (),
+            excluded=lambda: (), placed=lambda: (), macs_shown=lambda: (),
         )
         self.assertEqual([(it[2], it[4]) for it in twice(store)], [
             ("acme", "2 of its records and orders are of the issuer bolt-ca, which is bolt's by the site"),

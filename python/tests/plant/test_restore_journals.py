@@ -9,10 +9,11 @@ from pathlib import Path
 
 import pytest
 from wanekupo.plant.restore import journals as restore_journals
-from wanekupo.plant.restore.journals import seat_named, sources_of, take_journals
+from wanekupo.plant.restore.journals import sources_of, take_journals
 from wanekupo.plant.restore.plan import CustomerPlan, RestoreError
 from wanekupo.seat import journal_lines
 from wanekupo.common.errors import BadJournal
+from wanekupo.seat.journal import seat_named
 from wanekupo.seat.journal_lines import folders_at, folders_in
 
 
@@ -354,10 +355,11 @@ def test_the_file_is_roots_or_this_users(tmp_path):
         folders_at(path)
 
 
-NAMES = (("a1-2026-11-29.journal", "a1"), ("pc-a-1-2026-11-29.journal", "pc-a-1"), ("2026-11-29.journal", ""),
-         ("a1.journal", "a1"), ("a1.old.journal", "a1"))  # fmt: skip
+NAMES = (("a1-2026-11-29.journal", "a1"), ("pc-a-1-2026-11-29.journal", "pc-a-1"), ("2026-11-29.journal", "pc7"),
+         ("a1.journal", "a1"), ("pc.a1.journal", "pc.a1"), ("pc.a1-2026-11-29.journal", "pc.a1"))  # fmt: skip
 
 
 @pytest.mark.parametrize("name, seat", NAMES)
-def test_the_seat_of_a_files_name(name, seat, tmp_path):
-    assert seat_named(tmp_path / name) == seat
+def test_the_seat_of_a_files_name(name, seat):
+    """A seat's name may have points; a file of a day alone lies in the folder of its seat."""
+    assert seat_named(Path("pc7", name)) == seat

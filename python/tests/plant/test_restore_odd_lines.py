@@ -17,10 +17,11 @@ from wanekupo.plant.restore.journals import Source, take_journals
 from wanekupo.plant.restore.plan import CustomerPlan, RestoreError, asked_of, named, requests_of_seats
 from wanekupo.books.audit import audit_of
 from wanekupo.books.audit_page import as_html, as_text, found_table
+from wanekupo.books.schema import CREATED, statements
 from wanekupo.books.shift import period_of, shift_of
 from wanekupo.books.shift_page import as_html as shift_page, tables
 from wanekupo.books.steps import book_of, books_of
-from wanekupo.books.store import TABLES, StoreCopy
+from wanekupo.books.store import StoreCopy
 from wanekupo.books.store_rows import Books
 from wanekupo.common.errors import StationError
 from wanekupo.metrics.exposition import Samples
@@ -99,9 +100,9 @@ def lost(tmp_path):
     """A store in which the seat has these numbers, and the chip all its entries."""
     events = ("registered", ""), ("planned", ""), ("read", "match"), ("identified", "P01"), ("shipped", "")
     with closing(sqlite3.connect(tmp_path / "books.db")) as base:
-        for name, columns in TABLES.items():
-            base.execute(f"CREATE TABLE {name} ({', '.join(columns.split())})")
-        add = {name: f"INSERT INTO {name} VALUES ({', '.join('?' * len(it.split()))})" for name, it in TABLES.items()}
+        base.executescript(CREATED)
+        columns = {name: list(base.execute(f"PRAGMA table_info({name})")) for name in statements()}
+        add = {name: f"INSERT INTO {name} VALUES ({', '.join('?' * len(its))})" for name, its in columns.items()}
         base.execute(add["meta"], (1, 3, b""))
         base.execute(add["seat"], ("b1", "bolt", 9, b"", "{}"))
         base.execute(add["map"], (1, MAP, bytes.fromhex(DIGEST)))

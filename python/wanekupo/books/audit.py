@@ -9,16 +9,18 @@ from dataclasses import dataclass, field
 from itertools import chain
 from typing import Iterable, Iterator, NamedTuple, Union
 
+from wanekupo.books.asked import asked_faults
 from wanekupo.books.clocks import Contradiction, Timed, ToCome, Window, contradictions, to_come, window_of
 from wanekupo.books.coherence import faults_of
+from wanekupo.books.given import given_twice
 from wanekupo.books.matches import Matched, Seated, matched, seated, steps_by_chip
 from wanekupo.books.numbers import Span, counts, spans_of, whole_customers
 from wanekupo.books.once import twice
-from wanekupo.books.papers import given_twice, papers, repeated, unasked
+from wanekupo.books.papers import papers, repeated, unasked
 from wanekupo.books.shift import Period
 from wanekupo.books.steps import Book, Step
 from wanekupo.books.store_rows import Books, LedgerRow, StoredChip
-from wanekupo.books.verdicts import Chip, asked_faults
+from wanekupo.books.verdicts import Chip, request_faults
 
 
 @dataclass(frozen=True)
@@ -83,6 +85,7 @@ def audit_of(store: Books, books: Iterable[Book], period: Period, now: str) -> A
     laid.pairs.sort(key=lambda it: it[0])
     audit.found += _journal_faults(journals, store)
     audit.found += _clock_faults(journals, laid.pairs, period, now)
+    audit.found += _out_of_turn(laid.pairs, store)
     whole, window = whole_customers(spans, store), window_of(laid.pairs, period)
     audit.found += laid.found()
     audit.found += _left_faults(audit, laid, window, spans, lost, whole)
@@ -91,7 +94,7 @@ def audit_of(store: Books, books: Iterable[Book], period: Period, now: str) -> A
     audit.found += [Found("journal", at, it.customer, it.seat, "", told) for it in spans for at, told in it.lost]
     audit.found += [Found(kind, at, customer, "", chip, told) for kind, at, customer, chip, told in twice(store)]
     rows = chain(papers(journals, store, period), unasked(journals, store, whole), given_twice(journals))
-    audit.found += [Found(*it) for it in rows]
+    audit.found += [Found(*it) for it in chain(rows, asked_faults(journals, store, laid.taken(), whole))]
     audit.parts = sorted({it.customer for it in store.seats.values() if it.last} - whole)
     audit.repeated = repeated(journals)
     audit.held = list(_held(journals, laid.lines, spans, store, period))
@@ -145,6 +148,10 @@ class Laid:
                 taken = "was accepted" if step.is_done() else f"has the number {step.number}, which was given"
                 told = f"{step.place()}, {said}, {taken}, and no ledger has it"
                 self.faults.append(Found("no_entry", step.at, own.customer, own.seat, step.chip, told))
+
+    def taken(self) -> set[int]:
+        """The lines that have an entry, by `id`."""
+        return {id(step) for _, step, *_ in chain(self.pairs, self.odd)}
 
     def found(self) -> Iterator[Found]:
         """The lines without an entry, and the pairs that differ."""
@@ -257,6 +264,19 @@ def _clock_faults(journals: Iterable[Seated], pairs: list[Timed], period: Period
             yield Found("clock", first.step.at, own.customer, own.seat, first.step.chip, told)
 
 
+def _out_of_turn(pairs: Iterable[Timed], store: Books) -> Iterator[Found]:
+    """Entries of a seat that come in another order than the numbers of their lines."""
+    last: dict[str, Step] = {}
+    for _, step in pairs:
+        before = last.setdefault(step.seat or step.file, step)
+        if (step.turn, step.number) >= (before.turn, before.number):
+            last[step.seat or step.file] = step
+        elif step.is_stored and before.is_stored:
+            customer = store.seats[step.seat].customer if step.seat in store.seats else ""
+            told = f"the entry of {step.place()} was written behind that of {before.place()}, whose number is greater"
+            yield Found("exchanged", step.at, customer, step.seat, step.chip, told)
+
+
 def _lines_of(life: StoredChip, made: Matched) -> dict[int, Step]:
     """The lines of a chip's entries by the numbers of these. A line counts where it is surely its entry's: where there
     are as many of both, or no other entry says the same, and where no other one was asked under its number."""
@@ -275,7 +295,7 @@ def _contradictions(life: StoredChip, lines: dict[int, Step], store: Books) -> I
         chip = Chip(fields) if fields else None
         for entry in life.entries:
             step = lines.get(entry.row["n"])
-            asked = asked_faults(step, device, life.records) if step else ()
+            asked = request_faults(step, device, life.records) if step else ()
             for told in chain(chip.take(entry.row, step) if chip else (), asked):
                 place = f" ({step.place()})" if step else ""
                 told = f"{_told(_left_of(entry), told)}{place}"

@@ -58,8 +58,8 @@ class Contradiction(NamedTuple):
     def told(self) -> str:
         its, others = f"its entry was written {'before' if self.is_late else 'behind'} that of", self.other.place()
         if self.is_late:
-            return f"has {self.step.at}, and {its} {others}, which was answered at {_end(self.other)}"
-        return f"was answered at {_end(self.step)}, and {its} {others}, which was asked at {self.other.at}"
+            return f"has {self.step.at}, and {its} {others}, which was answered at {end_of(self.other)}"
+        return f"was answered at {end_of(self.step)}, and {its} {others}, which was asked at {self.other.at}"
 
     def is_of(self, period: Period) -> bool:
         """Whether it matters to a period: not where both lines are before it, or both behind it."""
@@ -70,29 +70,29 @@ class Contradiction(NamedTuple):
 def contradictions(pairs: Sequence[Timed]) -> Iterator[Contradiction]:
     """The lines whose times contradict the longest run of lines whose times don't fall along the ids. Pairs come in the
     order of their ids, and so do these."""
-    run = longest_run([_begin(step) for _, step in pairs])
+    run = longest_run([begin_of(step) for _, step in pairs])
     answered = _answered_behind(pairs, run)
     latest: int = -1
     for place, (_, step) in enumerate(pairs):
         behind = answered[place]
         if run[place]:
             latest = place
-        elif behind >= 0 and _is_behind(_begin(step), _end(pairs[behind][1])):
+        elif behind >= 0 and is_behind(begin_of(step), end_of(pairs[behind][1])):
             yield Contradiction(step, pairs[behind][1], True)
-        elif latest >= 0 and _is_behind(_begin(pairs[latest][1]), _end(step)):
+        elif latest >= 0 and is_behind(begin_of(pairs[latest][1]), end_of(step)):
             yield Contradiction(step, pairs[latest][1], False)
 
 
-def _begin(step: Step) -> str:
+def begin_of(step: Step) -> str:
     """When a request was first asked."""
     return step.since or step.at
 
 
-def _end(step: Step) -> str:
+def end_of(step: Step) -> str:
     return step.answered if step.is_done() else NEVER
 
 
-def _is_behind(at: str, other: str) -> bool:
+def is_behind(at: str, other: str) -> bool:
     return at > other and seconds_between(other, at) > APART
 
 
@@ -101,7 +101,7 @@ def _answered_behind(pairs: Sequence[Timed], run: bytearray) -> array[int]:
     found, first = array("q", [-1]) * len(pairs), -1
     for place in reversed(range(len(pairs))):
         found[place] = first
-        if run[place] and (first < 0 or _end(pairs[place][1]) < _end(pairs[first][1])):
+        if run[place] and (first < 0 or end_of(pairs[place][1]) < end_of(pairs[first][1])):
             first = place
     return found
 

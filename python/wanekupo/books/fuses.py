@@ -6,7 +6,7 @@ import functools
 import struct
 import tomllib
 from dataclasses import dataclass
-from typing import Any, Optional
+from typing import Any, Iterator, Optional
 
 from wanekupo.chips import layout as recipe_wishes
 from wanekupo.common.errors import StationError
@@ -56,6 +56,23 @@ class FuseWords:
         return {
             field: part[1:].ljust(32, b"\0").hex() for (field, _), part in zip(self.keys, parts) if part[:1] == b"\1"
         }
+
+    def stray_bytes(self, bits: bytes, keys: bytes, todo: bytes) -> Iterator[str]:
+        """Which columns have ones where no bit and no key stands."""
+        length, end = self.bits_length(), KEY_BYTES * len(self.keys)
+        parts = (bits, todo[:length], todo[length : 2 * length])
+        if any(int.from_bytes(it[:length], "little") & self._nothing or any(it[length:]) for it in parts):
+            yield "has bits where keys stand, or behind its last block"
+        for column in (keys, todo[2 * length :]):
+            known = [column[place : place + KEY_BYTES] for place in range(0, end, KEY_BYTES)]
+            if any(column[end:]) or any(it[:1] not in (b"", b"\1") and any(it) for it in known):
+                yield "has a part of a key that isn't known"
+
+    @functools.cached_property
+    def _nothing(self) -> int:
+        """The places of key blocks in a column of bits."""
+        words = (0xFFFFFFFF if block in self._hidden else 0 for block, _ in self._words)
+        return sum(mask << 32 * place for place, mask in enumerate(words))
 
     def pending(self, column: bytes) -> dict[str, Any]:
         """What is still to be burnt, as a reply has it."""

@@ -174,6 +174,7 @@ def _settle(seat: StoredSeat, steps: Sequence[Step], turns: Sequence[Turn], span
         it.is_lost = it.turn > 0 or it.number >= (least[-it.turn - 1] if is_older else seat.last + 1)
         is_sure = it.is_done() or it.status is None and asked[it.turn, it.number] == 1
         it.is_stored = is_sure and not it.is_lost
+        it.is_either = not (done or it.is_lost) and asked[it.turn, it.number] > 1
         if it.status is None and (done or is_older and it.is_lost):
             gone.add(id(it))
     return gone
@@ -217,7 +218,7 @@ def _count(span: Span, seat: StoredSeat, steps: list[Step], turns: Sequence[Turn
             span.faults.append(f"the store has the number {seat.last}, and no journal has a request that was accepted")
         return
     own = [it for it in steps if it.turn == 0]
-    times = {it.number: it.at for it in own}
+    times = {it.number: it.at for it in steps if it.turn == 0 or not it.is_lost}
     if turns:
         times.setdefault(turns[-1].number - 1, turns[-1].at)
     numbers = sorted(times)

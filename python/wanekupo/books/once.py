@@ -2,8 +2,10 @@
 
 from __future__ import annotations
 
+from collections import defaultdict
 from typing import Any, Iterator, Optional
 
+from wanekupo.books.ranges import order_faults
 from wanekupo.books.store_rows import Books, serial_of
 
 # The end of a record's validity, which is none (RFC 5280, section 4.1.2.5).
@@ -22,8 +24,14 @@ def twice(store: Books) -> Iterator[Row]:
     yield from _jumps(store)
     yield from _import_faults(store)
     yield from _too_many(store)
+    yield from _full_before(store)
+    yield from _dumps(store)
     yield from _foreign(store)
+    yield from _strangers(store)
     yield from _map_faults(store)
+    yield from (("order", "", customer, "", told) for customer, told in order_faults(store))
+    yield from (("device", "", customer, chip, told) for customer, chip, told in store.stray_bytes())
+    yield from (("store", "", "", "", told) for told in store.excluded())
 
 
 def _numbers_twice(store: Books) -> Iterator[Row]:
@@ -113,6 +121,31 @@ def _too_many(store: Books) -> Iterator[Row]:
             yield "order", "", customer, "", f"the order {name} {told}"
 
 
+def _full_before(store: Books) -> Iterator[Row]:
+    """Registrations that came when their order was full: each takes a place, and a chip that is given up gives its own
+    back."""
+    with_place: dict[tuple[str, str], set[str]] = defaultdict(set)
+    for customer, name, chip, said in store.placed():
+        own, order = with_place[customer, name], store.orders.get((customer, name))
+        if said != "registered":
+            own.discard(chip)
+        elif order and len(own) >= order["quantity"]:
+            yield "order", "", customer, chip, f"the order {name} had {len(own)} devices, and took one more"
+        else:
+            own.add(chip)
+
+
+def _dumps(store: Books) -> Iterator[Row]:
+    """Devices that show the factory MAC of another chip of their customer's: of one chip two were made."""
+    known: dict[tuple[str, str], str] = {}
+    for customer, chip, mac in store.macs_shown():
+        other = known.setdefault((customer, mac), chip)
+        if other == chip and mac != chip and store.device(customer, mac):
+            other = mac
+        if other != chip:
+            yield "device", "", customer, chip, f"it shows the factory MAC {mac}, and so does the chip {other}"
+
+
 def _foreign(store: Books) -> Iterator[Row]:
     """Records and orders of an issuer that isn't their customer's."""
     issuers = list(store.issuers())
@@ -124,6 +157,17 @@ def _foreign(store: Books) -> Iterator[Row]:
         if store.owners and owner != customer:
             told = f"{count} of its records and orders are of the issuer {issuer}, which is {owner}'s by the site"
             yield "record", "", customer, "", told
+
+
+def _strangers(store: Books) -> Iterator[Row]:
+    """Customers that the site doesn't have, and seats that aren't their customer's by the site."""
+    for customer in sorted(store.customers() - set(store.pools) if store.pools else ()):
+        yield "store", "", customer, "", f"the site has no customer {customer}, and the store has rows of it"
+    for customer, seat in store.acting() if store.site_seats else ():
+        owner = store.site_seats.get(seat, "nobody")
+        if owner != customer:
+            told = f"rows of {customer} are of the seat {seat}, which is {owner}'s by the site"
+            yield "store", "", customer, "", told
 
 
 def _map_faults(store: Books) -> Iterator[Row]:

@@ -3,15 +3,16 @@
 from __future__ import annotations
 
 import contextlib
-import hashlib
+import json
 from collections import defaultdict
+from dataclasses import replace
 from typing import Any, Callable, Iterable, Iterator, Mapping
 
 from wanekupo.books.matches import Seated
 from wanekupo.books.numbers import counts
 from wanekupo.books.shift import Period
 from wanekupo.books.steps import Step
-from wanekupo.books.store_rows import Books
+from wanekupo.books.store_rows import Books, StoredSeat
 from wanekupo.seat.rows import rows_of
 
 # The kind, the time, the customer, the seat, the chip, and what it is in words.
@@ -30,8 +31,17 @@ def papers(journals: Iterable[Seated], store: Books, period: Period) -> Iterator
             judge = JUDGES.get(step.path)
             is_done = step.is_done() or step.is_stored
             if judge and is_done and it.seat in store.seats and counts(it, step, store, period):
-                for kind, told in judge(it, step, store):
+                for kind, told in judge(it, _kept(step, store.seats[it.seat]), store):
                     yield kind, step.at, it.customer, it.seat, step.chip, f"{told} ({step.place()})"
+
+
+def _kept(step: Step, seat: StoredSeat) -> Step:
+    """A seat's last line with the reply that the store keeps for it, where it has none: its station gets that one."""
+    if step.status is None and (step.number, step.digest) == (seat.last, seat.digest):
+        with contextlib.suppress(ValueError, RecursionError):
+            reply = json.loads(seat.reply)
+            return replace(step, status=200, reply=reply if isinstance(reply, dict) else {})
+    return step
 
 
 def unasked(journals: Iterable[Seated], store: Books, whole: set[str]) -> Iterator[Row]:
@@ -55,36 +65,24 @@ def unasked(journals: Iterable[Seated], store: Books, whole: set[str]) -> Iterat
             yield "import", "", customer, "", "", told
 
 
-def given_twice(journals: Iterable[Seated]) -> Iterator[Row]:
-    """Serial numbers, keys and addresses that lines of two chips have, whatever the store has of these. Not
-    what was given since a copy that a later restore made an older one."""
-    first: dict[tuple[str, ...], Step] = {}
-    for it in journals:
-        for step in it.book.steps:
-            if step.path != "/v1/identity" or not step.is_done() or step.turn > 0:
-                continue
-            issuer = str(step.reply.get("issuer"))
-            for name, whose in (("serial", issuer), ("key_sha256", issuer), ("mac", "")):
-                value = step.reply.get(name)
-                other = first.setdefault((name, whose, str(value)), step)
-                if value is not None and other.chip != step.chip:
-                    told = f"the {name} {value} was given twice: also to the chip {other.chip} ({other.place()})"
-                    yield "twice", step.at, it.customer, it.seat, step.chip, f"{told} ({step.place()})"
-
-
 def repeated(journals: Iterable[Seated]) -> list[Step]:
-    """The lines that ask for a map or an import that their seat had asked for, or for their customer's order: they
-    changed nothing, and the line of a step may have stood there."""
+    """The lines that ask for a map or an import that their seat had asked for: they changed nothing, and the line of a
+    step may have stood there."""
     found: list[Step] = []
     known: dict[str, set[tuple[str, ...]]] = defaultdict(set)
     for it in journals:
         for step in it.book.steps:
-            if step.path in JUDGES and step.path != "/v1/identity" and step.is_stored:
+            if step.path in ("/v1/map", "/v1/import") and (step.is_stored or step.is_either and step.status is None):
                 names = {(step.path, *name) for name in _names_of(step)}
-                whose = known[it.customer if step.path == "/v1/order" else f"seat {it.seat}"]
-                found += [step] if names <= whose else []
-                whose |= names
+                found += [step] if names <= known[it.seat] else []
+                known[it.seat] |= names
     return found
+
+
+def is_there(it: Seated, step: Step, store: Books) -> bool:
+    """Whether the store has what an order, a map or an import asks for."""
+    judge = JUDGES.get(step.path)
+    return step.path != "/v1/identity" and judge is not None and not any(judge(it, step, store))
 
 
 def _names_of(step: Step) -> Iterator[tuple[str, ...]]:
@@ -92,7 +90,7 @@ def _names_of(step: Step) -> Iterator[tuple[str, ...]]:
     if step.path == "/v1/order":
         yield _order_words(step.asked)
     elif step.path == "/v1/map":
-        yield (hashlib.sha256(str(step.asked.get("text", "")).encode("utf-8", "replace")).hexdigest(),)
+        yield (step.digest_of_text(),)
     elif step.path == "/v1/import":
         with contextlib.suppress(ValueError):
             for serial, digest in rows_of(str(step.asked.get("csv", ""))):
@@ -118,20 +116,21 @@ def _identity(_: Seated, step: Step, store: Books) -> Iterator[tuple[str, str]]:
 
 
 def _order(it: Seated, step: Step, store: Books) -> Iterator[tuple[str, str]]:
-    said = {**step.asked, **step.reply}
-    name = str(said.get("name"))
+    """Holds an order both to what was asked for and to the reply."""
+    name = str(step.asked.get("name"))
     order = store.orders.get((it.customer, name))
     if order is None:
         yield "order", f"the order {name} isn't in the store"
         return
-    for member in (*ORDER, "mac"):
-        if member in said and order[member] != said[member]:
-            other = f"{member} is {order[member]} in the store, and {said[member]} in the journal"
-            yield "order", f"the order {name}: {other}"
+    for said in ({"not_before": None, **step.asked}, step.reply):
+        for member in (*ORDER, "mac"):
+            if member in said and order[member] != said[member]:
+                other = f"{member} is {order[member]} in the store, and {said[member]} in the journal"
+                yield "order", f"the order {name}: {other}"
 
 
 def _map(it: Seated, step: Step, store: Books) -> Iterator[tuple[str, str]]:
-    digest = hashlib.sha256(str(step.asked.get("text", "")).encode("utf-8", "replace")).hexdigest()
+    digest = step.digest_of_text()
     if (it.customer, digest, digest) not in store.maps:
         yield "map", f"the map {digest} isn't in the store as it was imported"
 

@@ -6,16 +6,18 @@ line is something that was found: it is named, and what stands around it counts.
 
 from __future__ import annotations
 
+import contextlib
+import hashlib
 import sys
 from dataclasses import dataclass, field
 from pathlib import Path
 from typing import Any, Iterable, Iterator, Optional, Union
 
 from wanekupo.common.errors import BadJournal, StationError
-from wanekupo.seat.journal import journals_of, request_digest, seat_named
+from wanekupo.seat.journal import journals_of, named_members, request_digest, seat_named, whole_digest
 from wanekupo.seat.journal_lines import MOST, MOST_LINES, Folders, Name, journals_below, lines_of, stations_folders
 from wanekupo.common.moments import moment_of
-from wanekupo.common.texts import brief
+from wanekupo.common.texts import brief, compact_json
 
 # By how many seconds a station's clock may be set back without a word, as a time service does it.
 SET_BACK = 60
@@ -38,7 +40,10 @@ PATHS = frozenset((*EVENTS, "/v1/order", "/v1/map", "/v1/import"))
 
 # Of what such a step asks, and of its reply, what is looked at.
 ASKED = frozenset(("nr", "chip", "order", "map", "wishes", "blocks"))
-REPLIED = frozenset(("state", "outcome", "serial", "no", "error", "expected"))
+REPLIED = frozenset(("chip", "state", "outcome", "serial", "order", "map", "no", "error", "expected"))
+
+# Of its reply what is kept as its text: what is burnt, or is to be burnt.
+WORKS = frozenset(("bits", "keys", "batch1", "batch2", "rest"))
 
 
 def _once(it: Any) -> Any:
@@ -50,12 +55,20 @@ def _once(it: Any) -> Any:
     return sys.intern(it) if isinstance(it, str) else it
 
 
+def _text_of(it: Any) -> str:
+    """A part of a reply as its text, which is in memory but once; of one that nests too deep that of no part."""
+    try:
+        return sys.intern(compact_json(it))
+    except (ValueError, RecursionError):
+        return "0"
+
+
 @dataclass(slots=True)
 class Step:
     """A request of a journal with the place of its line, when it was asked and answered, and what the reply was.
     Without a status its reply never came. `reason` is why a chip was scrapped, where the station knew it. The last ones
-    are an audit's: a turn of its seat, whether the store is surely one without it, or with it, and when it was first
-    asked where it stands there more than once."""
+    are an audit's: a turn of its seat, whether the store is surely one without it, or with it, or with it or another
+    line of its number, and when it was first asked where it stands there more than once."""
 
     file: str
     line: int
@@ -72,6 +85,7 @@ class Step:
     turn: int = 0
     is_lost: bool = False
     is_stored: bool = True
+    is_either: bool = False
     since: str = ""
 
     @property
@@ -93,11 +107,16 @@ class Step:
         member = {"read": "outcome", "identified": "serial"}.get(self.event, "")
         return str(self.reply.get(member, "")) if member else ""
 
+    def digest_of_text(self) -> str:
+        """The digest of the map that this imports."""
+        return hashlib.sha256(str(self.asked.get("text", "")).encode("utf-8", "replace")).hexdigest()
+
     def slim(self) -> None:
         """Leaves away what nobody asks for of a step but an identity: journals are long."""
         if self.event not in ("", "identified"):
             self.asked = {name: _once(it) for name, it in self.asked.items() if name in ASKED}
-            self.reply = {name: it for name, it in self.reply.items() if name in REPLIED}
+            works = {name: _text_of(self.reply[name]) for name in WORKS & self.reply.keys()}
+            self.reply = {**{name: it for name, it in self.reply.items() if name in REPLIED}, **works}
 
     def is_done(self) -> bool:
         return self.status == 200
@@ -157,12 +176,9 @@ Members = dict[str, Any]
 
 def digest_fault(file: str, number: int, line: Members) -> Optional[JournalFault]:
     """A request whose digest isn't that of what it asks was changed behind the station's back."""
-    try:
-        found = request_digest(line["path"], line["asked"])
-    except (ValueError, RecursionError):
-        found = ""
-    if line.get("digest") == found:
-        return None
+    with contextlib.suppress(ValueError, RecursionError):
+        if any(line.get("digest") == made(line["path"], line["asked"]) for made in (request_digest, whole_digest)):
+            return None
     told = "was changed: its digest isn't that of what it asks" if "digest" in line else "has no digest"
     return JournalFault(file, number, line["at"], told)
 
@@ -201,14 +217,16 @@ def _take(book: Book, file: str, number: int, line: Members) -> None:
         fault = digest_fault(file, number, line)
         if fault:
             book.faults.append(fault)
-        is_again = last and last.status in (None, 200) and (last.path, last.asked) == (line["path"], line["asked"])
+        asked, digest = named_members(line["path"], line["asked"]), line.get("digest", "")
+        if not fault and asked != line["asked"]:
+            digest = request_digest(line["path"], asked)
+        is_again = last and last.status in (None, 200) and (last.path, last.asked) == (line["path"], asked)
         is_again = is_again and all(it.behind < len(book.steps) for it in book.resynchronized[-1:])
         if not is_again:
             if last:
                 last.slim()
             names = sys.intern(seat or book.seat), sys.intern(line.get("operator", ""))
-            path, digest = sys.intern(line["path"]), line.get("digest", "")
-            step = Step(file, number, line["at"], path, line["asked"], digest, *names)
+            step = Step(file, number, line["at"], sys.intern(line["path"]), asked, digest, *names)
             step.reason = line.get("reason", "")
             book.steps.append(step)
         book.is_asked = True

@@ -12,26 +12,12 @@ import sqlite3
 from pathlib import Path
 from typing import Any, Iterator, Optional
 
+from wanekupo.books.schema import others_of
 from wanekupo.common.errors import StationError
 from wanekupo.common.files import opened_plain, tested_reading, tested_unlocked
 
 MAGIC = b"SQLite format 3\0"
 SCHEMA = 3
-
-# The columns of each table, as docs/reference/files.md has them.
-TABLES = {
-    "meta": "id schema site",
-    "site_text": "id body",
-    "seat": "name customer last digest reply",
-    "map": "id body digest",
-    "link": "customer digest map",
-    "orders": "customer name issuer prefix width first quantity macs mac cursor",
-    "order_start": "customer ord not_before",
-    "device": "customer chip ord map state reason bits keys todo serial",
-    "given": "issuer serial customer key chip mac not_after",
-    "given_start": "issuer serial not_before",
-    "ledger": "id customer chip n event note seat bits keys",
-}
 
 # A log with a page in it is longer than this: 32 bytes, then 24 and the smallest page.
 EMPTY_LOG = 32 + 24 + 512 - 1
@@ -92,20 +78,18 @@ class StoreCopy:
 
     def _tested(self) -> None:
         """Whether it has the tables of schema 3, and nothing that is no table or index of theirs."""
-        names = {name for kind, name in self._base.execute("SELECT type, name FROM sqlite_schema") if kind == "table"}
         kinds = {kind for (kind,) in self._base.execute("SELECT type FROM sqlite_schema")}
         others = sorted(kinds - {"table", "index"})
         if others:
             raise BadStore(f"{self.file} has a {others[0]}, which no store has", "Ask who wrote to it.")
-        number = self._number() if "meta" in names else None
+        has_meta = any(self._base.execute("SELECT 1 FROM sqlite_schema WHERE type = 'table' AND name = 'meta'"))
+        number = self._number() if has_meta else None
         if number != SCHEMA:
             told = "Open a copy with the program of today first: it brings an earlier store to schema 3."
             has = "has no table meta" if number is None else f"has schema {number}"
             raise BadStore(f"{self.file} is no store of schema {SCHEMA}: it {has}", told)
-        for table, columns in TABLES.items():
-            found = [row[1] for row in self._base.execute(f"PRAGMA table_info({table})")]
-            if found != columns.split():
-                raise BadStore(f"the table {table} of {self.file} has other columns", "Ask who wrote to it.")
+        for fault in others_of(self._base.execute):
+            raise BadStore(f"{self.file} {fault}", "Ask who wrote to it.")
 
     def _number(self) -> Optional[int]:
         found = self._base.execute("SELECT schema FROM meta").fetchone()

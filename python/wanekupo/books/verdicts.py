@@ -8,9 +8,11 @@ from __future__ import annotations
 
 import contextlib
 import hashlib
-from typing import Iterator, Mapping, NamedTuple, Optional, Sequence
+import json
+from typing import Any, Iterator, Mapping, NamedTuple, Optional, Sequence
 
 from wanekupo.books.coherence import SHOWING
+from wanekupo.books.lawful import plan_refusal, registration_refusal
 from wanekupo.books.steps import Step
 from wanekupo.books.store_rows import Row
 from wanekupo.chips.layout import Layout, Place, places_of, wanted_of
@@ -47,12 +49,14 @@ class Batches(NamedTuple):
         return Batches(*rest, self.second) if self.state() == "awaiting1" else Batches(second=rest[0])
 
 
-def asked_faults(step: Step, device: Row, records: Sequence[Row]) -> Iterator[str]:
+def request_faults(step: Step, device: Row, records: Sequence[Row]) -> Iterator[str]:
     """In what a registration or an identity isn't as its line has it, also where its reply was lost."""
     if step.event == "registered":
-        for name, asked in (("order", step.asked.get("order")), ("map", str(step.asked.get("map")).lower())):
-            if device[name] != asked:
-                yield f"{name} is {device[name]} in the store, and {asked} in the journal"
+        told = {"order": step.asked.get("order"), "map": str(step.asked.get("map")).lower()}
+        for name in told:
+            for it in dict.fromkeys((told[name], step.reply.get(name, told[name]))):
+                if device[name] != it:
+                    yield f"{name} is {device[name]} in the store, and {it} in the journal"
     elif step.event == "identified":
         with contextlib.suppress(ValueError):
             key = hashlib.sha256(bytes.fromhex(str(step.asked.get("public_key")))).hexdigest()
@@ -65,6 +69,24 @@ def _blocks_of(step: Optional[Step]) -> Optional[list[str]]:
     """The digests of the blocks of a line; none where there is no line."""
     blocks = step.asked.get("blocks") if step else None
     return blocks if step is None or isinstance(blocks, list) else []
+
+
+def _says(step: Optional[Step], name: str, places: Places, keys: Keys) -> bool:
+    """Whether a reply that has such a member shows these bits and keys there, or, without a name, in the reply itself;
+    one that has none says nothing else."""
+    reply = step.reply if step and step.is_done() else {}
+    try:
+        own = {it: _loaded(reply[it]) for it in ("bits", "keys") if it in reply}
+        part = _loaded(reply.get(name)) if name else own
+        work = work_of(part) if part else None
+    except (AttributeError, KeyError, TypeError, ValueError, RecursionError):
+        return False
+    return work is None or (places_of(work), work.keys) == (places, dict(keys))
+
+
+def _loaded(it: Any) -> Any:
+    """A part of a reply, which may be kept as its text."""
+    return json.loads(it) if isinstance(it, str) else it
 
 
 class Chip:
@@ -92,20 +114,36 @@ class Chip:
             blocks = None
         elif blocks is not None and {**self._shown(blocks), **known} != self._keys:
             yield "its blocks show other keys than its ledger has"
-        elif row["event"] == "registered" and blocks is not None and self._differing(blocks):
-            yield "its blocks show other bits than its ledger has"
         elif blocks is not None and self._ones - before - self._layout.unhidden(self._ones):
-            if not self._differing(blocks):
+            if row["event"] == "read" and not self._differing(blocks):
                 yield "it adds bits that a read lock hides, and its blocks don't show them"
+        if row["event"] == "registered":
+            yield from self._registered(step, blocks)
         if row["event"] == "read":
             possible = self._outcomes(before, known, blocks) if blocks is not None else {row["note"]}
             if row["note"] not in possible:
                 yield f"its outcome is {row['note']} in the store, and {' or '.join(sorted(possible))} by its blocks"
             self._batches = self._batches and self._batches.left(row["note"], self._ones, self._keys)
-            if row["note"] not in LOST:
-                yield from self._state_faults(step)
+            yield from self._reply_faults(row["note"], step)
         is_left = row["event"] == "planned" or row["note"] in ("match", "short")
         self.state = self._batches.state() if self._batches and is_left else ""
+
+    def _registered(self, step: Optional[Step], blocks: Optional[Sequence[str]]) -> Iterator[str]:
+        """Whether a registration is one that the server takes, and as its line shows it."""
+        if refusal := registration_refusal(self._layout, self._ones, self._keys):
+            yield f"it shows what the server refuses as {refusal}"
+        if blocks is not None and self._differing(blocks):
+            yield "its blocks show other bits than its ledger has"
+        if not _says(step, "", self._ones, self._keys):
+            yield "its reply shows other bits or keys than its ledger has"
+
+    def _reply_faults(self, note: str, step: Optional[Step]) -> Iterator[str]:
+        """Whether the reply to a read-back has the state and the rest that it left."""
+        if note not in LOST:
+            yield from self._state_faults(step)
+        rest = self._batches.awaited() if self._batches and note == "short" else (NOTHING, {})
+        if (self._batches or note != "short") and not _says(step, "rest", *rest):
+            yield "the rest of its reply isn't what it left"
 
     def pends(self, device: Row) -> bool:
         """Whether a device has still to burn what its lines leave, where that is known."""
@@ -117,14 +155,19 @@ class Chip:
         if step is None:
             return
         try:
+            refusal = plan_refusal(self._layout, step.asked["wishes"], self._ones, self._keys)
             wanted = wanted_of(self._layout, step.asked["wishes"])
             keys = {name: it.lower() for name, it in wanted.keys.items() if name not in self._keys}
         except (AttributeError, KeyError, TypeError, ValueError):
             yield "its wishes aren't of its map"
             return
+        if refusal:
+            yield f"its wishes are ones that the server refuses as {refusal}"
         bits, locks = wanted.ones - self._ones, self._layout.locks()
         self._batches = Batches(bits - locks, keys, bits & locks)
         yield from self._state_faults(step)
+        if not _says(step, "batch1", bits - locks, keys) or not _says(step, "batch2", bits & locks, {}):
+            yield "the batches of its reply aren't what its wishes come to"
 
     def _state_faults(self, step: Optional[Step]) -> Iterator[str]:
         """Whether a reply has the state that a plan or a read-back leaves."""

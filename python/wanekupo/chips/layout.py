@@ -33,13 +33,14 @@ class Field:
 
 
 class Layout:
-    """The name and the fields of a fuse map, and the two of them that have the locks."""
+    """The name and the fields of a fuse map, and those of them that have the locks and the coding scheme."""
 
     def __init__(self, text: str):
         table = tomllib.loads(text)
         names = Field.__dataclass_fields__
         fields = [Field(**{name: it[name] for name in names if name in it}) for it in table["field"]]
         self.name, self.fields = str(table["name"]), {it.name: it for it in fields}
+        self.coding = self.fields.get(table.get("coding", ""))
         self.blocks = [int(it["words"]) for it in table["block"]]
         self._write, self._read = self.fields[table["wr"]], self.fields[table["rd"]]
 

@@ -25,7 +25,7 @@ from wanekupo.common.errors import cause_of
 from wanekupo.plant.restore.plan import CustomerPlan, Placed, RestoreError, SeatJournal, error_of
 from wanekupo.books.steps import digest_fault
 from wanekupo.common.errors import StationError
-from wanekupo.seat.journal import OF_A_DAY, journals_of
+from wanekupo.seat.journal import journals_of, seat_named
 from wanekupo.seat.journal_lines import MOST, MOST_LINES, SUFFIX, Folders, journals_below, lines_of
 from wanekupo.common.texts import brief, shown
 
@@ -125,12 +125,6 @@ def _slim(line: dict[str, Any]) -> dict[str, Any]:
         pairs = kept[name].items() if line.get("status", 200) == 200 else ()
         kept[name] = {sys.intern(key): it for key, it in pairs if key in KEPT_INNER} or NOTHING
     return kept
-
-
-def seat_named(file: Path) -> str:
-    """The seat that a file's name has, of a day or not."""
-    day = OF_A_DAY.fullmatch(file.name)
-    return day[1].rstrip("-") if day else file.name.partition(".")[0]
 
 
 def _unnamed(source: Source, file: Path) -> str:

@@ -1,0 +1,381 @@
+"""Forged plants: a store and the journals of its stations that agree, changed in one place on one side or on both.
+
+The honest plant is the program's own, with three stations of two customers. What a change has to say follows from
+docs/reference/api.md. Beside them are honest plants of which nothing may be said.
+"""
+
+from __future__ import annotations
+
+import contextlib
+import hashlib
+import json
+import re
+import shutil
+import sqlite3
+import unittest
+from types import SimpleNamespace
+
+from books_case import ALWAYS, BooksCase
+from commanding import ran
+from support import DIGEST, MAC, MAP, PUBLIC_KEY, ROOT, SITE, WISHES, bit, rows
+
+from wanekupo.books.lawful import plan_refusal, registration_refusal
+from wanekupo.books.ranges import order_faults
+from wanekupo.books.schema import CREATED, excluded, others_of, plain, statements
+from wanekupo.chips.chip import value
+from wanekupo.seat.journal import request_digest, whole_digest
+from wanekupo.chips.layout import Layout
+
+TWO, THREE, FOUR = "240ac4000002", "240ac4000003", "240ac4000004"
+MORE_SEATS = """[[customer.seat]]
+name = "a2"
+token = "{}"
+[[customer]]
+name = "bolt"
+"""
+
+
+def of(path, chip="", **members):
+    """Whether a line asks for this."""
+
+    def is_it(line):
+        asked = line.get("asked", {})
+        return line.get("path") == path and {**members, **({"chip": chip} if chip else {})}.items() <= asked.items()
+
+    return is_it
+
+
+def place_of(lines, is_it, number=0):
+    return [place for place, line in enumerate(lines) if is_it(line)][number]
+
+
+def changed(is_it, number=0, reply=None, **asked):
+    """Changes members of a request, and of the reply behind it."""
+
+    def change(lines):
+        place = place_of(lines, is_it, number)
+        lines[place]["asked"].update(asked)
+        lines[place + 1]["reply"].update(reply or {})
+
+    return change
+
+
+def instead(is_it, number, path, asked, reply):
+    """Puts another request in the place of one, with its number."""
+
+    def change(lines):
+        place = place_of(lines, is_it, number)
+        nr = lines[place]["asked"]["nr"]
+        lines[place].update(path=path, asked={**asked, "nr": nr})
+        lines[place + 1]["reply"] = reply
+
+    return change
+
+
+def unanswered(is_it, path, asked, status=None):
+    """Takes the reply of a request away, and puts another one of its number in front of it; a person had it go on."""
+
+    def change(lines):
+        place = place_of(lines, is_it)
+        own, nr = lines[place], lines[place]["asked"]["nr"]
+        other = {**own, "path": path, "asked": {**asked, "nr": nr}}
+        on = {name: own[name] for name in ("at",)}
+        between = {**on, "nr": nr, "status": status, "reply": {"no": 17}} if status else {**on, "resynchronized": nr}
+        lines[place : place + 2] = [other, between, own, {**on, "resynchronized": nr + 1}]
+
+    return change
+
+
+def both(*changes):
+    def change(lines):
+        for it in changes:
+            it(lines)
+
+    return change
+
+
+def exchanged(first, second):
+    """Two requests with their replies come in each other's place, and have each other's number."""
+
+    def change(lines):
+        one, two = place_of(lines, first), place_of(lines, second)
+        numbers = lines[one]["asked"]["nr"], lines[two]["asked"]["nr"]
+        pairs = lines[two : two + 2], lines[one : one + 2]
+        for place, pair, number in zip((one, two), pairs, numbers):
+            at = [line["at"] for line in lines[place : place + 2]]
+            pair[0]["asked"]["nr"] = pair[1]["nr"] = number
+            lines[place : place + 2] = [{**line, "at": time} for line, time in zip(pair, at)]
+
+    return change
+
+
+# A shipment that the store doesn't have.
+UNSHIPPED = (
+    "DELETE FROM ledger WHERE customer = 'acme' AND event = 'shipped'",
+    "UPDATE device SET state = 'identified' WHERE customer = 'acme' AND state = 'shipped'",
+)
+SHIPPED = of("/v1/ship", MAC)
+
+
+class Forged(BooksCase):
+    def site(self):
+        site = self.folder / "site.toml"
+        text = SITE.read_text("utf-8").replace('[[customer]]\nname = "bolt"\n',
+                                               MORE_SEATS.format(hashlib.sha256(b"abd").hexdigest()))
+        site.write_text(text, encoding="utf-8")
+        return site
+
+    def setUp(self):
+        super().setUp()
+        a1 = self.station(journal=self.journal("a1.journal"))
+        a2 = self.station(token="abd", file="a2.json", journal=self.journal("a2.journal"))
+        b1 = self.station(token="hello", file="b1.json", journal=self.journal("b1.journal"))
+        a1.import_map(MAP)
+        a1.make_order("o1", "acme-ca", "A", 3, 998, 2, 1)
+        a1.make_order("o2", "acme-ca", "B", 3, 1, 5)
+        a1.register(MAC, "o1", DIGEST, self.chip().read())
+        chip = self.chip()
+        a1.plan(MAC, WISHES)
+        a1.read_back(MAC, chip.read())
+        a1.settle(MAC, chip)
+        a1.identify(MAC, PUBLIC_KEY)
+        a1.ship(MAC)
+        a1.import_map(MAP)
+        a1.import_serials("acme-ca", rows("Z1 Z2"))
+        a2.register(TWO, "o2", DIGEST, self.chip(TWO).read())
+        a2.plan(TWO, [bit("JTAG_DISABLE", 0)])
+        a2.register(THREE, "o2", DIGEST, self.chip(THREE).read())
+        b1.import_map(MAP)
+        b1.make_order("b", "bolt-ca", "B", 3, 1, 5)
+        b1.register(MAC, "b", DIGEST, self.chip().read())
+        b1.register(FOUR, "b", DIGEST, self.chip(FOUR).read())
+        for it in (a1, a2, b1):
+            it.close()
+        self.program.kill()
+        (self.folder / "honest").mkdir()
+        for file in self.folder.glob("books.db*"):
+            shutil.copy(file, self.folder / "honest")
+
+    def audited(self, name, sql=(), journal="a1", change=None, keeps_digests=False):
+        """The plant, changed so: the status of its audit, and what it says."""
+        folder = self.folder / re.sub(r"\W", "-", name)
+        shutil.copytree(self.folder / "honest", folder)
+        for seat in ("a1", "a2", "b1"):
+            lines = [{**json.loads(it), "seat": seat} for it in
+                     (self.folder / f"{seat}.journal").read_text("ascii").splitlines()]
+            if change and seat == journal:
+                lines = change(lines) or lines
+                for line in lines if not keeps_digests else ():
+                    if "asked" in line:
+                        line["digest"] = request_digest(line["path"], line["asked"])
+            (folder / f"{seat}.journal").write_text("".join(f"{json.dumps(it)}\n" for it in lines), "ascii")
+        with contextlib.closing(sqlite3.connect(folder / "books.db")) as base:
+            for statement in sql:
+                self.assertNotEqual(base.execute(statement).rowcount, 0, statement)
+            base.commit()
+        return ran("audit", folder / "books.db", folder, *ALWAYS)
+
+    def test_honest(self):
+        """Members that the server passes over mean nothing, however they change, and whichever digest a log has."""
+
+        def more(lines):
+            for line in lines:
+                if "asked" in line:
+                    line["asked"]["note"] = [line["at"]]
+                    for wish in line["asked"].get("wishes", ()):
+                        wish["why"] = "so"
+
+        def older(lines):
+            more(lines)
+            for line in lines:
+                if "asked" in line:
+                    line["digest"] = whole_digest(line["path"], line["asked"])
+
+        for name, change, keeps in (("none", None, False), ("named", more, False), ("older", older, True),
+                                    ("a stale digest", more, True)):
+            with self.subTest(name):
+                status, out, told = self.audited(name, change=change, keeps_digests=keeps)
+                self.assertEqual((status, "Nothing found." in out), (0, True), out + told)
+
+    def test_forged(self):
+        """Each of these is found, by these words."""
+        order = {"name": "o1", "issuer": "acme-ca", "prefix": "A", "width": 3, "first": 998, "quantity": 2, "macs": 1}
+        made = {**order, "mac": "020000000010", "next": "A998", "not_before": None}
+        stranger = [{"kind": "value", "field": "JTAG_DISABLE", "value": "0"}]
+        work = {"bits": [{"block": 0, "word": 6, "mask": "00000020"}], "keys": {}}
+        elsewhere = ("UPDATE orders SET mac = '{0}' WHERE mac IS NOT NULL", "UPDATE given SET mac = '{0}' WHERE chip")
+        cases = (
+            ("an order twice", (), "a1", instead(of("/v1/map"), 1, "/v1/order", order, made), "o1 was made twice"),
+            ("a plan that is refused", (), "a1", changed(of("/v1/plan"), wishes=WISHES + stranger), "refuses as 23"),
+            ("another batch", (), "a1", changed(of("/v1/plan"), reply={"batch1": work}), "the batches of its"),
+            ("another rest", (), "a1", changed(of("/v1/readback"), reply={"rest": work}), "the rest of its reply"),
+            ("other bits in a reply", (), "a2", changed(of("/v1/device"), reply=work), "its reply shows other"),
+            ("another order asked", (), "a1", changed(of("/v1/order"), prefix="X"), "prefix is A in the store, and"),
+            ("a beginning asked", (), "a1", changed(of("/v1/order"), not_before="20260101000000Z"), "not_before is"),
+            ("another chip in a reply", (), "a1", changed(SHIPPED, reply={"chip": TWO}), f"and its reply is of {TWO}"),
+            ("an unknown path", UNSHIPPED, "a1", unanswered(SHIPPED, "/v1/none", {}), "none of these was done"),
+            ("an unknown path alone", UNSHIPPED, "a1", both(unanswered(SHIPPED, "/v1/none", {}), lambda lines: [
+                lines.pop(place_of(lines, SHIPPED)), lines.pop(place_of(lines, of("/v1/none")) + 1)]), "asks for"),
+            ("two without a reply", UNSHIPPED, "a1", unanswered(SHIPPED, "/v1/scrap", {"chip": FOUR}), "none of th"),
+            ("a refused one beside it", UNSHIPPED, "a1", unanswered(SHIPPED, "/v1/scrap", {"chip": FOUR}, 409), "none"),
+            ("an order asked late", (), "a1", exchanged(of("/v1/order", name="o1"), of("/v1/device")), "before it was"),
+            ("a map asked late", (), "b1", exchanged(of("/v1/map"), of("/v1/device", FOUR)), "with the map"),
+            ("addresses of no pool", [it.format("020000000030") for it in elsewhere], "a1", both(
+                changed(of("/v1/order"), reply={"mac": "020000000030"}),
+                changed(of("/v1/identity"), reply={"mac": "020000000030"})), "which no pool of its customer has"),
+            ("addresses behind free ones", [it.format("020000000012") for it in elsewhere], "a1", both(
+                changed(of("/v1/order"), reply={"mac": "020000000012"}),
+                changed(of("/v1/identity"), reply={"mac": "020000000012"})), "was room from 020000000010 on"),
+            ("a stranger's seat", ("UPDATE seat SET name = 'zz' WHERE name = 'a2'",
+                                   "UPDATE ledger SET seat = 'zz' WHERE seat = 'a2'"), "a2",
+             lambda lines: [{**it, "seat": "zz"} for it in lines], "seat zz, which is nobody's by the site"),
+            ("another's seat", ("UPDATE ledger SET seat = 'a2' WHERE customer = 'bolt' AND chip = '%s'" % FOUR,), "b1",
+             None, "rows of bolt are of the seat a2, which is acme's by the site"),
+            ("bits where keys stand", ("UPDATE device SET bits = CAST(bits || X'01' AS BLOB)",), "", None,
+             "has bits where keys stand"),
+            ("no beginning", ("DELETE FROM order_start WHERE ord = 'o2'",), "", None, "an order has no row of"),
+            ("another site's text", ("UPDATE site_text SET body = body || '#'",), "", None, "the site's text isn't"),
+            ("a row that is referred to", ("DELETE FROM orders WHERE name = 'o2'",), "", None, "refers to a row of o"),
+            ("a row that should be", ("DELETE FROM site_text",), "", None, "site_text has no row"),
+            ("a number below zero", ("UPDATE ledger SET id = -1 WHERE id = 1",), "", None, "a number below zero"),
+        )
+        for name, sql, journal, change, words in cases:
+            with self.subTest(name):
+                status, out, told = self.audited(name, sql, journal, change)
+                self.assertEqual((status, words in out), (1, True), out + told)
+
+    def test_forged_orders_of_entries(self):
+        """Entries of two chips in each other's place, within a second; and a chip that both sides lack, behind which
+        all numbers were given anew."""
+        swapped = [f"UPDATE ledger SET id = -id WHERE seat = 'a2' AND chip = '{TWO}' AND n = 2",
+                   f"UPDATE ledger SET id = id - 1 WHERE seat = 'a2' AND chip = '{THREE}'",
+                   "UPDATE ledger SET id = 1 - id WHERE id < 0"]
+        last = json.loads((self.folder / "b1.journal").read_text("ascii").splitlines()[-2])
+        digest = request_digest(last["path"], {**last["asked"], "nr": 3})
+        gone = [f"DELETE FROM {table} WHERE customer = 'bolt' AND chip = '{MAC}'" for table in ("ledger", "device")]
+        gone.append(f"UPDATE seat SET last = 3, digest = X'{digest}' WHERE name = 'b1'")
+
+        def without(lines):
+            lines[-2]["asked"]["nr"] = lines[-1]["nr"] = 3
+            return lines[:4] + lines[6:]
+
+        for name, sql, journal, change, words in (
+            ("swapped", swapped, "", None, "whose number is greater"),
+            ("gone", gone, "b1", without, "none of these ever goes"),
+        ):
+            with self.subTest(name):
+                status, out, told = self.audited(name, sql, journal, change)
+                self.assertEqual((status, words in out, "1 found." in out), (1, True, True), out + told)
+
+    def test_two_devices_of_one_dump(self):
+        """A chip is registered a second time, under another name: its bits are those of the first one."""
+        bits = "SELECT bits FROM device WHERE customer = 'acme' AND chip = '%s'" % THREE
+        sql = [f"UPDATE {table} SET bits = ({bits}) WHERE customer = 'acme' AND chip = '{TWO}'{more}"
+               for table, more in (("device", ""), ("ledger", " AND n = 1"))]
+
+        def change(lines):
+            one, two = (place_of(lines, of("/v1/device", chip)) for chip in (TWO, THREE))
+            lines[one]["asked"]["blocks"] = lines[two]["asked"]["blocks"]
+            lines[one + 1]["reply"]["bits"] = lines[two + 1]["reply"]["bits"]
+
+        status, out, told = self.audited("dump", sql, "a2", change)
+        self.assertEqual((status, f"it shows the factory MAC {THREE}" in out), (1, True), out + told)
+
+    def test_tables_that_no_program_made(self):
+        """Without a rule, with an index more, and of another form: such a store is none."""
+        given = statements()["given"]
+        for name, sql, words in (
+            ("without a rule", [given.replace(" given ", " other ").replace(", UNIQUE (issuer, key)", ""),
+                                "INSERT INTO other SELECT * FROM given", "DROP TABLE given",
+                                "ALTER TABLE other RENAME TO given"], "has another table given than a store"),
+            ("an index", ["CREATE INDEX more ON given (mac)"], "has the index more more than a store"),
+            ("a table", ["CREATE TABLE more (x)"], "has the table more more than a store"),
+            ("a table less", ["DROP TABLE given_start"], "has no table given_start"),
+        ):
+            with self.subTest(name):
+                shutil.copytree(self.folder / "honest", self.folder / name)
+                with contextlib.closing(sqlite3.connect(self.folder / name / "books.db")) as base:
+                    for statement in sql:
+                        base.execute(statement)
+                    base.commit()
+                status, out, told = ran("audit", self.folder / name / "books.db", self.folder / "a1.journal", *ALWAYS)
+                self.assertEqual((status, words in told), (2, True), out + told)
+
+
+class Rules(unittest.TestCase):
+    """The rules of the server, without one."""
+
+    def test_the_tables(self):
+        """They are those of the program; a renaming changes nothing of them."""
+        source = (ROOT / "crates" / "office_store" / "src" / "create.rt").read_text("utf-8")
+        own = re.findall(r'"(CREATE TABLE .*?)";', source)
+        self.assertEqual(sorted(map(plain, own)), sorted(map(plain, statements().values())))
+        with contextlib.closing(sqlite3.connect(":memory:")) as base:
+            base.executescript(CREATED)
+            self.assertEqual((list(others_of(base.execute)), len(list(excluded(base.execute)))), ([], 1))
+            base.executescript("ALTER TABLE orders RENAME TO x; ALTER TABLE x RENAME TO orders")
+            self.assertEqual(list(others_of(base.execute)), [])
+
+    def test_plans(self):
+        """The refusals of the tables of wishes of docs/reference/api.md, each of a chip with these words of block 0."""
+        lock = {"kind": "wlock", "field": "JTAG_DISABLE"}
+        key = {"kind": "key", "field": "BLOCK1", "key_sha256": 64 * "a"}
+        jtag, layout = (0, 198), Layout(MAP)
+        for wishes, burnt, known, meant in (
+            ([bit("JTAG_DISABLE", 0), lock], set(), {}, None),
+            ([bit("JTAG_DISABLE", 0)], {jtag, layout.write_lock("JTAG_DISABLE")}, {}, None),
+            ([bit("NONE", 0)], set(), {}, 19), ([bit("JTAG_DISABLE", 1)], set(), {}, 20),
+            ([value("JTAG_DISABLE", "2")], set(), {}, 21), ([value("JTAG_DISABLE", "0")], {jtag}, {}, 22),
+            ([bit("JTAG_DISABLE", 0), value("JTAG_DISABLE", "0")], set(), {}, 23),
+            ([key, {**key, "key_sha256": 64 * "b"}], set(), {}, 23),
+            ([{**key, "field": "JTAG_DISABLE"}], set(), {}, 24),
+            ([bit("BLOCK1", 0)], set(), {}, 24), ([bit("CODING_SCHEME", 0)], set(), {}, 24),
+            ([value("CODING_SCHEME", "0")], set(), {}, None), ([key], set(), {"BLOCK1": 64 * "b"}, 25),
+            ([{**key, "key_sha256": 64 * "A"}], {layout.write_lock("BLOCK1")}, {"BLOCK1": 64 * "a"}, None),
+            ([key], {layout.write_lock("BLOCK1")}, {}, 26), ([key], {layout.read_lock("BLOCK1")}, {}, 27),
+            ([bit("JTAG_DISABLE", 0)], {layout.write_lock("JTAG_DISABLE")}, {}, 26),
+            ([{"kind": "wlock", "field": "WR_DIS"}], set(), {}, None),
+            ([{"kind": "rlock", "field": "WR_DIS"}], set(), {}, 28),
+        ):
+            with self.subTest(wishes=wishes, burnt=burnt):
+                self.assertEqual(plan_refusal(layout, wishes, frozenset(burnt), known), meant)
+
+    def test_registrations(self):
+        """A coding scheme that isn't None, and what a lock of its own hides."""
+        layout, read = Layout(MAP), Layout(MAP).read_lock("BLOCK1")
+        for ones, shown, meant in (
+            (set(), {}, None), ({(0, 192)}, {}, 36), ({read}, {"BLOCK1": 64 * "a"}, 41), ({read}, {}, None),
+            (set(), {"BLOCK1": 64 * "a"}, None),
+        ):
+            self.assertEqual(registration_refusal(layout, frozenset(ones), shown), meant)
+
+    def test_orders(self):
+        """Members of another form, numbers that two orders have, and addresses by the first pool that has room."""
+        order = {"customer": "acme", "name": "p", "issuer": "ca", "prefix": "P", "width": 3, "first": 1, "quantity": 3,
+                 "macs": 1, "mac": "020000000010", "cursor": 1}
+        q = {**order, "name": "q", "prefix": "Q", "quantity": 2, "mac": "020000000020"}
+        bare = {**q, "macs": 0, "mac": None}
+        for name, orders, words in (
+            ("as they were made", (order, q), []), ("one of a lower pool, later", (order, q, {
+                **order, "name": "r", "prefix": "R", "quantity": 1, "mac": "020000000013"}), []),
+            ("prefix", ({**order, "prefix": "p"},), ["refuses as 30"]),
+            ("width", ({**bare, "first": 999, "cursor": 999},), ["refuses as 31"]),
+            ("quantity", ({**bare, "width": 9, "quantity": 10_001},), ["refuses as 40"]),
+            ("addresses", ({**bare, "macs": 1},), ["its first one is None"]),
+            ("cursor", ({**bare, "cursor": 4},), ["goes on at the number 4"]),
+            ("numbers", (bare, {**bare, "name": "r", "first": 2, "cursor": 2}), ["share the number 2"]),
+            ("numbers, another width", (bare, {**bare, "name": "r", "width": 4}), []),
+            ("shared", (order, {**q, "mac": "020000000012"}), ["which another order has too"]),
+            ("room in front", ({**order, "mac": "020000000011"},), ["was room from 020000000010 on"]),
+            ("a pool in front", (order, {**q, "quantity": 1}), ["was room from 020000000013 on"]),
+            ("no pool", ({**order, "mac": "030000000010"},), ["which no pool of its customer has"]),
+        ):
+            with self.subTest(name):
+                store = SimpleNamespace(orders={(it["customer"], it["name"]): it for it in orders},
+                                        pools={"acme": [(0x020000000010, 4), (0x020000000020, 4)]})
+                told = [it for _, it in order_faults(store)]
+                self.assertEqual((len(told), all(it in own for it, own in zip(words, told))), (len(words), True), told)
+
+
+if __name__ == "__main__":
+    unittest.main()
