@@ -17,14 +17,12 @@ import json
 import sqlite3
 import time
 from collections import Counter
-from datetime import datetime, timedelta, timezone
 
 import pytest
 
 from bench.benches_place import FAMILIES, NEXT, OWN, SEATS, Hands, Plant
 from commanding import ran
-from wanekupo.books.kept_reports import add_report
-from wanekupo.books.yield_reports import between, summed
+from wanekupo.books.report_counts import difference_of, summed
 from wanekupo.metrics.exposition import Samples
 from wanekupo.metrics.journal_counts import add_journals
 from wanekupo.seat.journal import lines_of
@@ -60,7 +58,7 @@ def plant(program, size, pytestconfig, tmp_path_factory):
     """A plant behind its work, with its benches, and a report of before."""
     option = pytestconfig.option
     plant = Plant(tmp_path_factory.mktemp("plant"), size, option.seed, option.espefuse)
-    plant.before = datetime.now(timezone.utc), plant.office.get("/v1/report")
+    plant.before = plant.office.get("/v1/report")
     plant.benches = []
     try:
         plant.benches += [Hands(plant, seat, family) for seat, family in zip(SEATS, FAMILIES)]
@@ -150,11 +148,8 @@ def tables_of(plant):
 
 def yield_of(plant, before):
     """What `wanekupo yield` says, by a report of before and one of now."""
-    for moment, report in (before, (datetime.now(timezone.utc) + timedelta(seconds=2), plant.office.get("/v1/report"))):
-        add_report(plant.folder / "acme.csv", moment, report, "acme")
-        last = moment
-    shift = between(plant.folder / "acme.csv", before[0], last)
-    return summed({name: sum(row[name] for row in shift.rows.values()) for name in REPORTED})
+    rows = difference_of(before, plant.office.get("/v1/report")).rows
+    return summed({name: sum(row[name] for row in rows.values()) for name in REPORTED})
 
 
 def test_counts(plant, found):

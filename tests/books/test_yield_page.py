@@ -33,7 +33,7 @@ from common.needs import ROOT
 from common.ports import free_ports
 from common.served import Server, station
 from wanekupo.books.yields import LOOKS, SENTENCE
-from wanekupo.common.token_file import PREFIX, Outer, Seat, Tokens, mark_of, now, text_of
+from wanekupo.common.token_file import PREFIX, Outer, TokenSeat, Tokens, mark_of, now, text_of
 
 PAGE, CONF, PICTURE = ROOT / "clients/web/yield.html", ROOT / "deploy/nginx.conf", ROOT / "docs/pictures/yield-open.png"
 HEAD = "order,quantity,registered,planned,settled,identified,shipped,quarantined,scrapped,serials_left\n"
@@ -94,7 +94,7 @@ def tokens():
     """The file of these tokens, of which each may only look."""
     made = Tokens()
     for number, (inner, customer) in enumerate(CUSTOMERS.items(), 1):
-        made.seats[inner] = Seat(inner, customer, inner)
+        made.seats[inner] = TokenSeat(inner, customer, inner)
         made.outers.append(Outer(f"{inner}:1", number, inner, True, mark_of(inner), now(), outer_of(inner)))
     return text_of(made)
 

@@ -14,10 +14,14 @@ over a half that is mounted; DRBD isn't there. Whoever has the rights of the use
 - `control`: by ptrace each process prints a control sequence, and fails.
 - `descriptors`: by ptrace: where the descriptors of each process lead.
 - `name`: a backup has line feeds and a control sequence in its name.
+- `pipe`: pipes lie in the place of the backups' lock and note, and of a backup's files.
+- `python`: root stands in that user's folder, which has modules by Python's names and programs by those of root's
+  tools, and has PYTHONPATH and PATH lead there, as behind `su` without a dash.
 
 A road is open where a file of root's is otherwise than before, root runs the program over what that user chose, another
-user's does, root's shell runs the command, a control sequence reaches root's terminal, or a process of that user's has
-the terminal, or a descriptor of a file that it may not read. It says what came of it; the status is 1 where it is open.
+user's does, root runs a command or a module of his, the tool doesn't end, a control sequence reaches root's terminal,
+or a process of that user's has the terminal, or a descriptor of a file that it may not read. It says what came of it;
+the status is 1 where it is open.
 """
 
 import ctypes
@@ -41,7 +45,7 @@ STORE, OWNS = VOLUME / "station", VOLUME / "owns"
 OWN, ROOTS, OTHERS = VOLUME / "of-root", VOLUME / "of-root.d", VOLUME / "other/file"
 OWNED, RAN, LOG = Path("/root/OWNED"), Path("/run/ran"), Path("/run/attack")
 SEQUENCE = "\x1b]0;owned\x07"
-SECONDS = 60
+SECONDS = 300
 # Says as whom it runs over a store, and takes its time there.
 PROGRAM = """#!/bin/sh
 case "$*" in *--db*) case "$*" in */station-site.*) ;; *) echo "$(id -u) $*" >> /run/ran; sleep 0.3 ;; esac ;; esac
@@ -213,6 +217,27 @@ def odd_name() -> None:
     ran("sh", "-ec", 'mkdir "$1"; cp night/* "$1/"; touch -d 2038-01-01 "$1"', "sh", name, user=USER, cwd=BACKUPS)
 
 
+def pipes() -> None:
+    script = """for it in "$@"; do rm -f "$it"; mkfifo "$it"; done"""
+    ran("sh", "-ec", script, "sh", "backup.lock", "last-backup.json", "night/about.json", "night/site.toml",
+        "night/books.db-wal", user=USER, cwd=BACKUPS)  # fmt: skip
+    ran("sh", "-ec", 'mkfifo "$1"', "sh", "restoring.json", user=USER, cwd=STORE)
+
+
+def modules() -> None:
+    text = f"import os\nif os.geteuid() == 0: open('{OWNED}', 'w').close()\nraise SystemExit(7)\n"
+    for name in ("argparse", "os", "json", "sitecustomize", "usercustomize", "pwd", "python3"):
+        (Path("/home/station") / f"{name}.py").write_text(text)
+    for name in ("python3", "setpriv", "sqlite3", "curl", "systemctl", "findmnt", "btrfs", "mount", "umount", "sh"):
+        fake = Path("/home/station") / name
+        fake.write_text(f"#!/bin/sh\ntest $(id -u) != 0 || touch {OWNED}\nexit 7\n")
+        fake.chmod(0o755)
+    os.chown("/home/station", USER, USER)
+
+
+# What root's shell does before it runs the tool, at a road.
+BEFORE = {"python": "cd /home/station; export PYTHONPATH=/home/station PYTHONHOME= PATH=/home/station:$PATH; "}
+
 ROADS: dict[str, list[Callable[[], object]]] = {
     "link": [lambda: link(OWN)],
     "foreign": [lambda: link(OTHERS)],
@@ -225,6 +250,8 @@ ROADS: dict[str, list[Callable[[], object]]] = {
     "control": [attacking],
     "descriptors": [attacking],
     "name": [odd_name],
+    "pipe": [pipes],
+    "python": [modules],
 }
 
 
@@ -281,7 +308,7 @@ def seen() -> dict[str, object]:
     return found
 
 
-def typed(words: list[str]) -> str:
+def typed(words: list[str], before: str = "") -> str:
     """What root's terminal shows where root types a command, and waits for its end."""
     child, terminal = pty.fork()
     if not child:
@@ -289,7 +316,7 @@ def typed(words: list[str]) -> str:
         os.environ.update(PATH=PATH, HOME="/root", PS1="$ ", TERM="dumb", LC_ALL="C.UTF-8")
         os.execv("/bin/bash", ["bash", "--norc", "--noediting", "-i"])
     line = " ".join(f"'{word}'" for word in words)
-    os.write(terminal, f"{line}; echo ended by $?; sleep 0.3\n".encode())
+    os.write(terminal, f"{before}{line}; echo ended by $?; sleep 0.3\n".encode())
     shown, end = b"", time.monotonic() + SECONDS
     while time.monotonic() < end and not re.search(rb"\nended by \d+", shown):
         shown += part(terminal)
@@ -329,11 +356,12 @@ def harms(road: str, before: dict[str, object], shown: str) -> list[str]:
         "a file of root's or of another user's is changed": seen() != before,
         "root ran the program over it": "0" in users,
         "another user ran the program over it": str(OTHER) in users,
-        "root's terminal takes a command of his": OWNED.exists() or bool(re.search(r"typed=[1-9]", log)),
+        "root's terminal or shell takes a command of his": OWNED.exists() or bool(re.search(r"typed=[1-9]", log)),
         "a control sequence reached root's terminal": SEQUENCE in shown,
+        "the tool doesn't end": not re.search(r"\nended by \d+", shown),
         f"a process has {', '.join(sorted(leads))}": bool(leads),
     }
-    mine = {"terminal": 3, "control": 4, "descriptors": 5}
+    mine = {"terminal": 3, "control": 4, "descriptors": 6}
     names = list(found)
     if road in mine:
         return [names[mine[road]]] if found[names[mine[road]]] else []
@@ -348,7 +376,7 @@ def walked(tool: str, road: str, words_of: Callable[[Path], list[str]]) -> list[
         beside.append(step())
     db = OWNS / "folder/books.db" if road == "folder" else STORE / "books.db"
     try:
-        shown = typed(words_of(db))
+        shown = typed(words_of(db), BEFORE.get(road, ""))
     finally:
         for process in beside:
             if process:

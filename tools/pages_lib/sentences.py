@@ -11,7 +11,7 @@ import dataclasses
 import re
 from collections.abc import Iterator
 
-LONGEST, LONG, AVERAGE, LONG_ONES = 40, 24, 16, 10
+LONGEST, LONG, LONG_ONES = 40, 24, 10
 
 ITEM = re.compile(r"^(\s*)([-*+]|\d+[.)])(\s+)")
 END = re.compile(r"""(?<=[.?!])[*_)"'\]]*\s+(?=[A-Z0-9"'(*_`\[\0])""")
@@ -98,17 +98,14 @@ def sentences(text: str) -> list[Sentence]:
 
 @dataclasses.dataclass(frozen=True)
 class Count:
-    """How many sentences a page has, how long they are on the average, and those that are long and too long."""
+    """How many sentences a page has, how many are long, and those that are too long."""
 
     sentences: int
-    average: float
     long: int
     longest: list[Sentence]
 
     def faults(self) -> Iterator[str]:
         """What is wrong with the page."""
-        if self.average > AVERAGE:
-            yield f"{self.average:.1f} words a sentence, {AVERAGE} at most"
         if LONG_ONES * self.long > max(LONG_ONES, self.sentences):
             yield f"{self.long} of {self.sentences} sentences above {LONG} words, one in {LONG_ONES} at most"
         for it in self.longest:
@@ -125,5 +122,4 @@ def counted(text: str) -> Count:
     """A page's count."""
     found = sentences(text)
     words = [it.words for it in found]
-    average = sum(words) / len(words) if words else 0.0
-    return Count(len(found), average, sum(it > LONG for it in words), [it for it in found if it.words > LONGEST])
+    return Count(len(found), sum(it > LONG for it in words), [it for it in found if it.words > LONGEST])

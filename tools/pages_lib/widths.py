@@ -2,8 +2,8 @@
 
 A line that begins a clause (`requires` or `ensures`) has at most 100 columns, and so has each line of the
 definitions of the machine and its laws; any other line of a .rt or .antt file has 160. A line of a page has 100,
-in bench, clients, python and tests 120. Texts in quotation marks, tables and indented text of pages are as long as
-what they show.
+in bench, kit, python and tests 120. Texts in quotation marks, tables and indented text of pages are as long as what
+they show.
 """
 
 import re
@@ -42,7 +42,7 @@ def page_lines(text: str) -> Iterator[tuple[int, str]]:
 
 def page_columns(page: str) -> int:
     """How many columns a line of a page may have."""
-    return README_COLUMNS if page.startswith(("bench/", "clients/", "python/", "tests/")) else PAGE_COLUMNS
+    return README_COLUMNS if page.startswith(("bench/", "kit/", "python/", "tests/")) else PAGE_COLUMNS
 
 
 def code_columns(path: Path, line: str) -> int:

@@ -5,7 +5,6 @@ from __future__ import annotations
 import contextlib
 import hashlib
 import http.client
-import io
 import json
 import os
 import re
@@ -26,24 +25,14 @@ from pathlib import Path
 from simulated_chip import SimulatedChip
 
 ROOT = Path(__file__).resolve().parents[3]
-sys.path[:0] = [str(ROOT / "python"), str(ROOT / "clients/python")]
+sys.path.insert(0, str(ROOT / "python"))
 
-from wanekupo_journal import Journal  # noqa: E402
-from wanekupo_station import (  # noqa: E402
-    KeyFile,
-    Station,
-    Word,
-    Work,
-    bit,
-    blocks_of,
-    chip_of,
-    commands,
-    key,
-    rlock,
-    wlock,
-)
-
-from wanekupo.cli.commands import main  # noqa: E402
+from wanekupo.chips.chip import bit, chip_of, key, rlock, wlock  # noqa: E402
+from wanekupo.chips.espefuse import KeyFile  # noqa: E402
+from wanekupo.chips.families import dump_of, family_of  # noqa: E402
+from wanekupo.seat.journal import Journal  # noqa: E402
+from wanekupo.seat.replies import Word, Work  # noqa: E402
+from wanekupo.seat.station import Station  # noqa: E402
 
 PROGRAM = os.environ.get("STATION_PROGRAM", str(ROOT / "crates" / "station" / "out" / "station"))
 SIMULATED = ROOT / "python" / "tests" / "client" / "simulated_chip.py"
@@ -83,17 +72,6 @@ def steps(ledger):
 def rows(text):
     """An import's rows, each with the digest of its serial number as its key's."""
     return [(serial, hashlib.sha256(serial.encode()).hexdigest()) for serial in text.split()]
-
-
-def ran(*words):
-    """The status of a command, its output and what it told on standard error."""
-    out, err = io.StringIO(), io.StringIO()
-    with contextlib.redirect_stdout(out), contextlib.redirect_stderr(err):
-        try:
-            status = main([str(word) for word in words])
-        except SystemExit as stop:
-            status = stop.code
-    return status, out.getvalue(), err.getvalue()
 
 
 def free_port():
@@ -386,14 +364,15 @@ class Held:
         self.chip, self.keys = chip, keys
 
     def read(self):
-        return blocks_of(self.chip.dump())
+        return dump_of(family_of("esp32"), self.chip.dump()).told()
 
     def burn(self, work):
-        for words in commands(work, self.keys):
-            if words[0] == "burn_bit":
-                self.chip.burn(int(words[1][-1]), sum(1 << int(place) for place in words[2:]))
-            else:
-                self.chip.burn_key(words[2], Path(words[3]).read_bytes(), words[1] != "--no-protect-key")
+        for field, digest in work.keys.items():
+            file = self.keys[field]
+            assert file.digest() == digest, field
+            self.chip.burn_key(file.burnt_as, file.data(), False)
+        for block in sorted({it.block for it in work.bits}, reverse=True):
+            self.chip.burn(block, sum(it.mask << 32 * it.word for it in work.bits if it.block == block))
 
 
 def life(station, chip_io, public_key=PUBLIC_KEY, order=ORDER["name"]):

@@ -467,19 +467,6 @@ class Shifts(BooksCase):
         self.shift(self.folder / "a1.journal")
         self.assertEqual([it["state"] for it in self.rows("under_way")], ["settled"])
 
-    def test_a_report_that_was_cut(self):
-        """What orders have left is of the last report that is whole."""
-        self.write("a1.journal", lines_of("a1", device("06:10:00", "c1", "o1"), device("06:20:00", "c2", "o2")))
-        head = "time,rows,customer,order,quantity,registered,planned,settled,identified,shipped,quarantined,scrapped,"
-        lines = [f"{DAY}12:00:00Z,2,acme,o1,9,0,0,0,0,0,0,0,7", f"{DAY}12:00:00Z,2,acme,o2,9,0,0,0,0,0,0,0,8"]
-        lines += [f"{DAY}13:00:00Z,2,acme,o1,9,0,0,0,0,0,0,0,6"]
-        text = "\n".join([f"{head}serials_left", *lines, ""])
-        (self.folder / "w-2026-11-27.csv").write_text(text, encoding="ascii")
-        (self.folder / "csv").mkdir()
-        words = ("--csv", self.folder / "csv", "--watch", self.folder / "w.csv")
-        self.assertEqual(ran("shift", f"acme={self.folder / 'a1.journal'}", *PERIOD, *words)[0], 0)
-        self.assertEqual({it["order"]: it["left"] for it in self.rows("rest")}, {"o1": "7", "o2": "8"})
-
 
 class States(unittest.TestCase):
     def test_the_drawing(self):

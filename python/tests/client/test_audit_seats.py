@@ -7,6 +7,8 @@ from __future__ import annotations
 
 import hashlib
 import json
+import os
+import shutil
 import tempfile
 import time
 import unittest
@@ -29,8 +31,7 @@ from wanekupo.books.papers import given_twice, unasked
 from wanekupo.books.shift import Period
 from wanekupo.books.stamp import verified
 from wanekupo.books.steps import book_of
-from wanekupo.books.store_rows import Seat
-from wanekupo.common.errors import BadJournal
+from wanekupo.books.store_rows import StoredSeat
 from wanekupo.seat.journal import request_digest
 
 PERIOD = Period(f"{DAY}06:00:00Z", f"{DAY}14:00:00Z")
@@ -70,7 +71,7 @@ class SeatCase(unittest.TestCase):
         return book_of([file])
 
     def store(self, number=0, chip="", path="/v1/ship"):
-        last = Seat("a1", "acme", number, request_digest(path, {"nr": number, "chip": chip}), "{}")
+        last = StoredSeat("a1", "acme", number, request_digest(path, {"nr": number, "chip": chip}), "{}")
         return SimpleNamespace(seats={"a1": last}, records=lambda _: [])
 
     def spans(self, books, store):
@@ -147,8 +148,34 @@ class Turns(SeatCase):
                 if is_read:
                     self.assertEqual(len(list(steps.shipped_books(self.folder, seats))), 2)
                     continue
-                with self.assertRaisesRegex(BadJournal, "with .*pc7/b.journal these journals have more than"):
-                    list(steps.shipped_books(self.folder, seats))
+                self.assertRegex(self.last_fault(seats), "^isn't read to its end: with .*pc7/b.journal these journals")
+
+    def last_fault(self, seats):
+        """What is told of the last book of a folder of all."""
+        book = list(steps.shipped_books(self.folder, seats))[-1]
+        self.assertEqual(({it.place() for it in book.faults}, book.times), ({str(self.folder / "pc7")}, []))
+        return book.faults[0].told
+
+    def test_one_bad_folder(self):
+        """What a station may write that nobody can read keeps no other station's journals from being read."""
+        for name in ("pc7", "pc8"):
+            (self.folder / name).mkdir()
+        self.book(row(1, 2, "07"), "pc8/a")
+        seats = {"pc7": frozenset(["b1"]), "pc8": frozenset(["a1"])}
+        bad = {
+            "a pipe": lambda it: os.mkfifo(it / "b.journal"),
+            "a link": lambda it: (it / "b.journal").symlink_to("/etc/passwd"),
+            "a folder too deep": lambda it: (it / "1/2/3").mkdir(parents=True),
+        }
+        for name, make in bad.items():
+            with self.subTest(name):
+                make(self.folder / "pc7")
+                books = list(steps.shipped_books(self.folder, seats))
+                self.assertEqual([(it.name(), len(it.steps)) for it in books if it.steps], [("a1", 2)])
+                (fault,) = [it for book in books for it in book.faults]
+                self.assertEqual((fault.place(), fault.told[:22]), (str(self.folder / "pc7"), "isn't read to its end:"))
+                shutil.rmtree(self.folder / "pc7")
+                (self.folder / "pc7").mkdir()
 
     def test_order(self):
         """A chip's lines come by their numbers, whatever the journals' order and the clock."""
@@ -230,8 +257,8 @@ class Journals(SeatCase):
         """A journal without names is that of the seat whose last request it has with the highest number; one without a
         line is nobody's, and is passed over."""
         lines = [{name: it for name, it in line.items() if name != "seat"} for line in row(1, 2, "07")]
-        seats = {it.name: it for it in (Seat("a2", "acme", 1, lines[0]["digest"], "{}"),
-                                        Seat("b1", "bolt", 2, lines[2]["digest"], "{}"))}
+        seats = {it.name: it for it in (StoredSeat("a2", "acme", 1, lines[0]["digest"], "{}"),
+                                        StoredSeat("b1", "bolt", 2, lines[2]["digest"], "{}"))}
         store = SimpleNamespace(seats=seats)
         self.assertEqual(seated(self.book(lines), store).seat, "b1")
         self.assertEqual(list(_journal_faults([Seated(self.book([]), "", "", "")], store)), [])
@@ -256,7 +283,7 @@ class Journals(SeatCase):
 
     def test_a_seat_without_a_journal(self):
         """Its requests are told where it has more of them than entries."""
-        store = SimpleNamespace(seats={name: Seat(name, "acme", 8, "", "") for name in ("a1", "a2")})
+        store = SimpleNamespace(seats={name: StoredSeat(name, "acme", 8, "", "") for name in ("a1", "a2")})
         found = [it.told for it in _idle_faults({"a1", "a2"}, Counter(a1=8, a2=6), store)]
         self.assertEqual(len(found), 1)
         self.assertIn("2 of its 8 requests are of no device", found[0])

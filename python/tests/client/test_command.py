@@ -289,16 +289,6 @@ class Words(CommandCase):
                 told = sentence_of(Refused(400, {"no": int(number), "error": name}))
                 self.assertRegex(told, rf"^The server refused it: .+ \(refusal {number}, {name}\)[.] [A-Zs].+[.]$")
 
-    def test_a_watch_without_a_report(self):
-        """Each line is a sentence, and the status is that of what wasn't done."""
-        words = ["watch", self.folder / "acme.csv", "--times", "1", "--patience", "0", "--url"]
-        status, out, err = self.ran(*words, f"http://{HOST}:{free_port()}")
-        self.assertEqual((status, out), (2, ""))
-        gap, end = err.splitlines()
-        self.assertRegex(gap, r" no report: No reply to GET /v1/report: .+[.]$")
-        self.assertRegex(end, r"^1 of 1 reports failed.+[.]$")
-        self.assertNotRegex(err, NO_SENTENCE)
-
     def test_no_option_has_two_meanings(self):
         """An option of one command is refused by the others, and none may be cut short."""
         for words in ("--state a1.json devices", "devices --stat shipped", f"ship {MAC} --order o1"):

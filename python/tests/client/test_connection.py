@@ -9,8 +9,9 @@ from unittest import mock
 from support import DIGEST, LIFE, MAP, ORDER, KeptProxy, StationCase, life, rows, steps
 
 import wanekupo.seat.connection
-import wanekupo_station as client
-from wanekupo_station import Imported, NoReply, OutOfStep, UnderWay
+from wanekupo.seat.station import Station
+from wanekupo.common.errors import NoReply, OutOfStep, UnderWay
+from wanekupo.seat.replies import Imported
 
 
 class Connections(StationCase):
@@ -26,7 +27,7 @@ class Connections(StationCase):
 
     def number_goes_on(self):
         """Another process of the seat has two requests done."""
-        with client.Station(self.program.url, "abc", self.folder / "other.json") as other:
+        with Station(self.program.url, "abc", self.folder / "other.json") as other:
             other.import_map(MAP)
             other.import_map(MAP)
 
@@ -47,7 +48,7 @@ class Connections(StationCase):
         cases = [(fault, before) for fault in KeptProxy.FAULTS for before in ([], [None])]
         for place, (fault, before) in enumerate(cases, 1):
             proxy, mac = self.proxy([None, *before, *[fault, None] * 100], KeptProxy), f"240ac40000{place:02x}"
-            with client.Station(proxy.url, "abc", self.folder / "a1.json", patience=0) as station:
+            with Station(proxy.url, "abc", self.folder / "a1.json", patience=0) as station:
                 device = life(station, self.chip(mac), bytes([place]))
             self.assertEqual((device.state, device.serial), ("shipped", f"A{place:03}"), fault)
             self.assertEqual(steps(self.ledger(mac)), LIFE, fault)
@@ -108,7 +109,7 @@ class Connections(StationCase):
         """It is as no reply: at the first request, and behind a kept one."""
         for faults, sent in ((["dropped"], 1), ([None, "dropped", "dropped"], 3)):
             proxy = self.proxy(faults, KeptProxy)
-            with client.Station(proxy.url, "abc", self.folder / "new.json", patience=0) as station:
+            with Station(proxy.url, "abc", self.folder / "new.json", patience=0) as station:
                 with self.assertRaises(NoReply):
                     for _ in range(2):
                         station.report()
@@ -123,7 +124,7 @@ class Connections(StationCase):
     def test_each_exchange_has_its_own_time(self):
         """One that begins while an earlier one's time runs has all of its own, and no more."""
         proxy = self.proxy([None, None, "slow"], KeptProxy)
-        with client.Station(proxy.url, "abc", self.folder / "new.json", patience=0, timeout=1) as station:
+        with Station(proxy.url, "abc", self.folder / "new.json", patience=0, timeout=1) as station:
             for pause in (0.6, 0.6):
                 station.report()
                 time.sleep(pause)

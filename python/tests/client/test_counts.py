@@ -13,9 +13,9 @@ from unittest import mock
 
 import support  # noqa: F401  it finds the package
 
-from wanekupo.bench.board import Shift, ended_socket
+from wanekupo.bench.board import ShiftCounts, ended_socket
 from wanekupo.bench.endings import Ended
-from wanekupo.bench.bench_files import Kept
+from wanekupo.bench.bench_files import BenchFiles
 
 # The stays in turn, each a chip and how it ended, or a new shift; then passed, first, failed, and how many chips failed
 # with none between that passed.
@@ -50,7 +50,7 @@ class Counts(unittest.TestCase):
 
     def test_each_chip_once(self):
         for place, (stays, *expected) in enumerate(CASES):
-            with self.subTest(stays), contextlib.closing(Kept(self.folder / str(place))) as kept:
+            with self.subTest(stays), contextlib.closing(BenchFiles(self.folder / str(place))) as kept:
                 for second, stay in enumerate(stays.split(", ")):
                     at = mock.patch("wanekupo.bench.bench_files.now_text", return_value=f"2099-01-01T00:00:{second:02}Z")
                     with at:
@@ -60,7 +60,7 @@ class Counts(unittest.TestCase):
 
     def stay(self, kept, second, chip, name):
         if f"{chip} {name}" == NEW:
-            kept.counted(Shift(f"2099-01-01T00:00:{second:02}Z"))
+            kept.counted(ShiftCounts(f"2099-01-01T00:00:{second:02}Z"))
         elif name == ELSEWHERE:
             kept.elsewhere(chip)
         else:
@@ -76,7 +76,7 @@ class Counts(unittest.TestCase):
         old = {"last": {}, "map": "", "shift": shift, "under_way": {}}
         (folder / "bench.json").write_text(json.dumps(old), encoding="ascii")
         (folder / "bench.json").chmod(0o600)
-        with contextlib.closing(Kept(folder)) as kept:
+        with contextlib.closing(BenchFiles(folder)) as kept:
             self.stay(kept, 0, "c1", "stray")
             shift = kept.shift()
         self.assertEqual((shift.passed, shift.failed, len(shift.row)), (7, {"stray": 3}, 2))

@@ -8,12 +8,11 @@ import os
 import unittest
 from unittest import mock
 
-from support import DIGEST, FLASH_KEY, MAC, MAP, ORDER, WISHES, StationCase, ran
+from support import DIGEST, FLASH_KEY, MAC, MAP, ORDER, WISHES, StationCase
 
-import wanekupo_station as client
+from wanekupo.common.errors import BadJournal, BadStateFile, NoReply, Refused, UnsafeFile
+from wanekupo.seat.journal import Journal, lines_of, requests_of
 from wanekupo.common.files import own_path, replace_bytes
-from wanekupo_journal import BadJournal, Journal, lines_of, requests_of
-from wanekupo_station import NoReply, UnsafeFile
 
 # Another user than the one that runs the tests, who has to be root to give a file away.
 OTHER = 65_534
@@ -39,23 +38,13 @@ class Owners(StationCase):
             station.import_map(MAP)
 
     def test_links_are_not_followed(self):
-        """The state's lock, the file that takes its place, a report's file: what a link leads to stays as it is."""
+        """The state's lock, and the file that takes its place: what a link leads to stays as it is."""
         (self.folder / "a1.json.lock").symlink_to(self.victim)
         with self.assertRaises(UnsafeFile):
             self.station()
         (self.folder / "a1.json.lock").unlink()
         (self.folder / "a1.json.new").symlink_to(self.victim)
         self.station().import_map(MAP)
-        report = "order,quantity,registered,planned,settled,identified,shipped,quarantined,scrapped,serials_left\n"
-        url = self.canned(200, "text/csv", report.encode())
-        (self.folder / "a1.token").write_text("abc", encoding="ascii")
-        words = ["--url", url, "--token", self.folder / "a1.token", "watch", "--times", "1", self.folder / "w.csv"]
-        self.assertEqual(ran(*words)[0], 0)
-        (day,) = self.folder.glob("w-*.csv")
-        day.unlink()
-        day.symlink_to(self.victim)
-        status, _, err = ran(*words)
-        self.assertEqual((status, "UnsafeFile" in err), (2, True))
         self.assertEqual((self.victim.read_text(encoding="ascii"), self.victim.stat().st_mode & 0o777), ("x", 0o644))
 
     def test_whose_link_is_followed(self):
@@ -194,7 +183,7 @@ class Keys(StationCase):
         """A read-back that is refused leaves nothing either."""
         self.seat.settle(MAC, self.held)
         self.held.chip.blocks[0] &= ~(1 << 16)  # the read lock, so that the key is shown again
-        with self.assertRaises(client.Refused):
+        with self.assertRaises(Refused):
             self.seat.read_back(MAC, self.held.read())
         self.assertEqual(self.words_in(), [])
 
@@ -207,7 +196,7 @@ class Keys(StationCase):
         state = json.loads(file.read_text(encoding="ascii"))
         state["last"]["body"] = json.dumps({"nr": state["next"] - 1, "chip": MAC, "blocks": blocks})
         file.write_text(json.dumps(state), encoding="ascii")
-        with self.assertRaises(client.BadStateFile):
+        with self.assertRaises(BadStateFile):
             self.station(token="hello")
         self.assertEqual(self.words_in(), key_words())
         with self.station() as seat:

@@ -13,12 +13,17 @@ import sys
 import time
 import unicodedata
 import unittest
-from xml.etree import ElementTree
 
-from support import DIGEST, MAC, ORDER, ROOT, StationCase, ran
+from support import DIGEST, MAC, ORDER, StationCase
 
-import wanekupo_station as client
-from wanekupo_station import Refused, TooLong, UnderWay
+from commanding import CLIENT, ran
+
+from wanekupo.common.errors import Refused, TooLong, UnderWay
+from wanekupo.chips.espefuse import NoKey, steps_of
+from wanekupo.chips.families import dump_of, family_of
+from wanekupo.seat.replies import Work
+from wanekupo.seat.station import Station
+from wanekupo.common.texts import shown
 
 # A title of the window (OSC), a screen that is wiped (CSI), the same by a C1 byte, a deletion, and letters from right
 # to left: RIGHT-TO-LEFT OVERRIDE and RIGHT-TO-LEFT ISOLATE.
@@ -28,7 +33,6 @@ HEAD = "order,quantity,registered,planned,settled,identified,shipped,quarantined
 COUNTS = ",2,0,0,0,0,0,0,0,2\n"
 JSON, CSV = "application/json", "text/csv"
 MOST = 4 * 1024 * 1024
-CLIENT = ROOT / "clients" / "python" / "wanekupo_station.py"
 
 
 def is_plain(text):
@@ -40,7 +44,7 @@ class Hostile(StationCase):
     def ran_at(self, url, *words):
         """A command whose server is another; what it prints and tells is plain."""
         (self.folder / "a1.token").write_text("abc\n", encoding="ascii")
-        common = ["--url", url, "--token", self.folder / "a1.token", "--state", self.folder / "a1.json"]
+        common = ["--url", url, "--token", self.folder / "a1.token", "--state-file", self.folder / "a1.json"]
         status, out, err = ran("--patience", 0, *common, *words)
         self.assertTrue(is_plain(out) and is_plain(err), (words, out, err))
         return status, out, err
@@ -51,36 +55,37 @@ class Hostile(StationCase):
     def test_the_rule_itself(self):
         """Each character that isn't plain is written out, and each that is stays; a line feed ends a line."""
         for text in TEXTS:
-            self.assertTrue(is_plain(client.shown(text)) and not is_plain(text))
-        self.assertEqual(client.shown(TITLE + "\u202e\n\u00fc"), r"\x1b]0;owned\x07\u202e\n" + "\u00fc")
+            self.assertTrue(is_plain(shown(text)) and not is_plain(text))
+        self.assertEqual(shown(TITLE + "\u202e\n\u00fc"), r"\x1b]0;owned\x07\u202e\n" + "\u00fc")
 
     def test_refusals(self):
         for text in TEXTS:
             url = self.page_of(404, {"no": 15, "error": text, "more": text})
             status, _, err = self.ran_at(url, "device", MAC)
-            self.assertEqual((status, err), (1, f"refused: 15 {client.shown(text)} more {client.shown(text)}\n"))
-            with client.Station(url, "abc", None, patience=0) as station, self.assertRaises(Refused) as found:
+            self.assertEqual((status, f"(refusal 15, {shown(text)}, more {shown(text)})" in err), (1, True))
+            with Station(url, "abc", None, patience=0) as station, self.assertRaises(Refused) as found:
                 station.device(MAC)
             self.assertTrue(is_plain(str(found.exception)))
 
     def test_what_nobody_catches(self):
         """What Python prints of it is plain too."""
-        script = "import sys; from wanekupo_station import Station; Station(sys.argv[1], 'abc', None, 0).device('x')"
+        script = "import sys; from wanekupo.seat.station import Station; Station(sys.argv[1], 'abc', None, 0).device('x')"
         for text in TEXTS:
             words = [sys.executable, "-B", "-c", script, self.page_of(404, {"no": 15, "error": text, "more": text})]
-            paths = {**os.environ, "PYTHONPATH": str(CLIENT.parent), "PYTHONIOENCODING": "utf-8"}
+            paths = {**os.environ, "PYTHONPATH": str(CLIENT), "PYTHONIOENCODING": "utf-8"}
             done = subprocess.run(words, capture_output=True, env=paths)
             told = done.stderr.decode()
-            self.assertEqual((done.returncode, f"15 {client.shown(text)} more" in told, is_plain(told)), (1, True, True))
+            self.assertEqual((done.returncode, f"15 {shown(text)} more" in told, is_plain(told)), (1, True, True))
 
     def test_replies(self):
         """What isn't as the page says is no reply of the server's, and a station stops at it."""
+        blank = dump_of(family_of("esp32"), self.chip().chip.dump())
         for text in TEXTS:
             for words, body in (
                 (["device", MAC], {"chip": MAC, "state": text, text: [text]}),
-                (["show-order", "o1"], {"name": "o1", "next": text}),
+                (["order", "o1"], {"name": "o1", "next": text}),
                 (["ledger", MAC], {"chip": MAC, "entries": [{text: text}]}),
-                (["show-identity", MAC], {"chip": MAC, "serial": text}),
+                (["identity", MAC], {"chip": MAC, "serial": text}),
             ):
                 self.assertEqual(self.ran_at(self.page_of(200, body), *words)[:2], (3, ""))
             body = {"chip": MAC, "state": text, "pending": text}
@@ -92,8 +97,8 @@ class Hostile(StationCase):
             keys = {"bits": [], "keys": {text: text}}
             body |= {**keys, "pending": {"batch1": keys, "batch2": keys}}
             self.assertEqual(self.ran_at(self.page_of(200, body), "burn", MAC)[0], 3)
-            with self.assertRaises(ValueError) as found:
-                list(client.commands(client.Work((), {text: text}), {}))
+            with self.assertRaises(NoKey) as found:
+                steps_of(Work((), {text: text}), blank, {})
             self.assertTrue(is_plain(str(found.exception)))
             body = {"no": 11, "error": text, "expected": text}
             self.assertEqual(self.ran_at(self.page_of(409, body), "number")[0], 3)
@@ -108,28 +113,22 @@ class Hostile(StationCase):
             body = {"devices": listed, "next": following}
             self.assertEqual(self.ran_at(self.page_of(200, body), "devices", "--after", "0")[0], 3)
 
+    def written(self, name, text):
+        """A file with a report, as a command printed it."""
+        (self.folder / name).write_bytes(text.encode("utf-8", "surrogatepass"))
+        return self.folder / name
+
     def test_reports(self):
-        """On the terminal, in the files of watch, and in what yield makes of these."""
-        for place, text in enumerate((TITLE, WIPED, DELETED)):
+        """On the terminal, and in what yield makes of two."""
+        out = self.folder / "y.csv"
+        for text in (TITLE, WIPED, DELETED):
             url = self.canned(200, CSV, (HEAD + text + COUNTS).encode())
-            self.assertEqual(self.ran_at(url, "report")[:2], (0, HEAD + client.shown(text) + COUNTS))
-            file = self.folder / f"{place}.csv"
-            self.assertEqual(self.ran_at(url, "watch", "--times", "1", "--customer", text, file)[0], 0)
-            (day,) = self.folder.glob(f"{place}-*.csv")
-            kept = day.read_text(encoding="utf-8")
-            self.assertTrue(is_plain(kept))
-            self.assertIn(f",{client.shown(text)},{client.shown(text)},2,0,", kept)
-            head, row = kept.splitlines()
-            moments = [f"{row[:10]}T00:00:00Z", f"{row[:10]}T23:59:59Z"]
-            first = row.replace(row[:20], moments[0]).replace(",2,0,", ",1,0,")
-            later = row.replace(row[:20], moments[1]).replace(",0,2", ",3,2")
-            day.write_text("\n".join([head, first, later, ""]), encoding="utf-8")
-            made = ["--csv", self.folder / "y.csv", "--svg", self.folder / "y.svg"]
-            words = ["yield", file, "--from", moments[0], "--to", moments[1], *made]
-            status, out, _ = self.ran_at(url, *words)
-            self.assertEqual((status, out.splitlines()[2].split()[:2]), (0, 2 * [client.shown(text)]))
-            self.assertTrue(is_plain((self.folder / "y.csv").read_text(encoding="utf-8")))
-            ElementTree.parse(self.folder / "y.svg")
+            self.assertEqual(self.ran_at(url, "report")[:2], (0, HEAD + shown(text) + COUNTS))
+            words = [self.written("before", HEAD), self.written("behind", HEAD + text + ",2,0,0,0,0,2,0,0,0\n")]
+            status, told, _ = self.ran_at(url, "yield", *words, "--csv", out)
+            self.assertEqual((status, told.splitlines()[1].split()[0]), (0, shown(text)))
+            self.assertEqual(self.ran_at(url, "yield", self.written("now", HEAD))[0], 0)
+            self.assertTrue(is_plain(out.read_text(encoding="utf-8")))
 
     def test_what_is_no_reply(self):
         """Bytes that are no UTF-8, in a body, in a type and in a status line; a page's text that a message quotes."""
@@ -138,19 +137,19 @@ class Hostile(StationCase):
         urls = [self.canned(200, CSV, lone), self.canned(200, JSON, lone), self.canned(404, JSON, lone)]
         urls += [self.canned(200, "text/html", TITLE.encode()), self.canned(raw), self.canned(lone + b"\r\n\r\n")]
         for url in urls:
-            for words in (["report"], ["device", MAC], ["devices"], ["watch", "--times", "1", self.folder / "none.csv"]):
+            for words in (["report"], ["device", MAC], ["devices"], ["yield", self.written("before", HEAD)]):
                 status, out, err = self.ran_at(url, *words)
-                self.assertEqual((out, err.count("\n") >= 1), ("", True))
-                self.assertEqual(status, 2 if words[0] == "watch" else 3)
-        self.assertEqual(list(self.folder.glob("none*")), [])
+                self.assertEqual((status, out, err.count("\n") >= 1), (3, "", True))
 
     def test_counts_that_are_no_numbers(self):
-        """Neither watch nor the terminal takes them for a report's."""
+        """yield takes none of them for a report's, and the terminal has them written out."""
         for count in ("=1+1", WIPED, "", "-1", "1.5"):
-            url = self.canned(200, CSV, (HEAD + "o1" + COUNTS.replace("2,0,", f"2,{count},", 1)).encode())
-            self.assertEqual(self.ran_at(url, "watch", "--times", "1", self.folder / "none.csv")[0], 2)
-            self.assertIn(client.shown(count), self.ran_at(url, "report")[1])
-        self.assertEqual(list(self.folder.glob("none*")), [])
+            text = HEAD + "o1" + COUNTS.replace("2,0,", f"2,{count},", 1)
+            url = self.canned(200, CSV, text.encode())
+            status, out, err = self.ran_at(url, "yield", self.written("odd", text))
+            self.assertEqual((status, out, "has no report" in err), (2, "", True))
+            self.assertEqual(self.ran_at(url, "yield", self.written("before", HEAD))[:2], (3, ""))
+            self.assertIn(shown(count), self.ran_at(url, "report")[1])
 
     def test_words_of_the_command_line(self):
         """A name that is shown again is written out too."""
@@ -165,22 +164,23 @@ class Hostile(StationCase):
         journal.write_text("".join(json.dumps(line) + "\n" for line in lines), encoding="ascii")
         for encoding, letter in (("ascii", b"\\xfc"), ("utf-8", b"\xc3\xbc")):
             own = {**os.environ, "PYTHONIOENCODING": encoding}
-            done = subprocess.run([sys.executable, "-B", CLIENT, "issued", journal], capture_output=True, env=own)
+            words = [sys.executable, "-B", "-m", "wanekupo", "issued", journal]
+            done = subprocess.run(words, capture_output=True, cwd=CLIENT, env=own)
             line = b"%s,%s,A1,0," % (MAC.encode(), letter)
             self.assertEqual((done.returncode, done.stdout.splitlines()[1], done.stderr), (0, line, b""))
 
     # A spreadsheet.
 
     def test_fields_are_quoted(self):
-        """Any text comes back by a reader of RFC 4180 as one field from the files of watch."""
-        name = 'a,b"c;d'
+        """Any text comes back by a reader of RFC 4180 as one field, from a report and from what yield writes."""
+        name, out = 'a,b"c;d', self.folder / "y.csv"
         url = self.canned(200, CSV, (HEAD + '"a,b""c;d"' + COUNTS).encode())
-        for _ in range(2):
-            self.assertEqual(self.ran_at(url, "watch", "--times", "1", "--customer", name, self.folder / "w.csv")[0], 0)
-        (day,) = self.folder.glob("w-*.csv")
-        with open(day, encoding="utf-8", newline="") as source:
-            rows = list(csv.reader(source))
-        self.assertEqual([row[2:5] for row in rows[1:]], 2 * [[name, name, "2"]])
+        printed = self.ran_at(url, "report")[1]
+        behind = printed.replace(COUNTS, ",2,0,0,0,0,2,0,0,0\n")
+        words = [self.written("before", printed), self.written("behind", behind)]
+        self.assertEqual(self.ran_at(url, "yield", *words, "--csv", out)[0], 0)
+        for text in (printed, out.read_text(encoding="utf-8")):
+            self.assertEqual(list(csv.reader(text.splitlines()))[1][0], name)
 
     def test_names_that_begin_as_formulas_are_told(self):
         """Each of OWASP's beginnings, once a run, by the name of its column; nothing is told of counts and of others."""
@@ -188,28 +188,22 @@ class Hostile(StationCase):
             name = f"{begin}HYPERLINK(1)"
             url = self.canned(200, CSV, (HEAD + f'"{name}"' + COUNTS + "o2" + COUNTS).encode())
             told = [f"warning: order {name!r} begins as a formula does"]
-            often = ["--times", "2", "--every", "1s"] if begin == "=" else ["--times", "1"]
-            for words in (["report"], ["watch", *often, self.folder / f"{ord(begin)}.csv"]):
-                status, _, err = self.ran_at(url, *words)
-                self.assertEqual((status, [line.rpartition(":")[0] for line in err.splitlines()]), (0, told))
+            status, _, err = self.ran_at(url, "report")
+            self.assertEqual((status, [line.rpartition(":")[0] for line in err.splitlines()]), (0, told))
         row = {"chip": MAC, "order": "-A1", "state": "shipped", "reason": None, "serial": "A-1"}
         err = self.ran_at(self.page_of(200, {"devices": [row, row], "next": None}), "devices")[2]
         self.assertEqual((err.count("\n"), "warning: order '-A1' begins" in err, "serial" in err), (1, True, False))
         url = self.canned(200, CSV, (HEAD + "o1" + COUNTS).encode())
-        words = ["watch", "--times", "1", "--customer", "=cmd()", self.folder / "c.csv"]
-        self.assertIn("warning: customer '=cmd()' begins", self.ran_at(url, *words)[2])
         self.assertEqual(self.ran_at(url, "report")[2], "")
 
     def test_counts_are_no_formulas(self):
         """A difference of -2 is a number, and a name of the same row is told."""
-        rows = ["06:00:00Z,1,acme,-o,9,2,0,0,0,2,0,0,9", "07:00:00Z,1,acme,-o,9,0,0,0,0,3,0,1,9"]
-        text = "time,rows,customer," + HEAD + "".join(f"2026-11-27T{row}\n" for row in rows)
-        (self.folder / "y-2026-11-27.csv").write_text(text, encoding="ascii")
+        rows = ["-o,9,2,0,0,0,2,0,0,5\n", "-o,9,0,0,0,0,3,0,1,5\n"]
+        files = [self.written(name, HEAD + row) for name, row in zip(("before", "behind"), rows)]
         out = self.folder / "out.csv"
-        moments = ["--from", "2026-11-27T06:00Z", "--to", "2026-11-27T07:00Z"]
-        status, _, err = ran("yield", self.folder / "y.csv", *moments, "--csv", out)
+        status, _, err = ran("yield", *files, "--csv", out)
         self.assertEqual((status, err.count("warning"), "order '-o' begins" in err), (0, 1, True))
-        self.assertIn(",-o,0,1,1,50.0,-2,0,0,0,+1,0,+1\n", out.read_text(encoding="ascii"))
+        self.assertIn("-o,0,1,1,50.0,-2,0,0,0,+1,0,+1\n", out.read_text(encoding="ascii"))
 
     def test_logs_that_name_formulas(self):
         """What `issued` prints, and what `lost` writes."""
@@ -231,12 +225,12 @@ class Hostile(StationCase):
         """A reply of 4 MiB is taken, and one of a byte more isn't, with a length, without one and in chunks."""
         head = b"HTTP/1.1 200 OK\r\nContent-Type: text/csv\r\n"
         chunks = b"Transfer-Encoding: chunked\r\n\r\n" + (b"100000\r\n" + (1 << 20) * b"x" + b"\r\n") * 5
-        with client.Station(self.canned(200, CSV, MOST * b"x"), "abc", None, patience=0) as station:
+        with Station(self.canned(200, CSV, MOST * b"x"), "abc", None, patience=0) as station:
             self.assertEqual(len(station.get("/v1/report")), MOST)
         longer = (MOST + 1) * b"x"
         for url in (self.canned(200, CSV, longer), self.canned(head + b"\r\n" + longer), self.canned(head + chunks)):
             start = time.monotonic()
-            with client.Station(url, "abc", None, patience=600) as station, self.assertRaises(TooLong) as found:
+            with Station(url, "abc", None, patience=600) as station, self.assertRaises(TooLong) as found:
                 station.get("/v1/report")
             self.assertIn("4194304 bytes", str(found.exception))
             self.assertLess(time.monotonic() - start, 60)
@@ -269,18 +263,18 @@ class Hostile(StationCase):
         others = ["http://10.0.0.5:1", "http://station.example", "http://127.0.0.1.example:1", "http://[2001:db8::1]:1"]
         others += ["http://localhost.example:1", "http://0.0.0.0:1", "http://[::ffff:10.0.0.5]:1", "http://0177.0.0.1:1"]
         for url in [*here, "https://station.example"]:
-            client.Station(url, "abc", None).close()
+            Station(url, "abc", None).close()
         for url in others:
             with self.assertRaises(ValueError) as found:
-                client.Station(url, "abc", None)
+                Station(url, "abc", None)
             self.assertIn("unencrypted", str(found.exception))
-            client.Station(url, "abc", None, insecure=True).close()
+            Station(url, "abc", None, insecure=True).close()
             status, out, err = self.ran_at(url, "report")
             self.assertEqual((status, out), (2, ""))
             self.assertIn("--insecure", err)
         for url in ("http://127.0.0.1@station.example:1", "http://", "http://127.0.0.1:x"):
             with self.assertRaises(ValueError):
-                client.Station(url, "abc", None, insecure=True)
+                Station(url, "abc", None, insecure=True)
         self.assertEqual(self.ran_at("http://127.0.0.2:9", "--insecure", "report")[0], 3)
 
 

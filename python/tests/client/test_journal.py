@@ -13,10 +13,13 @@ import time
 import unittest
 from unittest import mock
 
-from support import DIGEST, FLASH_KEY, LETTERS, MAC, MAP, ORDER, PUBLIC_KEY, WISHES, StationCase, life, ran, rows
+from support import DIGEST, FLASH_KEY, LETTERS, MAC, MAP, ORDER, PUBLIC_KEY, WISHES, StationCase, life, rows
 
-from wanekupo_journal import BadJournal, Differs, Journal, merged, request_digest, requests_of, restore
-from wanekupo_station import NoReply, OutOfStep, Refused
+from commanding import ran
+
+from wanekupo.common.errors import BadJournal, Differs, NoReply, OutOfStep, Refused
+from wanekupo.seat.journal import Journal, merged, request_digest, requests_of
+from wanekupo.seat.replays import restore
 
 # SHA-256 of 32 zero bytes (sha256sum).
 ZEROS = "66687aadf862bd776c8fc18b8e9f8e20089714856ee233b3902a591d0d5f2925"
@@ -257,7 +260,7 @@ class Restore(StationCase):
     def ran(self, *words):
         (self.folder / "a1.token").write_text("abc\n", encoding="ascii")
         common = ["--url", self.program.url, "--token", self.folder / "a1.token"]
-        return ran(*common, "--state", self.folder / "restore.json", *words)
+        return ran(*common, "--state-file", self.folder / "restore.json", *words)
 
     def test_by_the_command_line(self):
         self.go_on()
@@ -386,7 +389,8 @@ class Records(StationCase):
         """They are told with both journals and lines, by `issued` and by `restore`, which sends nothing then."""
         one, done = self.identity(MAC, "a" * 64), {"added": 1, "present": 0}
         (self.folder / "a1.token").write_text("abc", encoding="ascii")
-        seat = ["--url", self.program.url, "--token", self.folder / "a1.token", "--state", self.folder / "restore.json"]
+        seat = ["--url", self.program.url, "--token", self.folder / "a1.token"]
+        seat += ["--state-file", self.folder / "restore.json"]
         for first, second, lines in (
             ([one], [self.identity("240ac4000002", "b" * 64)], (2, 2)),
             ([one], [self.identity("240ac4000002", "a" * 64)], (2, 2)),

@@ -16,8 +16,9 @@ from support import DIGEST, MAP, ORDER, SITE, StationCase, rows, steps
 from test_once import killed_at
 
 import wanekupo.seat.connection
-from wanekupo_journal import issued, requests_of
-from wanekupo_station import Imported, NoReply, OutOfStep, Refused
+from wanekupo.common.errors import NoReply, OutOfStep, Refused
+from wanekupo.seat.journal import issued, requests_of
+from wanekupo.seat.replies import Imported
 
 A2 = f'[[customer.seat]]\nname = "a2"\ntoken = "{hashlib.sha256(b"second").hexdigest()}"\n'
 BOLT = '[[customer]]\nname = "bolt"'

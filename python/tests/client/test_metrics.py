@@ -25,7 +25,7 @@ from wanekupo.metrics.hours import shift_of
 
 DEPLOYED = ROOT / "deploy" / "prometheus"
 LOST_MAC = "240ac4000002"
-# What other programs write that the rules and the dashboard ask for.
+# What other programs write that the rules ask for.
 PROBED = ("success", "http_status_code", "duration_seconds", "ssl_earliest_cert_expiry")
 OTHERS = {"ALERTS", *(f"probe_{name}" for name in PROBED)}
 OTHERS.add("wanekupo_restart_end_timestamp_seconds")  # of python/bin/station-restart
@@ -420,14 +420,12 @@ class Journals(StationCase):
 
 class Form(unittest.TestCase):
     def test_names(self):
-        """Each metric that a rule or a panel asks for is one that somebody writes; each alarm has its section."""
-        panels = json.loads((DEPLOYED / "dashboard.json").read_text(encoding="utf-8"))["panels"]
-        asked = [target["expr"] for panel in panels for target in panel.get("targets", ())]
+        """Each metric that a rule asks for is one that somebody writes; each alarm has its section."""
         rules = (DEPLOYED / "rules.yml").read_text(encoding="utf-8")
-        asked += re.findall(r"expr: (?:\|\n)?((?:.|\n)+?)\n +(?:for|labels):", rules)
+        asked = re.findall(r"expr: (?:\|\n)?((?:.|\n)+?)\n +(?:for|labels):", rules)
         named = {name for it in asked for name in re.findall(r"\b(?:wanekupo|probe)_\w+|\bALERTS\b", it)}
         self.assertEqual(named - set(METRICS) - OTHERS, set())
-        self.assertGreater(len(named), 25)
+        self.assertGreater(len(named), 20)
         self.assertIn("wanekupo_restart_end_timestamp_seconds", (ROOT / "python/wanekupo/plant/restart.py").read_text(encoding="utf-8"))
         pages = re.findall(r'page: "\{\{ \$externalLabels.docs \}\}([^#"]+)#([^"]+)"', rules)
         self.assertEqual(len(pages), rules.count("- alert:"))
@@ -435,22 +433,6 @@ class Form(unittest.TestCase):
             heads = re.findall(r"(?m)^##+ (.+)$", (ROOT / page).read_text(encoding="utf-8"))
             names = [re.sub("[^a-z0-9 -]", "", head.lower()).replace(" ", "-") for head in heads]
             self.assertIn(section, names)
-
-    def test_the_dashboard(self):
-        """Its form, as far as Grafana's own documents say: each panel has its number, its place and its queries."""
-        board = json.loads((DEPLOYED / "dashboard.json").read_text(encoding="utf-8"))
-        panels = board["panels"]
-        self.assertEqual(len({panel["id"] for panel in panels}), len(panels))
-        taken = set()
-        for panel in panels:
-            at = panel["gridPos"]
-            cells = {(at["x"] + x, at["y"] + y) for x in range(at["w"]) for y in range(at["h"])}
-            self.assertTrue(at["x"] + at["w"] <= 24 and not cells & taken, panel["title"])
-            taken |= cells
-            self.assertTrue(panel["type"] == "row" or panel["targets"] and panel["datasource"], panel["title"])
-        variables = {it["name"] for it in board["templating"]["list"]}
-        used = set(re.findall(r"\$\{?(\w+)", json.dumps(panels)))
-        self.assertEqual(used - variables, set())
 
     def test_cards(self):
         """A card has nine points at most and then a command, alone, that is there."""

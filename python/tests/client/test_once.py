@@ -32,20 +32,10 @@ from support import (
 )
 
 import wanekupo.seat.connection
-import wanekupo_station as client
-from wanekupo_journal import Journal, issued, requests_of
-from wanekupo_station import (
-    BadStateFile,
-    Imported,
-    NoReply,
-    NotTheServer,
-    Order,
-    OutOfStep,
-    Refused,
-    UnderWay,
-    Word,
-    Work,
-)
+from wanekupo.common.errors import BadStateFile, NoReply, NotTheServer, OutOfStep, Refused, UnderWay
+from wanekupo.seat.replies import Imported, Order, Word, Work
+from wanekupo.seat.station import Station
+from wanekupo.seat.journal import Journal, issued, requests_of
 
 
 class Once(StationCase):
@@ -78,7 +68,7 @@ class Once(StationCase):
         for place, fault in enumerate(Proxy.FAULTS, 1):
             proxy = self.proxy([fault, None] * 100)
             timeout = Proxy.LATE / 2 if fault == "late" else 60
-            with client.Station(proxy.url, "abc", self.folder / "a1.json", timeout=timeout) as station:
+            with Station(proxy.url, "abc", self.folder / "a1.json", timeout=timeout) as station:
                 mac = f"240ac40000{place:02x}"
                 device = life(station, self.chip(mac), bytes([place]))
             self.assertEqual((device.state, device.serial), ("shipped", f"A{place:03}"), fault)
@@ -123,7 +113,7 @@ class Once(StationCase):
                 chip_io = Held(SimulatedChip.at(file), self.keys)
                 killed_at(step)
                 journal = Journal(self.folder / "a1.journal")
-                with client.Station(self.program.url, "abc", self.folder / "a1.json", journal=journal) as station:
+                with Station(self.program.url, "abc", self.folder / "a1.json", journal=journal) as station:
                     life(station, chip_io, bytes.fromhex(mac))
                 status = 0
             finally:
@@ -249,7 +239,7 @@ class Peers(unittest.TestCase):
         self.addCleanup(canned.close)
         folder = tempfile.TemporaryDirectory()
         self.addCleanup(folder.cleanup)
-        station = client.Station(canned.url, "abc", f"{folder.name}/a1.json", patience=0, **options)
+        station = Station(canned.url, "abc", f"{folder.name}/a1.json", patience=0, **options)
         self.addCleanup(station.close)
         return station
 
@@ -294,10 +284,10 @@ class Peers(unittest.TestCase):
         """A caller's mistake is told at once, and no message has the token."""
         for token in ("hello\n", "", "hell\u00f6", "a b"):
             with self.assertRaises(ValueError) as found:
-                client.Station("http://127.0.0.1:1", token, None)
+                Station("http://127.0.0.1:1", token, None)
             self.assertNotIn("hell", str(found.exception))
         with self.assertRaises(ValueError):
-            client.Station("htps://127.0.0.1", "abc", None)
+            Station("htps://127.0.0.1", "abc", None)
 
     def test_a_post_stays_under_way_where_no_reply_says_what_became_of_it(self):
         for status, kind, body in (

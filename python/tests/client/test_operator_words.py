@@ -16,7 +16,7 @@ from unittest import mock
 from support import ROOT
 
 from wanekupo.bench import words
-from wanekupo.bench.board import Board, Shift, Socket, box_of, ended_socket, in_common, state_of
+from wanekupo.bench.board import Board, ShiftCounts, Socket, box_of, ended_socket, in_common, state_of
 from wanekupo.bench.endings import ENDINGS, Ended
 from wanekupo.bench.recipe import BadRecipe, recipe_of
 
@@ -131,7 +131,7 @@ class Words(unittest.TestCase):
         self.assertLessEqual(scraps, set(ENDINGS))
         for name in ENDINGS:
             for chip in ("240ac4000001", ""):
-                board = Board("thermostat", "o1", [Socket("left")], "key", Shift("2026-11-29T06:00:00Z"))
+                board = Board("thermostat", "o1", [Socket("left")], "key", ShiftCounts("2026-11-29T06:00:00Z"))
                 board.ended(ended_socket("left", Ended(name), "look", chip, "", "o1"))
                 found = board.shown()["sockets"][0]["scraps"]
                 self.assertEqual(found, name in scraps and bool(chip), (name, chip))

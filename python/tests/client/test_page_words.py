@@ -16,7 +16,7 @@ from unittest import mock
 
 from support import HOST
 
-from wanekupo.bench.board import Board, Shift, Socket
+from wanekupo.bench.board import Board, ShiftCounts, Socket
 from wanekupo.bench.page import MOST_CONNECTIONS, Page
 from wanekupo.bench.recipe import Display
 
@@ -30,7 +30,7 @@ class Bench:
         sockets, display = {"left": ["espefuse"]}, Display()
 
     def __init__(self):
-        self.board = Board("product", "o1", [Socket("left")], "key", Shift("2026-11-29T00:00:00Z"))
+        self.board = Board("product", "o1", [Socket("left")], "key", ShiftCounts("2026-11-29T00:00:00Z"))
         self.done = []
 
     def said(self, text):

@@ -19,7 +19,7 @@ from browser import PROGRAM, Browser
 from support import ROOT
 
 from wanekupo.bench import words
-from wanekupo.bench.board import Board, Shift, Socket, ended_socket
+from wanekupo.bench.board import Board, ShiftCounts, Socket, ended_socket
 from wanekupo.bench.endings import ENDINGS, Ended
 from wanekupo.bench.page import Page
 from wanekupo.bench.recipe import Display
@@ -79,7 +79,7 @@ class Bench:
     def __init__(self, sockets, display):
         names = [f"socket{place}" for place in range(1, sockets + 1)]
         self.recipe = SimpleNamespace(sockets=dict.fromkeys(names, ()), display=display)
-        shift = Shift("2026-11-29T06:00:00Z", 41, {"hook_failed": 2, "stray": 1}, (), 39)
+        shift = ShiftCounts("2026-11-29T06:00:00Z", 41, {"hook_failed": 2, "stray": 1}, (), 39)
         steps = ["read", "look", "register", "plan", "burn 1"]
         self.board = Board("thermostat r3", "o17", [Socket(it) for it in names], "key", shift, steps)
         self.done = []

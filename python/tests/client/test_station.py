@@ -35,22 +35,12 @@ from support import (
     steps,
 )
 
-import wanekupo_station as client
-from wanekupo_station import (
-    Device,
-    Entry,
-    Espefuse,
-    Identity,
-    Imported,
-    Listed,
-    NoReply,
-    Order,
-    Plan,
-    Refused,
-    Verdict,
-    Word,
-    Work,
-)
+from wanekupo.chips.chip import bit
+from wanekupo.seat.rows import parts_of
+from wanekupo.seat.station import Station
+from wanekupo.common.errors import NoReply, Refused
+from wanekupo.chips.espefuse import Espefuse
+from wanekupo.seat.replies import Device, Entry, Identity, Imported, Listed, Order, Plan, Verdict, Word, Work
 
 HERE = Path(__file__).resolve().parent
 README = HERE.parent / "README.md"
@@ -170,7 +160,7 @@ class Commands(StationCase):
             (lambda: station.identity(other), 15, "unknown_device", 404, {}),
             (lambda: station.identity(MAC), 17, "wrong_state", 409, {}),
             (lambda: station.ship(MAC), 17, "wrong_state", 409, {}),
-            (lambda: station.plan(MAC, [client.bit("NONE", 0)]), 19, "unknown_field", 422, {}),
+            (lambda: station.plan(MAC, [bit("NONE", 0)]), 19, "unknown_field", 422, {}),
             (lambda: station.import_map(overlapping), 29, "bad_map", 422, {"fault": 5}),
             (lambda: station.import_serials("acme-ca", twice), 38, "import_conflict", 409, {"serial": "Z1"}),
             (station.site_report, 8, "wrong_caller", 403, {}),
@@ -222,14 +212,14 @@ class Commands(StationCase):
         self.assertEqual(station.import_all("acme-ca", more), (Imported(600, 0), 0))
         self.assertEqual(station.import_all("acme-ca", []), (Imported(0, 0), 0))
         longest = [(f"{row:064}", "0" * 64) for row in range(600)]
-        self.assertEqual([len(part) for part in client.parts_of(longest)], [485, 115])
+        self.assertEqual([len(part) for part in parts_of(longest)], [485, 115])
 
     def test_a_long_import_after_a_restore(self):
         """The last part that was accepted isn't in an older store, so it goes on from the beginning."""
         given = rows(" ".join(f"L{row}" for row in range(700)))
         station = self.station()
         station.import_map(MAP)
-        with mock.patch.object(client.Station, "expected_number", lambda it: 1):
+        with mock.patch.object(Station, "expected_number", lambda it: 1):
             with self.assertRaises(KeyboardInterrupt):
                 station.import_all("acme-ca", given, mock.Mock(side_effect=[None, KeyboardInterrupt]))
             station.resynchronize()
@@ -321,7 +311,7 @@ class Quarantine(StationCase):
 
     def test_a_bit_that_went(self):
         self.seat.settle(MAC, self.held)
-        self.seat.plan(MAC, [client.bit("ABS_DONE_0", 0)])
+        self.seat.plan(MAC, [bit("ABS_DONE_0", 0)])
         self.held.chip.blocks[0] &= ~(1 << 198)
         self.quarantined("lost")
 

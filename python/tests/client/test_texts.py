@@ -2,12 +2,16 @@
 docs/tutorial/first-chip.md."""
 
 import hashlib
+import re
 import tempfile
 import unittest
 from pathlib import Path
 
 import support  # noqa: F401  finds the client
-from wanekupo_station import KeyFile, Word, Work, blocks_of, chip_of, commands, crc8, shows
+from wanekupo.chips.chip import chip_of, shows
+from wanekupo.chips.espefuse import KeyFile, NoKey, steps_of
+from wanekupo.chips.families import BadDump, crc8, dump_of, family_of
+from wanekupo.seat.replies import Word, Work
 
 # Printed by `espefuse --chip esp32 --virt --path-efuse-file F dump`, of a virtual chip whose MAC was burnt.
 DUMP = """espefuse.py v4.7.0
@@ -23,6 +27,12 @@ EFUSE_REG_DEC_STATUS        0x00000000
 
 # The SHA-256 of the bytes 0 to 31, from docs/tutorial/first-chip.md.
 KEY_SHA256 = "630dcd2966c4336691125448bbb25b4ff412a49c732db2c8abc1b8581bd710dd"
+ESP32 = family_of("esp32")
+
+
+def blocks_of(text):
+    """The blocks of a dump as a bench of another kind may give them: plain lists."""
+    return [list(words) for _, words in sorted(dump_of(ESP32, text).words.items())]
 
 
 class Texts(unittest.TestCase):
@@ -37,8 +47,8 @@ class Texts(unittest.TestCase):
         self.assertEqual([len(block) for block in blocks], [7, 8, 8, 8])
         self.assertEqual(blocks[0][:3], ["00110080", "7e5a6e58", "00e294b9"])
         self.assertEqual(blocks[2][7], "1f1e1d1c")
-        for text in ("", DUMP.replace("BLOCK1 ", "BLOCK4 "), DUMP.replace("read_regs", "regs_to_write")):
-            with self.assertRaises(ValueError):
+        for text in ("", DUMP.replace("[1 ]", "[4 ]"), DUMP.replace("read_regs", "regs_to_write")):
+            with self.assertRaises(BadDump):
                 blocks_of(text)
 
     def test_a_chip_is_its_factory_mac(self):
@@ -62,20 +72,21 @@ class Texts(unittest.TestCase):
 
     def test_the_commands_of_a_batch(self):
         """Keys come first and block 0 last, one command for each block, and no lock with a key."""
+        blank = dump_of(ESP32, re.sub("(?<=[: ])[0-9a-f]{8}(?=[ \n])", "00000000", DUMP))
         batch = Work((Word(0, 3, 0x80000001), Word(0, 6, 0x40), Word(3, 1, 2)), {"BLOCK2": KEY_SHA256})
-        words = list(commands(batch, {"BLOCK2": KeyFile(self.path, "secure_boot_v2")}))
+        steps = steps_of(batch, blank, {"BLOCK2": KeyFile(self.path, "secure_boot_v2")})
         self.assertEqual(
-            words,
+            [(*it.words, *([it.file.path] if it.file else [])) for it in steps],
             [
-                ["burn_key", "--no-protect-key", "secure_boot_v2", self.path],
-                ["burn_bit", "BLOCK3", "33"],
-                ["burn_bit", "BLOCK0", "96", "127", "198"],
+                ("burn_key", "--no-protect-key", "secure_boot_v2", self.path),
+                ("burn_bit", "BLOCK3", "33"),
+                ("burn_bit", "BLOCK0", "96", "127", "198"),
             ],
         )
-        self.assertEqual(list(commands(Work((), {}), {})), [])
+        self.assertEqual(steps_of(Work((), {}), blank, {}), [])
         for keys in ({}, {"BLOCK2": KeyFile(self.path, "secure_boot_v1")}):
-            with self.assertRaises(ValueError):
-                list(commands(batch, keys))
+            with self.assertRaises(NoKey):
+                steps_of(batch, blank, keys)
 
     def test_whether_a_chip_shows_a_batch(self):
         blocks = blocks_of(DUMP)

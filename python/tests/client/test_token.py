@@ -4,12 +4,12 @@ from __future__ import annotations
 
 import unittest
 
-from support import LIFE, MAC, MAP, ORDER, StationCase, TokenProxy, life, ran, steps
+from support import LIFE, MAC, MAP, ORDER, StationCase, TokenProxy, life, steps
 
-from commanding import ran as wanekupo
+from commanding import ran
 
-import wanekupo_station as client
-from wanekupo_station import BadStateFile, NoReply, OutOfStep, Refused
+from wanekupo.seat.station import Station
+from wanekupo.common.errors import BadStateFile, NoReply, OutOfStep, Refused
 
 BOLT = {**ORDER, "issuer": "bolt-ca", "macs": 0}
 
@@ -23,7 +23,7 @@ class Tokens(StationCase):
         self.proxy_of.tokens = {"old": "abc", "other": "hello"}
 
     def seat(self, token, **options):
-        return client.Station(self.proxy_of.url, token, self.folder / "a1.json", patience=0, **options)
+        return Station(self.proxy_of.url, token, self.folder / "a1.json", patience=0, **options)
 
     def rotated(self):
         self.proxy_of.tokens = {"new": "abc", "other": "hello"}
@@ -35,7 +35,7 @@ class Tokens(StationCase):
         return self.station(token="hello", file=None).expected_number()
 
     def station(self, url=None, token="abc", file="a1.json", **options):
-        station = client.Station(url or self.program.url, token, file and self.folder / file, **options)
+        station = Station(url or self.program.url, token, file and self.folder / file, **options)
         self.addCleanup(station.close)
         return station
 
@@ -79,7 +79,7 @@ class Tokens(StationCase):
                 file = self.folder / f"{token}.token"
                 file.write_text(token, encoding="ascii")
                 file.chmod(0o600)
-                self.assertEqual(wanekupo(*common, "--token", file, *words)[:2], expected)
+                self.assertEqual(ran(*common, "--token", file, *words)[:2], expected)
 
     def test_at_each_request_of_a_life(self):
         """The token changes at each of them, whether it was done or not: each is done once."""
@@ -185,13 +185,14 @@ class Tokens(StationCase):
 
     def test_by_the_command_line(self):
         (self.folder / "a1.token").write_text("old\n", encoding="ascii")
-        common = ["--url", self.proxy_of.url, "--token", self.folder / "a1.token", "--state", self.folder / "a1.json"]
+        common = ["--url", self.proxy_of.url, "--token", self.folder / "a1.token"]
+        common += ["--state-file", self.folder / "a1.json"]
         (self.folder / "map").write_text(MAP, encoding="utf-8")
         self.assertEqual(ran(*common, "map", self.folder / "map")[0], 0)
         self.rotated()
         (self.folder / "a1.token").write_text("new\n", encoding="ascii")
         status, out, err = ran(*common, "finish")
-        self.assertEqual((status, out, err.split(":")[0]), (2, "", "BadStateFile"))
+        self.assertEqual((status, out, "--new-token" in err), (2, "", True))
         for words in (["--new-token", "finish"], ["finish"]):
             status, out, err = ran(*common, *words)
             self.assertEqual((status, '"path":"/v1/map"' in out, err), (0, True, ""))

@@ -20,7 +20,7 @@ from wanekupo.books.once import _jumps, twice
 from wanekupo.books.papers import papers, repeated
 from wanekupo.books.shift import Period
 from wanekupo.books.steps import shipped_books
-from wanekupo.books.store_rows import Entry, Life
+from wanekupo.books.store_rows import LedgerRow, StoredChip
 
 ALWAYS = Period("2000-01-01T00:00:00Z", "2099-01-01T00:00:00Z")
 
@@ -92,8 +92,8 @@ class Verdicts(SeatCase):
         store = self.store(len(ledger), MAC)
         store.layouts = {("acme", DIGEST): layout_of(MAP)}
         _, journals = self.spans([list(told)], store)
-        entries = [Entry(number, "acme", MAC, it) for number, it in enumerate(ledger, 1)]
-        life = Life("acme", MAC, [own], entries, records)
+        entries = [LedgerRow(number, "acme", MAC, it) for number, it in enumerate(ledger, 1)]
+        life = StoredChip("acme", MAC, [own], entries, records)
         made = matched(entries, steps_by_chip(journals)["acme", MAC])
         return [it.told for it in _contradictions(life, _lines_of(life, made), store)]
 
@@ -196,7 +196,7 @@ class Asked(SeatCase):
             _, journals = self.spans([book], self.store(3, "c3"))
             told = steps_by_chip(journals)["acme", "c2"]
             self.assertEqual([it.number for _, it in matched((), told).steps], meant)
-            self.assertEqual(matched([Entry(1, "acme", "c2", entry(1, "shipped"))], told).entries, [])
+            self.assertEqual(matched([LedgerRow(1, "acme", "c2", entry(1, "shipped"))], told).entries, [])
 
     def test_what_was_asked_again(self):
         """A map that a seat has imported already: the line is told, as another one may have stood there."""

@@ -8,9 +8,11 @@ import shutil
 import unittest
 from unittest import mock
 
-from support import DIGEST, MAC, MAP, StationCase, TlsProxy, ran, rows
+from support import DIGEST, MAC, MAP, StationCase, TlsProxy, rows
 
-import wanekupo_station as client
+from commanding import ran
+
+from wanekupo.seat.station import Station
 
 
 class Terminal(io.StringIO):
@@ -26,7 +28,7 @@ class Words(StationCase):
     def ran(self, *words, url=None):
         (self.folder / "a1.token").write_text("abc\n", encoding="ascii")
         common = ["--url", url or self.program.url, "--token", self.folder / "a1.token"]
-        return ran(*common, "--state", self.folder / "a1.json", *words)
+        return ran(*common, "--state-file", self.folder / "a1.json", *words)
 
     @unittest.skipUnless(shutil.which("openssl"), "there is no openssl, which makes the certificates")
     def test_a_ca_of_the_plant(self):
@@ -35,7 +37,7 @@ class Words(StationCase):
         words = ["--patience", "600", "number"]
         status, out, err = self.ran(*words, url=proxy.url)
         self.assertEqual((status, out), (2, ""))
-        self.assertIn("CERTIFICATE_VERIFY_FAILED", err)
+        self.assertIn("certificate isn't trusted", err)
         told = (0, '{"expected":1,"own":null}\n', "")
         self.assertEqual(self.ran("--ca", str(self.folder / "ca.pem"), *words, url=proxy.url), told)
 
@@ -49,9 +51,12 @@ class Words(StationCase):
         with mock.patch.object(io, "StringIO", Terminal):
             told = "\rrows: 0 of 501\rrows: 500 of 501\rrows: 501 of 501\n"
             self.assertEqual(self.ran(*words), (0, '{"added":0,"before":0,"present":501}\n', told))
-        for text, told in (("serial,key\n", "the first line isn't serial,key_sha256"), ("serial,key_sha256\n\nL1\n", "line 3 has 1 fields, and not 2")):
+        for text, told in (
+            ("serial,key\n", "The first line isn't serial,key_sha256.\n"),
+            ("serial,key_sha256\n\nL1\n", "Line 3 has 1 fields, and not 2.\n"),
+        ):
             file.write_text(text, encoding="utf-8")
-            self.assertEqual(self.ran(*words)[::2], (2, f"ValueError: {told}\n"))
+            self.assertEqual(self.ran(*words)[::2], (2, told))
 
     def test_an_older_store(self):
         """The line at 11 sends nobody to --resynchronize where the store may be one that nobody restored."""
@@ -61,31 +66,31 @@ class Words(StationCase):
         self.program.restored(self.folder / "backup")
         status, out, err = self.ran("ship", MAC)
         self.assertEqual((status, out), (5, ""))
-        stopped, look = err.splitlines()
-        self.assertEqual(stopped, "stopped: /v1/ship with number 2, the server expects 1: 11 wrong_number expected 1")
-        self.assertRegex(look, "^the store is an older one: unless it was restored on purpose, stop its server now")
-        self.assertNotIn("--resynchronize", look)
+        self.assertIn("/v1/ship was sent with number 2, and the server expects 1", err)
+        self.assertIn("older", err)
+        self.assertNotIn("--resynchronize", err)
 
     def test_statuses(self):
-        order = ["order", "o1", "acme-ca", "A", "--width", "3", "--first", "998", "--quantity", "2"]
+        order = ["make-order", "o1", "acme-ca", "A", "--width", "3", "--first", "998", "--quantity", "2", "--yes"]
         status, out, _ = self.ran(*order)
         self.assertEqual((status, json.loads(out)["next"]), (0, "A998"))
-        self.assertEqual(self.ran(*order)[::2], (1, "refused: 16 exists\n"))
+        status, _, err = self.ran(*order)
+        self.assertEqual((status, "(refusal 16, exists)" in err), (1, True))
         self.assertEqual(self.ran("map", str(self.folder / "none"))[0], 2)
         (self.folder / "map").write_text(MAP, encoding="utf-8")
         self.assertEqual(self.ran("map", str(self.folder / "map"))[1], f'{{"map":"{DIGEST}"}}\n')
         self.assertEqual(self.ran("finish")[1], f'{{"path":"/v1/map","reply":{{"map":"{DIGEST}"}}}}\n')
         self.assertEqual(self.ran("number")[1], '{"expected":3,"own":3}\n')
-        with client.Station(self.program.url, "abc", self.folder / "other.json") as other:
+        with Station(self.program.url, "abc", self.folder / "other.json") as other:
             other.import_map(MAP)
         status, out, err = self.ran("ship", MAC)
         self.assertEqual((status, out), (5, ""))
-        told = "stopped: /v1/ship with number 3, the server expects 4: 12 other_body"
-        told += "\nlook why (docs/how-to/write-a-station.md) before number --resynchronize\n"
-        self.assertEqual(err, told)
+        self.assertIn("/v1/ship was sent with number 3, and the server expects 4", err)
+        self.assertIn("--resynchronize", err)
         self.assertEqual(self.ran("number")[1], '{"expected":4,"own":3}\n')
         self.assertEqual(self.ran("number", "--resynchronize")[1], '{"expected":4,"own":4}\n')
-        self.assertEqual(self.ran("ship", MAC)[::2], (1, "refused: 15 unknown_device\n"))
+        status, _, err = self.ran("ship", MAC)
+        self.assertEqual((status, "(refusal 15, unknown_device)" in err), (1, True))
         self.program.kill()
         self.assertEqual(self.ran("--patience", "0", "report")[0], 3)
         self.program.start()
@@ -94,7 +99,8 @@ class Words(StationCase):
         dump.write_text(chip.chip.dump(), encoding="ascii")
         self.assertEqual(self.ran("register", "o1", DIGEST, str(dump))[0], 0)
         self.assertEqual(self.ran("plan", MAC, "--bit", "JTAG_DISABLE=0")[0], 0)
-        self.assertEqual(self.ran("burn", MAC)[1], "espefuse.py burn_bit BLOCK0 198\n")
+        burnt = self.ran("burn", MAC, "--tool", "espefuse.py --port P")[1]
+        self.assertEqual(burnt, "espefuse.py --port P --chip esp32 burn_bit BLOCK0 198\n")
         chip.chip.burn(0, 1 << 197)
         dump.write_text(chip.chip.dump(), encoding="ascii")
         rest = '"rest":{"bits":[],"keys":{}}'

@@ -11,8 +11,9 @@ import pytest
 from conftest import TOP
 from wanekupo.plant.site import apply as applying
 from wanekupo.plant.site.apply import Stopped, apply
-from wanekupo.plant.site.plan import PLACED, PREPARED, STOPPING, Plan, Wish, keep_plan, read_plan
-from wanekupo.common.token_file import Outer, Seat, TokenError, Tokens, put, text_of
+from wanekupo.plant.site.plan import PLACED, PREPARED, STOPPING, GrowthPlan, SeatWish, keep_plan, read_plan
+from wanekupo.common.store_user import UserError
+from wanekupo.common.token_file import Outer, TokenSeat, TokenError, Tokens, put, text_of
 
 OLD, NEW = "customer = [] # old\r\n", "customer = [] # new\r\n"
 PREFIX = "wanekupo_"
@@ -99,9 +100,9 @@ def test_the_order_of_all_steps(place, monkeypatch):
 
     monkeypatch.setattr(applying.os, "replace", replaced)
     monkeypatch.setattr(applying, "sync", lambda path: place.calls.append(("SYNC", path)))
-    plan = Plan(is_tried=True)
+    plan = GrowthPlan(is_tried=True)
     monkeypatch.setattr(applying, "give_token", lambda it, wish: place.calls.append(("GIVE", wish.seat)))
-    plan.wishes = [Wish("a1", "acme"), Wish("b1", "bolt")]
+    plan.wishes = [SeatWish("a1", "acme"), SeatWish("b1", "bolt")]
     apply(place, plan)
     done = [it for it in heads(place) if it != ("ROOT", "RESTARTS")]
     assert done[:6] == [("PLAN", STOPPING), ("SERVICE", "STOP"), ("USER", "station-backup"), ("PLAN", PLACED),
@@ -112,7 +113,7 @@ def test_the_order_of_all_steps(place, monkeypatch):
 
 
 def test_the_backup_is_made_as_the_user_of_the_old_text(place):
-    plan = Plan(is_tried=True)
+    plan = GrowthPlan(is_tried=True)
     applying.stop_and_back_up(place, plan)
     (call,) = [it for it in place.calls if it[:2] == ("USER", str(TOP / "python/bin/station-backup"))]
     assert list(call[2:]) == ["--program", "station", "--site", str(place.site), "--db", str(place.db), plan.backup]
@@ -121,7 +122,7 @@ def test_the_backup_is_made_as_the_user_of_the_old_text(place):
 
 @pytest.mark.parametrize("is_tried", [True, False])
 def test_an_untried_text_is_tried_over_that_backup(place, is_tried):
-    plan = Plan(is_tried=is_tried)
+    plan = GrowthPlan(is_tried=is_tried)
     applying.stop_and_back_up(place, plan)
     tried = [it[1:] for it in place.calls if it[0] == "TRIED"]
     assert tried == ([] if is_tried else [(plan.backup, OLD, NEW)])
@@ -136,7 +137,7 @@ def test_what_fails_before_the_new_text_leaves_the_server_with_the_old_one(place
     place.fails = {fails}
     if fails == "trial":
         monkeypatch.setattr(applying, "tried_over_backup", refuse_trial)
-    plan = Plan()
+    plan = GrowthPlan()
     with pytest.raises(TokenError) as error:
         apply(place, plan)
     assert error.value.status == 1 and place.site.read_bytes() == OLD.encode() and place.next.exists()
@@ -146,11 +147,11 @@ def test_what_fails_before_the_new_text_leaves_the_server_with_the_old_one(place
 
 
 def test_the_backup_of_a_run_that_was_cut_goes(place):
-    plan = Plan(STOPPING, str(place.backups / "before-1"), True)
+    plan = GrowthPlan(STOPPING, str(place.backups / "before-1"), True)
     applying.stop_and_back_up(place, plan)
     removed = [it for it in place.calls if it[0] == "USER" and it[1] == "rm"]
     assert len(removed) == 1 and removed[0][-1] == str(place.backups / "before-1") != plan.backup
-    applying.stop_and_back_up(place, Plan(is_tried=True))
+    applying.stop_and_back_up(place, GrowthPlan(is_tried=True))
     assert len([it for it in place.calls if it[1] == "rm"]) == 1, "else nothing is removed"
 
 
@@ -164,7 +165,7 @@ def test_the_new_text_has_the_owner_and_the_mode_of_the_old_one(place, monkeypat
     monkeypatch.setattr(applying.os, "fchmod", lambda fd, bits: (calls.append(bits), moded(fd, bits)))
     monkeypatch.setattr(applying.os, "fsync", lambda fd: calls.append("sync"))
     place.site.chmod(mode)
-    applying.put_in_place(place, Plan())
+    applying.put_in_place(place, GrowthPlan())
     found = place.site.stat()
     assert stat.S_IMODE(found.st_mode) == mode and calls[:3] == [(found.st_uid, found.st_gid), mode, "sync"]
     (made,) = [it for it in flags if it[0] == str(place.site) + ".new"]
@@ -174,19 +175,19 @@ def test_the_new_text_has_the_owner_and_the_mode_of_the_old_one(place, monkeypat
 def test_what_a_cut_run_left_as_new_goes_and_a_link_is_not_followed(place, tmp_path):
     (tmp_path / "other").write_text("other")
     (tmp_path / "site.toml.new").symlink_to(tmp_path / "other")
-    applying.put_in_place(place, Plan())
+    applying.put_in_place(place, GrowthPlan())
     assert (tmp_path / "other").read_text() == "other"
     assert not place.site.is_symlink() and place.site.read_bytes() == NEW.encode()
 
 
 def test_a_placed_run_goes_on_without_a_stop(place):
     place.site.write_bytes(NEW.encode())
-    apply(place, Plan(PLACED, "", True))
+    apply(place, GrowthPlan(PLACED, "", True))
     assert heads(place)[0] == ("SERVICE", "START") and ("SERVICE", "STOP") not in heads(place)
 
 
 def test_a_run_that_was_cut_right_before_the_text_puts_it_in_place_stopped(place):
-    applying.start(place, Plan(PLACED))
+    applying.start(place, GrowthPlan(PLACED))
     assert heads(place)[:3] == [("SERVICE", "STOP"), ("PLAN", PLACED), ("SERVICE", "START")]
     assert place.site.read_bytes() == NEW.encode()
 
@@ -194,7 +195,7 @@ def test_a_run_that_was_cut_right_before_the_text_puts_it_in_place_stopped(place
 def test_a_server_that_is_up_is_not_started(place, monkeypatch):
     place.next.unlink()
     monkeypatch.setattr(applying, "is_up", lambda it: True)
-    applying.start(place, Plan(PLACED))
+    applying.start(place, GrowthPlan(PLACED))
     assert heads(place) == []
 
 
@@ -205,7 +206,7 @@ def test_a_signal_leaves_the_server_started(place, monkeypatch, stage, status):
 
     monkeypatch.setattr(applying, "start" if stage == PLACED else "stop_and_back_up", stopped)
     place.site.write_bytes(NEW.encode())
-    plan = Plan(stage)
+    plan = GrowthPlan(stage)
     with pytest.raises(TokenError) as error:
         apply(place, plan)
     assert error.value.status == status and heads(place) == [("SERVICE", "START")]
@@ -219,7 +220,7 @@ def test_a_server_that_does_not_start_is_told(place, monkeypatch, fails, is_up):
     monkeypatch.setattr(applying, "is_up", lambda it: False)
     monkeypatch.setattr(applying, "is_answering", lambda it: is_up)
     with pytest.raises(TokenError) as error:
-        applying.start(place, Plan(PLACED))
+        applying.start(place, GrowthPlan(PLACED))
     assert error.value.status == 4 and "doesn't start" in str(error.value)
 
 
@@ -235,7 +236,7 @@ def test_which_text_the_store_holds(place, held, words):
     place.site.write_bytes(NEW.encode())
     place.held = held
     with pytest.raises(TokenError, match=words) as error:
-        applying.tell_failed(place, Plan(PLACED, str(backup)), "said")
+        applying.tell_failed(place, GrowthPlan(PLACED, str(backup)), "said")
     assert error.value.status == 4 and "(said)" in str(error.value) and str(backup / "site.toml") in str(error.value)
     told = [it for it in place.calls if it[0] in ("SERVICE", "HELD")]
     assert told == [("SERVICE", "STOP"), ("HELD", place.site, backup / "site.toml"), ("SERVICE", "START")]
@@ -288,11 +289,11 @@ def test_is_up(tmp_path, monkeypatch, answer, is_up):
 
 # ---- tokens
 
-WITHIN = Seat("a1", "acme", "11" * 32)
+WITHIN = TokenSeat("a1", "acme", "11" * 32)
 TEXT = PREFIX + "22" * 32
 
 
-def with_tokens(place, *outers, seats=(WITHIN, Seat("health", "acme", "33" * 32))):
+def with_tokens(place, *outers, seats=(WITHIN, TokenSeat("health", "acme", "33" * 32))):
     put(place.tokens, text_of(Tokens({it.seat: it for it in seats}, list(outers))))
 
 
@@ -302,10 +303,10 @@ def outer(text=TEXT, **more):
 
 def test_the_token_within(place):
     with_tokens(place)
-    assert applying.token_within(place, Wish("a1", "acme")) == "11" * 32
+    assert applying.token_within(place, SeatWish("a1", "acme")) == "11" * 32
     for seat in ("a2", "a"):
         with pytest.raises(TokenError, match=f"the seat {seat} isn't in") as error:
-            applying.token_within(place, Wish(seat, "acme"))
+            applying.token_within(place, SeatWish(seat, "acme"))
         assert error.value.status == 5
 
 
@@ -327,7 +328,7 @@ SERVER, NGINX = (f"http://127.0.0.1:880{ASKED}", "11" * 32), (f"https://n{ASKED}
 @pytest.mark.parametrize("answer", [404, 200])
 def test_a_token_is_asked_for_behind_and_through_nginx(place, monkeypatch, answer):
     with_tokens(place)
-    found = given(place, monkeypatch, [answer, answer], Wish("a1", "acme", "/t"))
+    found = given(place, monkeypatch, [answer, answer], SeatWish("a1", "acme", "/t"))
     assert [tuple(it for it in words if it) for words in found] == [SERVER, NGINX]
     assert told(place) == ["the seat a1 of acme is known, and nginx takes the token in /t"]
 
@@ -335,9 +336,9 @@ def test_a_token_is_asked_for_behind_and_through_nginx(place, monkeypatch, answe
 def test_a_worker_of_before_is_waited_for(place, monkeypatch):
     """nginx may answer 401 for ten seconds behind a reload, and for no longer."""
     with_tokens(place)
-    assert len(given(place, monkeypatch, [404, 401, 401, 404], Wish("a1", "acme", "/t"))) == 4
+    assert len(given(place, monkeypatch, [404, 401, 401, 404], SeatWish("a1", "acme", "/t"))) == 4
     with pytest.raises(TokenError, match="nginx answers 401") as error:
-        given(place, monkeypatch, [404, *[401] * 9], Wish("a1", "acme", "/t"))
+        given(place, monkeypatch, [404, *[401] * 9], SeatWish("a1", "acme", "/t"))
     assert error.value.status == 5
 
 
@@ -348,7 +349,7 @@ def test_a_worker_of_before_is_waited_for(place, monkeypatch):
 def test_another_answer_is_a_failure(place, monkeypatch, answers, who):
     with_tokens(place)
     with pytest.raises(TokenError, match=f"{who} answers {answers[-1]}") as error:
-        given(place, monkeypatch, answers, Wish("a1", "acme", "/t"))
+        given(place, monkeypatch, answers, SeatWish("a1", "acme", "/t"))
     assert error.value.status == 5 and TEXT not in str(error.value) and told(place) == []
 
 
@@ -356,14 +357,14 @@ def test_another_answer_is_a_failure(place, monkeypatch, answers, who):
 def test_a_seat_without_an_outer_token(place, monkeypatch, seat, calls):
     """nginx asks with the inner token of `health`, by the tokens' file, which is written anew for that."""
     with_tokens(place)
-    assert len(given(place, monkeypatch, [404], Wish(seat, "acme"))) == 1
+    assert len(given(place, monkeypatch, [404], SeatWish(seat, "acme"))) == 1
     assert [it for it in place.calls if it[0] == "ROOT"] == calls
 
 
 def test_without_nginx_the_file_is_told(place, monkeypatch):
     with_tokens(place)
     place.args.nginx = ""
-    assert len(given(place, monkeypatch, [404], Wish("a1", "acme", "/t"))) == 1
+    assert len(given(place, monkeypatch, [404], SeatWish("a1", "acme", "/t"))) == 1
     assert told(place) == ["the seat a1 of acme is known; its token is in /t"]
 
 
@@ -391,7 +392,7 @@ def test_a_token_that_nginx_has_stays_and_any_other_is_made_anew(place, tmp_path
     path = tmp_path / "a1.token"
     if text is not None:
         path.write_text(text)
-    found = run_outer(place, Wish("a1", "acme", str(path), "line 5"))
+    found = run_outer(place, SeatWish("a1", "acme", str(path), "line 5"))
     add = ("ROOT", "token", "add", "a1", "--holder", "line 5", "--to", str(path))
     assert place.calls == [("ROOT", "token", "write") if is_kept else add]
     assert found == (TEXT if is_kept else PREFIX + "new")
@@ -400,7 +401,7 @@ def test_a_token_that_nginx_has_stays_and_any_other_is_made_anew(place, tmp_path
 def test_the_file_of_an_ended_token_is_made_anew(place, tmp_path):
     with_tokens(place, outer(text="", ended="2026-01-02T00:00"))
     (tmp_path / "a1.token").write_text(TEXT)
-    assert run_outer(place, Wish("a1", "acme", str(tmp_path / "a1.token"))) == PREFIX + "new"
+    assert run_outer(place, SeatWish("a1", "acme", str(tmp_path / "a1.token"))) == PREFIX + "new"
 
 
 def test_a_file_of_something_else_stays(place, tmp_path):
@@ -408,7 +409,7 @@ def test_a_file_of_something_else_stays(place, tmp_path):
     path = tmp_path / "a1.token"
     path.write_text("my notes")
     with pytest.raises(TokenError, match="is no file of a token") as error:
-        run_outer(place, Wish("a1", "acme", str(path)))
+        run_outer(place, SeatWish("a1", "acme", str(path)))
     assert error.value.status == 5 and path.read_text() == "my notes" and place.calls == []
 
 
@@ -419,7 +420,7 @@ def test_a_file_of_something_else_stays(place, tmp_path):
 def test_what_another_put_there_is_no_seats_token(place, tmp_path, kind, told):
     """`--to` may be in a folder that others write, as /tmp: another seat's token would go to this one's station."""
     others = Outer("b1:1", 2, "b1", False, "m", "2026-01-01T00:00", text=PREFIX + "55" * 32)
-    with_tokens(place, outer(), others, seats=(WITHIN, Seat("b1", "bolt", "33" * 32)))
+    with_tokens(place, outer(), others, seats=(WITHIN, TokenSeat("b1", "bolt", "33" * 32)))
     path, real = tmp_path / "a1.token", tmp_path / "real"
     real.write_text(others.text if kind == "other seat" else TEXT)
     if kind == "pipe":
@@ -429,7 +430,7 @@ def test_what_another_put_there_is_no_seats_token(place, tmp_path, kind, told):
     if kind == "written by others":
         path.chmod(0o666)
     with pytest.raises(TokenError, match=told) as error:
-        applying.outer_token(place, Wish("a1", "acme", str(path)))
+        applying.outer_token(place, SeatWish("a1", "acme", str(path)))
     assert error.value.status == 5 and os.path.lexists(path) and place.calls == []
 
 
@@ -444,7 +445,7 @@ def test_another_users_file_is_no_seats_token(tmp_path, monkeypatch):
 def test_what_station_token_refuses_is_told(place):
     place.fails = {"token"}
     with pytest.raises(TokenError, match="^a1: told$") as error:
-        applying.token_run(place, Wish("a1", "acme"), "write")
+        applying.token_run(place, SeatWish("a1", "acme"), "write")
     assert error.value.status == 5
 
 
@@ -452,14 +453,28 @@ def test_the_new_text_lies_with_the_backup(place):
     backup = place.backups / "before-1"
     backup.mkdir()
     place.site.write_bytes(NEW.encode())
-    applying.keep_with_backup(place, Plan(PLACED, str(backup)))
+    applying.keep_with_backup(place, GrowthPlan(PLACED, str(backup)))
     assert place.calls == [("USER", "dd", "status=none", f"of={backup}/site.grown.toml")]
     assert place.given == {"dd": NEW}
     place.fails = {"dd"}
-    applying.keep_with_backup(place, Plan(PLACED, str(backup)))
+    applying.keep_with_backup(place, GrowthPlan(PLACED, str(backup)))
     assert [str(place.site) in it and "told" in it for it in told(place)] == [True]
-    applying.keep_with_backup(place, Plan(PLACED, ""))
+    applying.keep_with_backup(place, GrowthPlan(PLACED, ""))
     assert len(place.calls) == 3
+
+
+def test_a_pipe_in_the_place_of_that_copy_ends_no_growth(place, monkeypatch):
+    """It lies in the store user's folder: the command is ended in a minute, and the growth goes on."""
+    place.site.write_bytes(NEW.encode())
+    bounds = []
+
+    def run(*_, given, seconds):
+        bounds.append(seconds)
+        raise UserError("took too long")
+
+    monkeypatch.setattr(place.user, "run", run)
+    applying.keep_with_backup(place, GrowthPlan(PLACED, str(place.backups / "before-1")))
+    assert (bounds, ["took too long" in it for it in told(place)]) == ([60], [True])
 
 
 def test_say_is_seen_at_once(capsys, monkeypatch):

@@ -5,11 +5,11 @@ import contextlib
 import json
 import os
 import signal
-import stat
 import sys
 from pathlib import Path
 from types import SimpleNamespace
 
+from wanekupo.plant.backup import folder as backup_kept
 import pytest
 from wanekupo.plant.backup.copies import BackupError
 from wanekupo.plant.backup.snapshot import SnapshotStaysError
@@ -234,7 +234,7 @@ def test_a_kind_of_before_that_cannot_be_seen_is_told(tmp_path, monkeypatch, cal
 def root(tmp_path, monkeypatch, calls):
     """A run of root's over a store of the user 7; what is done as that user is noted."""
     user = SimpleNamespace(number=7, name="station")
-    user.call = lambda call, said: calls.append(("as", 7)) or call()
+    user.call = lambda call, said, seconds: calls.append(("as", 7)) or call()
     store = SimpleNamespace(db=Path("/db/books.db"), user=user, size=calls.noted("size", 1))
 
     @contextlib.contextmanager
@@ -314,6 +314,8 @@ def test_disk_of(tmp_path, monkeypatch, is_mount, told):
 
 
 def ran(monkeypatch, calls, args):
+    if backup.owner_of.__name__ == "owner_of":  # else a test says whose they are
+        monkeypatch.setattr(backup, "owner_of", lambda folder: os.geteuid())
     for name in ("run_snapshot", "copy"):
         monkeypatch.setattr(backup, name, calls.noted(name))
     monkeypatch.setattr(backup, "run_into", lambda args, by: by(lambda: calls.append(("run_into",))))
@@ -364,9 +366,7 @@ def test_another_users_folder_is_refused(tmp_path, monkeypatch, calls):
 @pytest.mark.parametrize("is_into", [True, False])
 def test_root_has_a_stopped_store_backed_up_by_its_user(root, tmp_path, calls, monkeypatch, is_into):
     """Root itself opens nothing there, and makes neither a lock nor a copy."""
-    owner = SimpleNamespace(st_uid=7, st_mode=stat.S_IFDIR | 0o700)
-    real = Path.stat
-    monkeypatch.setattr(Path, "stat", lambda it, **more: owner if str(it) == "/db" else real(it, **more))
+    monkeypatch.setattr(backup, "owner_of", lambda folder: 7)
     more = {} if is_into else {"folder": tmp_path / "x"}
     expected = [("as", 7), ("opened", "backup.lock"), ("lock", str(tmp_path)), ("as", 7), ("run_into",)]
     ran(monkeypatch, calls, args_of(tmp_path if is_into else None, **more))
@@ -375,6 +375,36 @@ def test_root_has_a_stopped_store_backed_up_by_its_user(root, tmp_path, calls, m
         assert calls[2:] == expected
     else:
         assert heads(calls)[2:] == ["as", "copy"]
+
+
+OWNERS = [(0, 0, ["copy"]), (0, 7, None), (7, 0, None), (7, 7, ["as", "copy"])]
+
+
+@pytest.mark.parametrize("is_into", [True, False])
+@pytest.mark.parametrize("store, place, done", OWNERS)
+def test_root_works_in_no_other_users_folder(root, tmp_path, calls, monkeypatch, store, place, done, is_into):
+    """Its own store it backs up into a folder of its own alone: in another one it would follow that user's names."""
+    monkeypatch.setattr(backup, "owner_of", lambda folder: store if str(folder) == "/db" else place)
+    if store != place:
+        told = "aren't one user's, other than root"
+        monkeypatch.setattr(backup, "tested_user", lambda *_: (_ for _ in ()).throw(BackupError(told)))
+    args = args_of(tmp_path) if is_into else args_of(None, folder=tmp_path / "x")
+    if done is None:
+        with pytest.raises((BackupError, UserError), match="aren't one user's, other than root"):
+            ran(monkeypatch, calls, args)
+        assert not {"copy", "run_into", "opened", "as"} & set(heads(calls))
+    else:
+        ran(monkeypatch, calls, args)
+        assert (done[-1] if not is_into else "run_into") in heads(calls)
+        assert ("as" in heads(calls)) == (store == 7)
+
+
+def test_roots_lock_makes_nothing_in_another_users_folder(tmp_path, monkeypatch):
+    monkeypatch.setattr(backup_kept.os, "geteuid", lambda: 0)
+    monkeypatch.setattr(Path, "stat", lambda it, **_: SimpleNamespace(st_uid=7))
+    with pytest.raises(FileNotFoundError), backup.sole_backup(tmp_path):
+        pytest.fail("a lock was made")
+    assert list(tmp_path.iterdir()) == []
 
 
 def test_one_run_has_the_folder(tmp_path, monkeypatch, calls):
@@ -401,13 +431,13 @@ def test_a_failure_that_cannot_be_noted_is_told(tmp_path, monkeypatch, calls, ca
 
 
 def test_what_is_anothers_is_done_as_that_user(tmp_path, monkeypatch, calls):
-    user = SimpleNamespace(call=lambda call, said: calls.append(("as", said)) or call())
+    user = SimpleNamespace(call=lambda call, said, seconds: calls.append(("as", said)) or call())
     monkeypatch.setattr(backup.os, "geteuid", lambda: tmp_path.stat().st_uid + 1)
     monkeypatch.setattr(backup, "opened", lambda folder: os.open(folder, os.O_RDONLY))
     monkeypatch.setattr(backup, "user_of", lambda handle, folder: calls.append(("of", folder)) or user)
     backup.as_owner(tmp_path)(lambda: calls.append(("called",)))
     assert calls == [("of", tmp_path), ("as", backup.cause_of), ("called",)]
-    user.call = lambda call, said: (_ for _ in ()).throw(UserError("killed"))
+    user.call = lambda call, said, seconds: (_ for _ in ()).throw(UserError("killed"))
     with pytest.raises(BackupError, match="^killed$"):
         backup.done_as(user, lambda: None)
 

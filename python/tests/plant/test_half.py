@@ -11,7 +11,7 @@ from types import SimpleNamespace
 
 from wanekupo.standby import half
 import pytest
-from wanekupo.standby.half import Half, Refused, Settings, State, read_settings
+from wanekupo.standby.half import Half, StandbyError, StandbySettings, DrbdState, read_settings
 
 TABLE = """version: 8.4.11 (api:1/proto:86-101)
 srcversion: 123
@@ -70,7 +70,7 @@ def settings(tmp_path, text, mode=0o644):
 
 def test_without_a_file_the_settings_are_the_pages(tmp_path):
     found = read_settings(tmp_path / "none")
-    assert found == Settings() and (found.resource, found.device, found.folder) == ("station", "/dev/drbd0",
+    assert found == StandbySettings() and (found.resource, found.device, found.folder) == ("station", "/dev/drbd0",
         "/var/lib/station")
     assert (found.stop, found.fence, found.witnesses) == ("systemctl stop station", "", ())
     assert half.SETTINGS == half.Path("/etc/station/standby.toml")
@@ -90,13 +90,13 @@ def test_settings(tmp_path):
 ])  # fmt: skip
 def test_settings_of_another_form(tmp_path, text, monkeypatch):
     found_as(monkeypatch, 0, 0o644)
-    with pytest.raises(Refused):
+    with pytest.raises(StandbyError):
         read_settings(settings(tmp_path, text))
 
 
 def test_settings_that_are_no_text(tmp_path):
     (tmp_path / "s").write_bytes(b"fence = '\xff'")
-    with pytest.raises(Refused, match="no TOML"):
+    with pytest.raises(StandbyError, match="no TOML"):
         read_settings(tmp_path / "s")
 
 
@@ -109,7 +109,7 @@ def test_root_alone_writes_the_settings(tmp_path, monkeypatch, user, mode, is_ta
     if is_taken:
         assert read_settings(file).fence == "off"
     else:
-        with pytest.raises(Refused, match="Others than root can write"):
+        with pytest.raises(StandbyError, match="Others than root can write"):
             read_settings(file)
 
 
@@ -125,7 +125,7 @@ def test_a_command_that_takes_too_long_or_is_missing_failed(monkeypatch, error):
     monkeypatch.setattr(half.subprocess, "run", run)
     ended = half.run(["x"], 5)
     assert ended.returncode != 0 and ended.stderr and not ended.stdout
-    with pytest.raises(Refused, match="`x` ended with status 1"):
+    with pytest.raises(StandbyError, match="`x` ended with status 1"):
         half.done(["x"], 5)
 
 
@@ -145,7 +145,7 @@ def test_done(asked):
     assert half.done(["a", "b c"]) == "said" and asked == [["a", "b c"]]
     assert asked.more["timeout"] == half.COMMAND_SECONDS == 60
     asked.status, asked.out, asked.err = 3, "out", "one\ntwo\n"
-    with pytest.raises(Refused, match="^`a 'b c'` ended with status 3: one; two$"):
+    with pytest.raises(StandbyError, match="^`a 'b c'` ended with status 3: one; two$"):
         half.done(["a", "b c"])
 
 
@@ -165,7 +165,7 @@ def test_where_nobody_reads_the_work_goes_on():
 
 
 @pytest.mark.parametrize("user, error, status, told", [
-    (0, None, 7, ""), (0, Refused("Why."), 1, "t: refused: Why."), (0, OSError(5, "Fault"), 1, "Fault"),
+    (0, None, 7, ""), (0, StandbyError("Why."), 1, "t: refused: Why."), (0, OSError(5, "Fault"), 1, "Fault"),
     (0, KeyboardInterrupt(), 1, "It was stopped"), (1000, None, 1, "Only root can do that."),
 ])  # fmt: skip
 def test_ended(monkeypatch, capsys, user, error, status, told):
@@ -201,25 +201,25 @@ def test_ended(monkeypatch, capsys, user, error, status, told):
 ])  # fmt: skip
 def test_state(table, state, found):
     table.write_text(TABLE.format(*state, 1))
-    assert Half(Settings()).state() == State(*found)
+    assert Half(StandbySettings()).state() == DrbdState(*found)
 
 
 @pytest.mark.parametrize("device, connection, received",
     [("/dev/drbd0", "Connected", "42"), ("/dev/drbd1", "StandAlone", "77"),
                                                           ("/dev/drbd10", "WFConnection", "1010")])  # fmt: skip
 def test_of_this_device_alone(table, device, connection, received):
-    own = Half(Settings(device=device))
+    own = Half(StandbySettings(device=device))
     assert own.state().connection == connection and own.received() == received
 
 
 def test_no_such_device(table):
     for device in ("/dev/drbd2", "/dev/drbd"):
-        with pytest.raises(Refused, match="drbdadm up station"):
-            Half(Settings(device=device)).state()
-    assert Half(Settings(device="/dev/drbd2")).received() == "none"
+        with pytest.raises(StandbyError, match="drbdadm up station"):
+            Half(StandbySettings(device=device)).state()
+    assert Half(StandbySettings(device="/dev/drbd2")).received() == "none"
     table.unlink()
-    with pytest.raises(Refused, match="drbdadm up station"):
-        Half(Settings()).state()
+    with pytest.raises(StandbyError, match="drbdadm up station"):
+        Half(StandbySettings()).state()
 
 
 @pytest.mark.parametrize("connection, is_connected", [
@@ -231,11 +231,11 @@ def test_no_such_device(table):
 ])  # fmt: skip
 def test_is_connected(connection, is_connected):
     """By drbd(8)'s list of connection states."""
-    assert State(connection, "Secondary", "Unknown", "UpToDate", "DUnknown", False).is_connected() == is_connected
+    assert DrbdState(connection, "Secondary", "Unknown", "UpToDate", "DUnknown", False).is_connected() == is_connected
 
 
 def test_a_state_in_words():
-    assert str(State("Connected", "Primary", "Secondary", "UpToDate", "Outdated", True)) == (
+    assert str(DrbdState("Connected", "Primary", "Secondary", "UpToDate", "Outdated", True)) == (
         "Connected Primary/Secondary UpToDate/Outdated, frozen")  # fmt: skip
 
 
@@ -246,14 +246,14 @@ def test_other_name(asked, monkeypatch, names, other):
     machines = "".join(f"    on {name} {{\n        device x;\n    }}\n" for name in names)
     asked.dump = f"resource station {{\n{machines}}}\n"
     if other:
-        assert Half(Settings()).other_name() == other and asked == [["drbdadm", "dump", "station"]]
+        assert Half(StandbySettings()).other_name() == other and asked == [["drbdadm", "dump", "station"]]
     else:
-        with pytest.raises(Refused, match="other machines, and not one"):
-            Half(Settings()).other_name()
+        with pytest.raises(StandbyError, match="other machines, and not one"):
+            Half(StandbySettings()).other_name()
 
 
 def test_commands_of_the_half(asked):
-    own = Half(Settings(resource="r", device="/dev/drbd9", folder="/f", filesystem="xfs", start="start 'a b'"))
+    own = Half(StandbySettings(resource="r", device="/dev/drbd9", folder="/f", filesystem="xfs", start="start 'a b'"))
     own.mount()
     own.mount("/dev/x", "/where")
     own.unmount()
@@ -265,7 +265,7 @@ def test_commands_of_the_half(asked):
     assert asked.more["timeout"] == 900
     asked.status = 1
     for call in (own.mount, own.unmount, own.disk, lambda: own.command("start")):
-        with pytest.raises(Refused):
+        with pytest.raises(StandbyError):
             call()
 
 
@@ -282,9 +282,9 @@ def test_is_mounted(tmp_path, monkeypatch, is_mount, is_own):
     number = real(folder).st_dev + (0 if is_own else 1)
     monkeypatch.setattr(half.Path, "stat", lambda it, **more: SimpleNamespace(
         st_rdev=number, st_dev=-1, st_mode=0o060000) if it == device else real(it, **more))  # fmt: skip
-    own = Half(Settings(folder=str(folder), device=str(device)))
+    own = Half(StandbySettings(folder=str(folder), device=str(device)))
     if is_mount and not is_own:
-        with pytest.raises(Refused, match="has another volume than"):
+        with pytest.raises(StandbyError, match="has another volume than"):
             own.is_mounted()
     else:
         assert own.is_mounted() is is_mount
@@ -292,8 +292,8 @@ def test_is_mounted(tmp_path, monkeypatch, is_mount, is_own):
 
 def test_a_mount_whose_device_is_gone_is_another_volume(tmp_path, monkeypatch):
     monkeypatch.setattr(half.os.path, "ismount", lambda path: True)
-    with pytest.raises(Refused, match="has another volume than"):
-        Half(Settings(folder=str(tmp_path), device=str(tmp_path / "none"))).is_mounted()
+    with pytest.raises(StandbyError, match="has another volume than"):
+        Half(StandbySettings(folder=str(tmp_path), device=str(tmp_path / "none"))).is_mounted()
 
 
 @pytest.mark.parametrize("names, is_refused", [([], False), (["lost+found"], False), (["books.db"], True),
@@ -302,9 +302,9 @@ def test_files_below_the_mount(tmp_path, names, is_refused):
     """A store that was made there before the half was mounted would be hidden by it, or be served in its place."""
     for name in names:
         (tmp_path / name).write_text("")
-    own = Half(Settings(folder=str(tmp_path)))
+    own = Half(StandbySettings(folder=str(tmp_path)))
     if is_refused:
-        with pytest.raises(Refused, match=f"has files, {names[0]}"):
+        with pytest.raises(StandbyError, match=f"has files, {names[0]}"):
             own.is_mounted()
     else:
         assert own.is_mounted() is False
@@ -325,13 +325,13 @@ def test_the_folder_of_what_a_machine_says_is_roots(run_folder, monkeypatch):
     assert half.run_file("x") == run_folder / "x" and run_folder.stat().st_mode & 0o777 == 0o700
     for user, mode in ((1000, 0o700), (0, 0o770), (0, 0o707), (0, 0o720), (0, 0o702)):
         found_as(monkeypatch, user, mode)
-        with pytest.raises(Refused, match="Others than root can write"):
+        with pytest.raises(StandbyError, match="Others than root can write"):
             half.run_file("x")
 
 
 def test_one_at_work(run_folder):
     with half.alone_at_work():
-        with pytest.raises(Refused, match="is at work on this machine"), half.alone_at_work():
+        with pytest.raises(StandbyError, match="is at work on this machine"), half.alone_at_work():
             pytest.fail("two at a time")
     with half.alone_at_work():
         pass
@@ -396,7 +396,7 @@ def test_forgotten(run_folder, clock):
     ("off", -9, False)])
 def test_fenced_by_command(asked, fence, status, is_off):
     asked.status = status
-    assert half.fenced_by_command(Settings(fence=fence)) is is_off
+    assert half.fenced_by_command(StandbySettings(fence=fence)) is is_off
     assert asked == ([half.shlex.split(fence)] if fence else [])
 
 

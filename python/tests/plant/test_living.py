@@ -5,8 +5,8 @@ from types import SimpleNamespace
 
 from wanekupo.standby import living
 import pytest
-from wanekupo.standby.half import Refused
-from wanekupo.common.token_file import Outer, Seat, Tokens, text_of
+from wanekupo.standby.half import StandbyError
+from wanekupo.common.token_file import Outer, TokenSeat, Tokens, text_of
 
 MARK = "0123456789ab"
 ONE, TWO, ENDS = f"a1:1 {MARK} all -", f"a1:2 {MARK} look -", f"a1:1 {MARK} all 2026-11-29T18:00"
@@ -65,7 +65,7 @@ class Machine:
     """The half of beta, whose tokens' file has these lines; the other machine is alpha."""
 
     def __init__(self, folder, *lines):
-        tokens = Tokens({"a1": Seat("a1", "acme", "inner", given=2), "b1": Seat("b1", "bolt", "inner", given=2)})
+        tokens = Tokens({"a1": TokenSeat("a1", "acme", "inner", given=2), "b1": TokenSeat("b1", "bolt", "inner", given=2)})
         for number, line in enumerate(lines, 1):
             name, mark, may, until = line.split()
             until = until.strip("-") and until
@@ -103,7 +103,7 @@ CASES = [
 def test_takeover(tmp_path, capsys, own, there, refused, lacking):
     half = Machine(tmp_path, *own)
     if refused:
-        with pytest.raises(Refused) as error:
+        with pytest.raises(StandbyError) as error:
             living.test(half, there, False)
         assert refused in str(error.value) and "--ended-tokens-may-ask" in str(error.value)
         assert (f"401 here: {lacking}\n" in capsys.readouterr().out) == bool(lacking)
@@ -116,5 +116,5 @@ def test_takeover(tmp_path, capsys, own, there, refused, lacking):
 def test_tokens_that_cant_be_read_refuse(tmp_path):
     half = Machine(tmp_path, ONE)
     os.chmod(half.settings.tokens, 0o644)
-    with pytest.raises(Refused, match="can't be read: .* may be read by others"):
+    with pytest.raises(StandbyError, match="can't be read: .* may be read by others"):
         living.test(half, {ONE}, True)

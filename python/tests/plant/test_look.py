@@ -10,7 +10,7 @@ from types import SimpleNamespace
 from wanekupo.standby import look
 from wanekupo.standby import needs as needed
 import pytest
-from wanekupo.standby.half import Half, Refused, Settings
+from wanekupo.standby.half import Half, StandbyError, StandbySettings
 
 
 class Machine:
@@ -31,7 +31,7 @@ class Machine:
     def done(self, words, *_):
         ended = self.run(words)
         if ended.returncode:
-            raise Refused(" ".join(words))
+            raise StandbyError(" ".join(words))
         return ended.stdout.strip()
 
 
@@ -49,7 +49,7 @@ def machine(monkeypatch):
 @pytest.fixture
 def own(tmp_path):
     (tmp_path / "scratch").mkdir()
-    return Half(Settings(scratch=str(tmp_path / "scratch"), scratch_bytes=65536))
+    return Half(StandbySettings(scratch=str(tmp_path / "scratch"), scratch_bytes=65536))
 
 
 def test_a_snapshot_is_of_the_disk_as_it_is_and_goes(machine, own, tmp_path):
@@ -77,7 +77,7 @@ def test_a_snapshot_is_of_the_disk_as_it_is_and_goes(machine, own, tmp_path):
 ])  # fmt: skip
 def test_what_was_made_goes_where_the_rest_fails(machine, own, tmp_path, fails, left):
     machine.fails = [fails]
-    with pytest.raises(Refused), look.snapshot(own, str(tmp_path)):
+    with pytest.raises(StandbyError), look.snapshot(own, str(tmp_path)):
         pytest.fail("nothing is shown")
     begun = next(at for at, it in enumerate(machine.calls) if it.startswith(fails))
     assert machine.calls[begun + 1 :] == left
@@ -136,7 +136,7 @@ def test_what_is_still_mounted_is_not_removed(machine, own, monkeypatch):
 
 def test_a_look_that_is_at_work_still(machine, own):
     machine.fails = ["dmsetup remove"]
-    with pytest.raises(Refused, match="is at work still"):
+    with pytest.raises(StandbyError, match="is at work still"):
         look.clear(own)
 
 
@@ -159,7 +159,7 @@ def test_seats_of_a_site(tmp_path):
     assert look.seats_of(str(tmp_path / "s")) == ["a1", "b1"]
     (tmp_path / "s").write_text("[")
     for name in ("s", "none"):
-        with pytest.raises(Refused, match="can't be read"):
+        with pytest.raises(StandbyError, match="can't be read"):
             look.seats_of(str(tmp_path / name))
 
 
@@ -181,7 +181,7 @@ def test_a_command_of_the_stores_user(monkeypatch, own, status):
     assert look.as_user(own, ["/bin/P", "x"], Path("/shown")) == "seat a1 17\n"
     assert user.calls == [(("/bin/P", "x"), "/shown", look.SECONDS)]
     user.status = status
-    with pytest.raises(Refused, match=f"^P ended with status {status} over this machine's half: a; b\\. "):
+    with pytest.raises(StandbyError, match=f"^P ended with status {status} over this machine's half: a; b\\. "):
         look.as_user(own, ["/bin/P", "x"], Path("/shown"))
 
 
@@ -206,7 +206,7 @@ def test_the_contents_of_a_half(monkeypatch, own, tmp_path):
         os.fstat(store.handle)
     store.handle, store.user = os.open(tmp_path, os.O_RDONLY), SimpleNamespace(number=8)
     user.calls.clear()
-    with pytest.raises(Refused, match="of number 8"):
+    with pytest.raises(StandbyError, match="of number 8"):
         look.contents(own)
     assert user.calls == [], "nothing is done as a user who isn't the store's"
 
@@ -214,7 +214,7 @@ def test_the_contents_of_a_half(monkeypatch, own, tmp_path):
 def test_another_number_of_the_user(monkeypatch, own):
     store = SimpleNamespace(user=SimpleNamespace(number=8), size=lambda: 1)
     monkeypatch.setattr(look, "user_named", lambda name: SimpleNamespace(number=7))
-    with pytest.raises(Refused, match="of number 8, and station has another number here"):
+    with pytest.raises(StandbyError, match="of number 8, and station has another number here"):
         look.tested_owner(own, store)
     store.user.number = 7
     look.tested_owner(own, store)
@@ -261,7 +261,7 @@ def test_a_resource_that_keeps_its_promise(machine, monkeypatch, own):
                         ("md-flushes", "no"), ("protocol", ""), ("fencing", ""), ("disk-flushes", "")]
 ])  # fmt: skip
 def test_a_resource_that_does_not(machine, monkeypatch, own, changes, told):
-    with pytest.raises(Refused, match=told):
+    with pytest.raises(StandbyError, match=told):
         needs(machine, monkeypatch, own, resource(**changes), HANDLER)
 
 
@@ -271,11 +271,11 @@ def test_a_resource_that_does_not(machine, monkeypatch, own, changes, told):
     HANDLER.replace(" fence-peer", " #fence-peer", 1),
 ])  # fmt: skip
 def test_another_handler(machine, monkeypatch, own, handler):
-    with pytest.raises(Refused, match="the handler `fence-peer` is"):
+    with pytest.raises(StandbyError, match="the handler `fence-peer` is"):
         needs(machine, monkeypatch, own, resource(), handler)
 
 
 def test_the_secret_is_asked_for(machine, monkeypatch, own):
-    with pytest.raises(Refused, match="write your own") as error:
+    with pytest.raises(StandbyError, match="write your own") as error:
         needs(machine, monkeypatch, own, resource().replace("0123456789abcdef", "write-your-own"), HANDLER)
     assert "protocol" not in str(error.value)

@@ -6,20 +6,20 @@ import stat
 
 import pytest
 from wanekupo.plant.site import plan as plans
-from wanekupo.plant.site.plan import PLACED, PREPARED, STOPPING, Plan, Wish, drop_plan, keep_plan, read_plan
+from wanekupo.plant.site.plan import PLACED, PREPARED, STOPPING, GrowthPlan, SeatWish, drop_plan, keep_plan, read_plan
 from wanekupo.common.token_file import TokenError
 
-FULL = Plan(STOPPING, "/b/before-1", True, ["/o.toml"],
-    [Wish("a1", "acme", "/t/a1.token", "line 5"), Wish("h", "acme")])
+FULL = GrowthPlan(STOPPING, "/b/before-1", True, ["/o.toml"],
+    [SeatWish("a1", "acme", "/t/a1.token", "line 5"), SeatWish("h", "acme")])
 
 
-@pytest.mark.parametrize("plan", [Plan(), FULL, Plan(PLACED, "", False, [], [])])
+@pytest.mark.parametrize("plan", [GrowthPlan(), FULL, GrowthPlan(PLACED, "", False, [], [])])
 def test_kept_is_read(tmp_path, plan):
     path = tmp_path / "site.growth"
     keep_plan(path, plan)
     assert read_plan(path) == plan and stat.S_IMODE(path.stat().st_mode) == 0o600
     drop_plan(path)
-    assert os.listdir(tmp_path) == [] and read_plan(path) == Plan() and Plan().stage == PREPARED
+    assert os.listdir(tmp_path) == [] and read_plan(path) == GrowthPlan() and GrowthPlan().stage == PREPARED
     drop_plan(path)
 
 
@@ -44,14 +44,14 @@ def test_a_plan_that_cannot_be_read_is_none_that_is_empty(tmp_path):
 
 
 def test_a_seat_has_one_wish_the_last_one():
-    plan = Plan(wishes=[Wish("a", "x"), Wish("b", "x")])
-    plan.add(Wish("a", "x", "/new"))
-    assert plan.wishes == [Wish("b", "x"), Wish("a", "x", "/new")]
+    plan = GrowthPlan(wishes=[SeatWish("a", "x"), SeatWish("b", "x")])
+    plan.add(SeatWish("a", "x", "/new"))
+    assert plan.wishes == [SeatWish("b", "x"), SeatWish("a", "x", "/new")]
 
 
 def test_a_plan_that_goes_is_synced(tmp_path, monkeypatch):
     synced = []
     monkeypatch.setattr(plans, "sync", lambda path: synced.append((path, os.path.exists(tmp_path / "p"))))
-    keep_plan(tmp_path / "p", Plan())
+    keep_plan(tmp_path / "p", GrowthPlan())
     drop_plan(tmp_path / "p")
     assert synced == [(tmp_path, False)]

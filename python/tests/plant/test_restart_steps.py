@@ -2,6 +2,7 @@
 
 import argparse
 import contextlib
+import os
 import subprocess
 import sys
 from pathlib import Path
@@ -143,6 +144,14 @@ def test_no_alarm_until(monkeypatch):
                                             f"wanekupo_restart_end_timestamp_seconds {NOW}"]  # fmt: skip
     with pytest.raises(restart.NoRestartError, match="why"):
         restart.planned_until(args_of(), FakeStore(1), NOW)
+
+
+def test_a_pipe_in_the_place_of_what_is_written_is_waited_for_by_nobody(tmp_path):
+    """The folder is the store user's, who may have put it there."""
+    os.mkfifo(tmp_path / "restart.prom.new")
+    words = ["sh", "-c", restart.WRITTEN, "sh", str(tmp_path / "restart.prom")]
+    subprocess.run(words, input=b"text", timeout=20, check=True)
+    assert (tmp_path / "restart.prom").read_bytes() == b"text" and len(list(tmp_path.iterdir())) == 1
 
 
 @pytest.mark.parametrize("out, is_healthy", [(b"200", True), (b"503", False), (b"", False), (b"2000", False)])

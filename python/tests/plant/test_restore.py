@@ -345,7 +345,7 @@ def test_root_reads_the_tokens_and_stops_the_server_before_it_becomes_another(mo
     def noted(name, answer=None):
         return lambda *words: calls.append(name) or answer
 
-    user = SimpleNamespace(call=lambda call, told: calls.append("as the user") or 3)
+    user = SimpleNamespace(call=lambda call, told, seconds: calls.append("as the user") or 3)
     place = SimpleNamespace(refuse_server=lambda port: calls.append(("server", port)))
     monkeypatch.setattr(restore, "Store", lambda db: SimpleNamespace(db=db, user=user))
     monkeypatch.setattr(restore, "Place", lambda store: place)

@@ -10,7 +10,7 @@ from pathlib import Path
 import pytest
 from wanekupo.plant.restore import journals as restore_journals
 from wanekupo.plant.restore.journals import seat_named, sources_of, take_journals
-from wanekupo.plant.restore.plan import Customer, RestoreError
+from wanekupo.plant.restore.plan import CustomerPlan, RestoreError
 from wanekupo.seat import journal_lines
 from wanekupo.common.errors import BadJournal
 from wanekupo.seat.journal_lines import folders_at, folders_in
@@ -27,8 +27,8 @@ def asked(number, seat="a1", **more):
 
 def customers():
     return {
-        "acme": Customer("acme", {"a1": "", "a2": ""}, True),
-        "bolt": Customer("bolt", {"b1": ""}, True),
+        "acme": CustomerPlan("acme", {"a1": "", "a2": ""}, True),
+        "bolt": CustomerPlan("bolt", {"b1": ""}, True),
     }
 
 

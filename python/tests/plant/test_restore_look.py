@@ -6,7 +6,7 @@ from contextlib import closing
 
 import pytest
 from wanekupo.plant.restore.lost_store import contradictions, gaps_of, last_numbers, number_gaps, steps_of
-from wanekupo.plant.restore.plan import Customer, Request, SeatJournal, asked_of
+from wanekupo.plant.restore.plan import CustomerPlan, JournalRequest, SeatJournal, asked_of
 
 GAPS = (
     ([5, 6, 7], 4, ""),
@@ -26,12 +26,12 @@ def test_gaps(numbers, last, expected):
 
 def requests(**seats):
     """Of each seat its numbers; those below zero have no reply."""
-    return {seat: {abs(it): [Request(f"line {abs(it)}", f"d{abs(it)}", it > 0)] for it in numbers}
+    return {seat: {abs(it): [JournalRequest(f"line {abs(it)}", f"d{abs(it)}", it > 0)] for it in numbers}
             for seat, numbers in seats.items()}  # fmt: skip
 
 
 def customer(name="acme", seats=("a1", "restore-acme"), can_order=True, seat=""):
-    return Customer(name, dict.fromkeys(seats, ""), can_order, seat=seat)
+    return CustomerPlan(name, dict.fromkeys(seats, ""), can_order, seat=seat)
 
 
 # The customer, what journals have, the backup's last numbers, seats of which nothing more is to be known; what is told.
@@ -90,17 +90,17 @@ LOST = (
     ("as it is", requests(a1=[1, 2, 3]), {}, []),
     ("one more that has no reply", requests(a1=[3, -4]), {}, []),
     ("the end is missing", requests(a1=[1]), {}, []),
-    ("another request", {"a1": {3: [Request("line 9", "00", True)]}}, {},
+    ("another request", {"a1": {3: [JournalRequest("line 9", "00", True)]}}, {},
      ["line 9 has number 3 of a1, which is another request in the lost store"]),
-    ("one of two with that number", {"a1": {3: [Request("line 8", "00"), Request("line 9", "d3", True)]}}, {}, []),
-    ("one by a person's hand", {"a1": {3: [Request("line 9", "", True)]}}, {}, []),
+    ("one of two with that number", {"a1": {3: [JournalRequest("line 8", "00"), JournalRequest("line 9", "d3", True)]}}, {}, []),
+    ("one by a person's hand", {"a1": {3: [JournalRequest("line 9", "", True)]}}, {}, []),
     ("one more that was done", requests(a1=[3, 4]), {}, ["line 4 has number 4 of a1, and the lost store's last is 3"]),
     ("two more without a reply", requests(a1=[3, -4, -5]), {},
      ["line 5 has number 5 of a1, and the lost store's last is 3"]),
     ("a seat that asked for nothing", requests(a9=[1]), {},
      ["line 1 has number 1 of a9, and the lost store's last is 0"]),
     ("a store that was restored since", requests(a1=[3, 4, 5]), RESTORED, []),
-    ("another request in such a one", {"a1": {3: [Request("line 9", "00", True)]}}, RESTORED,
+    ("another request in such a one", {"a1": {3: [JournalRequest("line 9", "00", True)]}}, RESTORED,
      ["line 9 has number 3 of a1, which is another request in the lost store"]),
 )  # fmt: skip
 

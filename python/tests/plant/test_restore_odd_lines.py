@@ -14,13 +14,13 @@ import pytest
 from conftest import FAMILIES
 from wanekupo.plant.restore import lost_store as restore_look
 from wanekupo.plant.restore.journals import Source, take_journals
-from wanekupo.plant.restore.plan import Customer, RestoreError, asked_of, named, requests_of_seats
+from wanekupo.plant.restore.plan import CustomerPlan, RestoreError, asked_of, named, requests_of_seats
 from wanekupo.books.audit import audit_of
 from wanekupo.books.audit_page import as_html, as_text, found_table
 from wanekupo.books.shift import period_of, shift_of
 from wanekupo.books.shift_page import as_html as shift_page, tables
 from wanekupo.books.steps import book_of, books_of
-from wanekupo.books.store import TABLES, Store
+from wanekupo.books.store import TABLES, StoreCopy
 from wanekupo.books.store_rows import Books
 from wanekupo.common.errors import StationError
 from wanekupo.metrics.exposition import Samples
@@ -113,7 +113,7 @@ def lost(tmp_path):
         for number, (event, note) in enumerate(events, 1):
             base.execute(add["ledger"], (number, "bolt", "c1", number, event, note, "b1", bytes(4), b""))
         base.commit()
-    with Store(tmp_path / "books.db") as store:
+    with StoreCopy(tmp_path / "books.db") as store:
         yield Books(store)
 
 
@@ -121,7 +121,7 @@ PERIOD = period_of(moment_of("2000-01-01T00:00Z"), moment_of("2099-01-01T00:00Z"
 
 
 def restored(all_of_them, file, lost):
-    customers = {"acme": Customer("acme", {"a1": ""}, True), "bolt": Customer("bolt", {"b1": ""}, True)}
+    customers = {"acme": CustomerPlan("acme", {"a1": ""}, True), "bolt": CustomerPlan("bolt", {"b1": ""}, True)}
     sources = [Source(all_of_them / "pc8", frozenset(["a1"])), Source(all_of_them / "pc7", frozenset(["b1"]))]
     take_journals(sources, customers, [])
     bolt = customers["bolt"]

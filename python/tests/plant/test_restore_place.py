@@ -13,7 +13,7 @@ from types import SimpleNamespace
 
 import pytest
 from wanekupo.plant.restore import place as restore_place
-from wanekupo.plant.restore.place import Place, check_backup, check_folders, free_name, said_in
+from wanekupo.plant.restore.place import StorePlace, check_backup, check_folders, free_name, said_in
 from wanekupo.plant.restore.plan import RestoreError
 
 
@@ -23,7 +23,7 @@ def place(tmp_path):
     (tmp_path / "db").mkdir()
     (tmp_path / "db/books.db").write_text("OLD")
     (tmp_path / "db/books.db-wal").write_text("OLD LOG")
-    return Place(SimpleNamespace(db=tmp_path / "db/books.db", folder=tmp_path / "db"))
+    return StorePlace(SimpleNamespace(db=tmp_path / "db/books.db", folder=tmp_path / "db"))
 
 
 @pytest.fixture
@@ -426,3 +426,14 @@ def test_what_asks_may_fail(monkeypatch, tmp_path):
     with pytest.raises(KeyboardInterrupt), restore_place.served("P", tmp_path, tmp_path):
         raise KeyboardInterrupt
     assert server.calls == ["kill", "wait"]
+
+
+def test_a_pipe_in_a_files_place_keeps_nobody_waiting(tmp_path):
+    """Of a backup, whose other files may be its user's own, and of what an earlier run left."""
+    os.mkfifo(tmp_path / "about.json")
+    with pytest.raises(RestoreError, match="damaged"):
+        said_in(tmp_path)
+    (tmp_path / "about.json").unlink()
+    (tmp_path / "about.json").write_text(5000 * "[")
+    with pytest.raises(RestoreError, match="damaged"):
+        said_in(tmp_path)

@@ -1,15 +1,16 @@
 """What a restore goes by: requests that stand, tokens, seats, and who may be left out."""
 
 import hashlib
+import os
 import time
 from pathlib import Path
 
 import pytest
 from wanekupo.plant.restore.plan import (
-    Customer, RestoreError, SeatJournal, asked_of, check_left_out, choose_seats, customers_of, named,
+    CustomerPlan, RestoreError, SeatJournal, asked_of, check_left_out, choose_seats, customers_of, named,
     requests_of_seats, standing, tokens_at,
 )  # fmt: skip
-from wanekupo.common.token_file import Outer, Seat, Tokens, text_of
+from wanekupo.common.token_file import Outer, TokenSeat, Tokens, text_of
 from wanekupo.common.errors import StationError
 
 AT = "2026-11-29T00:00:0{}Z"
@@ -29,7 +30,7 @@ def placed(*lines, file="f"):
 
 def customer(name="acme", seats=("a1",), tokens=None, journals=()):
     digests = {it: hashlib.sha256((tokens or {}).get(it, it).encode()).hexdigest() for it in seats}
-    return Customer(name, digests, True, [SeatJournal(*it) for it in journals])
+    return CustomerPlan(name, digests, True, [SeatJournal(*it) for it in journals])
 
 
 # What stands: the number, the digests, and whether the last of them is done.
@@ -170,7 +171,7 @@ def test_customers(tmp_path):
 
 
 def written(path, *outers, seats=("a1",)):
-    tokens = Tokens({it: Seat(it, "acme", f"inner-{it}") for it in seats}, list(outers))
+    tokens = Tokens({it: TokenSeat(it, "acme", f"inner-{it}") for it in seats}, list(outers))
     path.write_text(text_of(tokens), encoding="ascii")
     path.chmod(0o600)
     return path
@@ -253,3 +254,27 @@ def test_a_customer_without_a_token_is_told_and_one_without_journals_needs_none(
     with pytest.raises(RestoreError, match="no token of acme is in tokens"):
         choose_seats({"acme": acme, "bolt": bolt}, {"a1": "another's"}, [], Path("tokens"))
     assert choose_seats({"bolt": bolt}, {}, [], Path("tokens")) == [] and not bolt.seat
+
+
+@pytest.mark.parametrize("text", ["x = " + 5000 * "[" + 5000 * "]", "customer = [1]", "customer = 5"])
+def test_what_is_no_site_is_told_in_a_sentence(tmp_path, text):
+    (tmp_path / "site.toml").write_text(text)
+    with pytest.raises(RestoreError, match="is no site file that can be read"):
+        customers_of(tmp_path / "site.toml")
+
+
+def test_a_folder_of_tokens_has_plain_files_of_its_users_own(tmp_path):
+    """Root reads them: it follows no link there, and waits for no pipe."""
+    (tmp_path / "a1.token").write_text("abc\n")
+    assert tokens_at(tmp_path) == ({"a1": "abc"}, [])
+    os.mkfifo(tmp_path / "b1.token")
+    with pytest.raises(RestoreError, match="is no plain file"):
+        tokens_at(tmp_path)
+    (tmp_path / "b1.token").unlink()
+    (tmp_path / "b1.token").symlink_to("a1.token")
+    with pytest.raises(RestoreError):
+        tokens_at(tmp_path)
+    (tmp_path / "b1.token").unlink()
+    tmp_path.chmod(0o777)
+    with pytest.raises(RestoreError, match="others may write it"):
+        tokens_at(tmp_path)

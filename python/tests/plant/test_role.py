@@ -16,6 +16,21 @@ def test_root_names_nothing_in_the_benchs_folder():
     assert text.count("wanekupo_bench_runs") == 3
 
 
+# What root starts in another user's name, on pages, in the manual and in the roles.
+STARTS = "env -i -C / PATH=/usr/local/bin:/usr/bin:/usr/sbin setsid -w runuser -u"
+
+
+def test_root_hands_no_words_over():
+    """Each command in another user's name begins with an empty environment, in /, and without root's terminal."""
+    top = DEPLOY.parent
+    pages = [*sorted((top / "docs").rglob("*.md")), *sorted(DEPLOY.glob("*.[158]"))]
+    files = [*pages, *sorted(ROLE.parent.rglob("*.yml"))]
+    texts = {it: re.sub(r"[\s,\"']+(?:- )?", " ", it.read_text()) for it in files}
+    found = {it.name: (text.count("runuser -u"), text.count(STARTS)) for it, text in texts.items() if "runuser" in text}
+    assert {"install.md", "standby.md", "station.1", "store.yml", "main.yml"} <= set(found)
+    assert all(there == clean for there, clean in found.values()), found
+
+
 def command(name):
     """A text of sh that the role runs as the bench's user."""
     found = re.search(rf"^{name}: \|\n((?:  .*\n)+)", (ROLE / "vars/main.yml").read_text(), re.MULTILINE)

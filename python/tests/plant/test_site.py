@@ -7,8 +7,8 @@ import sys
 import pytest
 from scripts import script
 from wanekupo.plant.site.apply import Stopped
-from wanekupo.plant.site.plan import PLACED, PREPARED, Plan, Wish, keep_plan, read_plan
-from wanekupo.common.token_file import Seat, TokenError, Tokens, put, text_of
+from wanekupo.plant.site.plan import PLACED, PREPARED, GrowthPlan, SeatWish, keep_plan, read_plan
+from wanekupo.common.token_file import TokenSeat, TokenError, Tokens, put, text_of
 
 site = script("site")
 ONE, TWO = "%064x" % 1, "%064x" % 2
@@ -44,7 +44,7 @@ class FakePlace:
         self.calls.append(words)
         if "seat" in words and "x9" not in words:
             seats = dict(site.known_seats(self).seats)
-            seats[words[3]] = Seat(words[3], words[5], "hello")
+            seats[words[3]] = TokenSeat(words[3], words[5], "hello")
             put(self.tokens, text_of(Tokens(seats)))
         return subprocess.CompletedProcess(words, int("x9" in words), "", "why\n")
 
@@ -101,8 +101,8 @@ def test_pool_of(first, count, is_one):
 
 def test_known_seats(place):
     assert site.known_seats(place).seats == {}
-    put(place.tokens, text_of(Tokens({"a1": Seat("a1", "acme", "hello")})))
-    assert site.known_seats(place).seats == {"a1": Seat("a1", "acme", "hello")}
+    put(place.tokens, text_of(Tokens({"a1": TokenSeat("a1", "acme", "hello")})))
+    assert site.known_seats(place).seats == {"a1": TokenSeat("a1", "acme", "hello")}
 
 
 def test_a_new_seat_gets_its_token_by_station_token(place):
@@ -118,7 +118,7 @@ def test_for_a_trial_no_token_is_made(place):
 
 
 def test_a_seat_of_another_customer_or_that_is_refused(place):
-    put(place.tokens, text_of(Tokens({"a2": Seat("a2", "bolt", "hello")})))
+    put(place.tokens, text_of(Tokens({"a2": TokenSeat("a2", "bolt", "hello")})))
     for is_trial in (True, False):
         with pytest.raises(TokenError, match="the seat a2 is bolt's"):
             site.seat_of(place, "acme", "a2", is_trial)
@@ -132,15 +132,15 @@ def test_a_seat_of_another_customer_or_that_is_refused(place):
 ])  # fmt: skip
 def test_wishes(place, tmp_path, more, to, holder):
     (tmp_path / "keys").mkdir()
-    plan = Plan()
+    plan = GrowthPlan()
     site.add_wishes(words("add-seat", "acme", "a1", "a5", *more), place, plan)
-    assert plan.wishes == [Wish("a5", "acme", str(tmp_path / to) if to else "", holder)], "a1 is there already"
+    assert plan.wishes == [SeatWish("a5", "acme", str(tmp_path / to) if to else "", holder)], "a1 is there already"
 
 
 def test_the_seat_of_health_gets_no_token(place):
-    plan = Plan()
+    plan = GrowthPlan()
     site.add_wishes(words("add-seat", "acme", "health"), place, plan)
-    assert plan.wishes == [Wish("health", "acme", "", "")]
+    assert plan.wishes == [SeatWish("health", "acme", "", "")]
 
 
 @pytest.mark.parametrize("kind", ["file", "link", "no folder"])
@@ -150,7 +150,7 @@ def test_no_file_of_somebody_is_a_token(place, tmp_path, kind):
     if kind == "link":
         (tmp_path / "a5.token").symlink_to(tmp_path / "nowhere")
     to = "nowhere" if kind == "no folder" else "."
-    plan = Plan()
+    plan = GrowthPlan()
     with pytest.raises(TokenError, match="--to FOLDER"):
         site.add_wishes(words("add-seat", "acme", "a5", "--to", to), place, plan)
     site.add_wishes(words("add-seat", "acme", "a5", "--to", to, "--no-token"), place, plan)
@@ -217,7 +217,7 @@ def test_prepare(place, tmp_path, capsys):
     assert given(place.next.read_text())["acme"].seats == {"a1": ONE, "a2": HELLO} and place.site.read_text() == TEXT
     plan = read_plan(place.plan)
     assert (plan.stage, plan.is_tried, plan.others) == (PREPARED, True, [str(tmp_path / "two.toml")])
-    assert plan.wishes == [Wish("a2", "acme", str(tmp_path / "a2.token"), "")]
+    assert plan.wishes == [SeatWish("a2", "acme", str(tmp_path / "a2.token"), "")]
     told = capsys.readouterr().out
     assert "gain" in told and "a copy took it" in told and "two.toml" in told and "nothing is taken away" in told
     site.prepare(words("add-issuer", "acme", "n"), place)
@@ -251,7 +251,7 @@ def test_nothing_more_is_no_growth(place, capsys):
 
 
 def test_under_way_nothing_is_prepared(place):
-    keep_plan(place.plan, Plan(PLACED))
+    keep_plan(place.plan, GrowthPlan(PLACED))
     with pytest.raises(TokenError, match="under way"):
         site.prepare(words("add-seat", "acme", "a2"), place)
     assert not place.next.exists()
@@ -266,7 +266,7 @@ def test_add(place, capsys, more, stage, is_applied):
 
 def test_add_goes_on_with_what_is_under_way(place, monkeypatch):
     """What an earlier run has begun ends first."""
-    keep_plan(place.plan, Plan(PLACED))
+    keep_plan(place.plan, GrowthPlan(PLACED))
     done = []
     monkeypatch.setattr(site, "apply", lambda it, plan: (done.append(plan.stage), place.plan.unlink()))
     site.add(words("add-seat", "acme", "a2", "--apply"), place)
@@ -289,11 +289,11 @@ def test_apply_of_nothing(place, capsys):
 def test_apply_looks_again(place, monkeypatch):
     """Somebody may have changed the text since: a seat that went gets no token, and a refused text isn't applied."""
     place.next.write_text(TEXT.replace('"acme-ca"', '"acme-ca", "n"'))
-    keep_plan(place.plan, Plan(wishes=[Wish("a1", "acme", "/t"), Wish("a2", "acme", "/u")], others=["/one.toml"]))
+    keep_plan(place.plan, GrowthPlan(wishes=[SeatWish("a1", "acme", "/t"), SeatWish("a2", "acme", "/u")], others=["/one.toml"]))
     done = []
     monkeypatch.setattr(site, "apply", lambda it, plan: done.append(plan))
     site.apply_command(words("apply", "--other-site", "/two.toml"), place)
-    assert done[0].wishes == [Wish("a1", "acme", "/t")] and done[0].is_tried
+    assert done[0].wishes == [SeatWish("a1", "acme", "/t")] and done[0].is_tried
     assert done[0].others == ["/one.toml", "/two.toml"]
     assert (TEXT, place.next.read_text()) in place.tested and (place.next.read_text(), done[0].others) in place.tested
     monkeypatch.setattr(site, "tested_growth", lambda *_: (_ for _ in ()).throw(TokenError(1, "refused")))
@@ -303,7 +303,7 @@ def test_apply_looks_again(place, monkeypatch):
 
 
 def test_apply_goes_on_with_what_is_placed_without_a_look(place, monkeypatch):
-    keep_plan(place.plan, Plan(PLACED))
+    keep_plan(place.plan, GrowthPlan(PLACED))
     monkeypatch.setattr(site, "look_again", lambda *_: pytest.fail("the text is in place"))
     site.apply_command(words("apply"), place)
     assert place.calls == [("APPLY", PLACED)]

@@ -8,13 +8,13 @@ from wanekupo.standby import command, half, is_mounted, takeover
 from wanekupo.standby import fence_peer as fence
 from wanekupo.standby import other_is_off as other
 from wanekupo.standby import stepdown as down
-from wanekupo.standby.half import Refused, Settings, State
+from wanekupo.standby.half import StandbyError, StandbySettings, DrbdState
 
-PRIMARY = State("WFConnection", "Primary", "Unknown", "UpToDate", "DUnknown", True)
+PRIMARY = DrbdState("WFConnection", "Primary", "Unknown", "UpToDate", "DUnknown", True)
 
 
 def state(**more):
-    return State(**{**PRIMARY.__dict__, **more})
+    return DrbdState(**{**PRIMARY.__dict__, **more})
 
 
 BOTH = state(connection="Connected", other_role="Secondary", other_disk="UpToDate", is_frozen=False)
@@ -25,7 +25,7 @@ class FakeHalf:
 
     def __init__(self, *states, is_there=True):
         self.states, self.calls, self.is_there = list(states), [], is_there
-        self.settings = Settings(fence="FENCE", take_address="TAKE", leave_address="LEAVE")
+        self.settings = StandbySettings(fence="FENCE", take_address="TAKE", leave_address="LEAVE")
         self.resource = "station"
 
     def __call__(self, settings):
@@ -113,7 +113,7 @@ def test_a_cable_that_is_whole_again_switches_nothing_off(monkeypatch):
 
 def test_without_a_command_it_waits_for_a_word_alone(monkeypatch):
     own = FakeHalf(PRIMARY)
-    own.settings = Settings(take_address="TAKE", leave_address="LEAVE")
+    own.settings = StandbySettings(take_address="TAKE", leave_address="LEAVE")
     assert answered(monkeypatch, own, words=[False] * 20 + [True]) == 7
     assert heads(own) == ["LEAVE", "fence", "TAKE"], "the command is none, and says no"
 
@@ -175,7 +175,7 @@ def say(monkeypatch, own, name="there", **more):
 ])  # fmt: skip
 def test_no_word_is_given_where_there_is_nothing_to_say(monkeypatch, now, name, told):
     own = FakeHalf(now)
-    with pytest.raises(Refused, match=told):
+    with pytest.raises(StandbyError, match=told):
         say(monkeypatch, own, name)
     assert own.calls == []
 
@@ -194,7 +194,7 @@ def test_a_word_that_nobody_hears_resumes_writes(monkeypatch):
 
 def test_where_the_two_are_connected_again_nothing_is_resumed(monkeypatch):
     own = FakeHalf(PRIMARY, PRIMARY, BOTH)
-    with pytest.raises(Refused, match="Nothing was said"):
+    with pytest.raises(StandbyError, match="Nothing was said"):
         say(monkeypatch, own)
     assert own.calls == ["give_word", ("wait", 60), "take_word"]
 
@@ -224,7 +224,7 @@ def step_down(monkeypatch, own, is_alone=False):
 ])  # fmt: skip
 def test_stepdown_refuses(monkeypatch, now, is_alone, told):
     own = FakeHalf(now)
-    with pytest.raises(Refused, match=told):
+    with pytest.raises(StandbyError, match=told):
         step_down(monkeypatch, own, is_alone)
     assert own.calls == []
 
@@ -245,10 +245,10 @@ def test_stepdown_stops_at_what_it_cannot_do(monkeypatch):
     def command(what, seconds=0):
         own.calls.append(what)
         if what == "stop":
-            raise Refused("it runs on")
+            raise StandbyError("it runs on")
 
     own.command = command
-    with pytest.raises(Refused):
+    with pytest.raises(StandbyError):
         step_down(monkeypatch, own)
     assert own.calls == ["leave_address", "stop"], "a volume that a server writes isn't given away"
 
@@ -266,7 +266,7 @@ def test_stepdown_words(monkeypatch, words, is_alone):
 
 
 @pytest.mark.parametrize("answer, status, told", [
-    (True, 0, ""), (False, 2, "isn't mounted here"), (Refused("another volume"), 2, "another volume"),
+    (True, 0, ""), (False, 2, "isn't mounted here"), (StandbyError("another volume"), 2, "another volume"),
     (OSError(5, "Fault"), 2, "Fault"),
 ])  # fmt: skip
 def test_the_server_starts_over_its_volume_alone(monkeypatch, capsys, answer, status, told):
@@ -278,7 +278,7 @@ def test_the_server_starts_over_its_volume_alone(monkeypatch, capsys, answer, st
         return answer
 
     monkeypatch.setattr(half.Half, "is_mounted", answered)
-    monkeypatch.setattr(is_mounted, "read_settings", Settings)
+    monkeypatch.setattr(is_mounted, "read_settings", StandbySettings)
     assert is_mounted.main([]) == status and told in capsys.readouterr().err
 
 
@@ -286,7 +286,7 @@ def test_the_server_starts_over_its_volume_alone(monkeypatch, capsys, answer, st
 
 
 def test_fence_peer_that_is_refused_says_nothing_is_off(monkeypatch, capsys):
-    monkeypatch.setattr(fence, "read_settings", lambda: (_ for _ in ()).throw(Refused("Why.")))
+    monkeypatch.setattr(fence, "read_settings", lambda: (_ for _ in ()).throw(StandbyError("Why.")))
     assert fence.main([]) == 1 and capsys.readouterr().err == "fence-peer: Why.\n"
 
 

@@ -12,7 +12,7 @@ from types import SimpleNamespace
 
 import pytest
 from wanekupo.common import store_user
-from wanekupo.common.store_user import Store, StoreUser, UserError, opened, user_named
+from wanekupo.common.store_user import StoreFolder, StoreUser, UserError, opened, user_named
 
 USER = StoreUser("station", 4242, 4243, "/home/station")
 
@@ -186,6 +186,43 @@ def test_a_child_that_closed_its_pipes_is_ended_too(hurry):
     assert time.monotonic() - begun < 10
 
 
+def called_as_another(monkeypatch, function, **more):
+    """A function that is called in a process of its own, without another user's rights."""
+    monkeypatch.setattr(StoreUser, "is_own", lambda self: False)
+    monkeypatch.setattr(StoreUser, "_become", lambda self, parent: None)
+    return USER.call(function, **more)
+
+
+def test_a_function_that_does_not_end_is_ended(monkeypatch, hurry):
+    """Its user may stop it, and root waits for no more than it said."""
+    monkeypatch.setattr(store_user, "PATIENCE", 0.2)
+    with pytest.raises(UserError, match="took too long"):
+        called_as_another(monkeypatch, lambda: os.kill(os.getpid(), signal.SIGSTOP), seconds=0.5)
+
+
+def test_what_a_function_prints_is_bounded(monkeypatch, hurry):
+    monkeypatch.setattr(store_user, "RELAYED", 1000)
+    assert called_as_another(monkeypatch, lambda: os.write(1, b"x" * 1000) and 0) == 0
+    with pytest.raises(UserError, match="printed too much"):
+        called_as_another(monkeypatch, lambda: os.write(1, b"x" * 1001) and 0)
+
+
+def test_where_memory_runs_out_these_are_ended_first(monkeypatch):
+    """A command, and a function before it becomes the user's, who can't take back what root said."""
+    own = store_user.StoreUser("me", os.geteuid(), os.getegid())
+    assert own.run("cat", "/proc/self/oom_score_adj").stdout == "1000\n"
+    steps = []
+    monkeypatch.setattr(store_user, "end_first", lambda: steps.append("end_first"))
+    monkeypatch.setattr(store_user.os, "setgroups", lambda groups: None)
+    monkeypatch.setattr(store_user.os, "getgrouplist", lambda *_: [])
+    for name in ("setresgid", "setresuid"):
+        monkeypatch.setattr(store_user.os, name, lambda *_, name=name: steps.append(name))
+    monkeypatch.setattr(store_user.ctypes, "CDLL", lambda *_, **__: SimpleNamespace(prctl=lambda *_: 0))
+    monkeypatch.setattr(store_user.os, "environ", {})
+    USER._become(os.getppid())
+    assert steps == ["end_first", "setresgid", "setresuid"]
+
+
 def test_each_run_has_a_bound(monkeypatch):
     monkeypatch.setattr(store_user.subprocess, "Popen", FakeChild)
     for more, bound in (({}, 3600), ({"seconds": 5}, 5)):
@@ -248,7 +285,7 @@ def test_what_a_child_tells(monkeypatch, said, status, told):
     monkeypatch.setattr(store_user.os, "geteuid", lambda: 0)
     monkeypatch.setattr(store_user.os, "fork", lambda: 77)
     monkeypatch.setattr(store_user, "_waited", lambda child, pipes,
-        mask: ([os.close(it) for pair in pipes for it in pair], (said, status))[1])
+        mask, until: ([os.close(it) for pair in pipes for it in pair], (said, status))[1])
     if told:
         with pytest.raises(UserError, match=told):
             USER.call(lambda: pytest.fail("as root"))
@@ -307,7 +344,7 @@ def store(tmp_path, monkeypatch):
         folder: SimpleNamespace(name="station", number=tmp_path.stat().st_uid))
     (tmp_path / "books.db").write_text("DB")
     (tmp_path / "books.db-wal").write_text("LOG")
-    return Store(tmp_path / "books.db")
+    return StoreFolder(tmp_path / "books.db")
 
 
 def test_the_sizes_of_a_store(store):

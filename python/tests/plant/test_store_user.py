@@ -7,7 +7,7 @@ from types import SimpleNamespace
 
 import pytest
 from wanekupo.common import store_user
-from wanekupo.common.store_user import Store, UserError, opened, read_small, shown, user_of
+from wanekupo.common.store_user import StoreFolder, UserError, opened, read_small, shown, user_of
 
 SHOWN = [
     ("plain, ä €\n", "plain, ä €\n"),
@@ -20,6 +20,13 @@ SHOWN = [
 @pytest.mark.parametrize("text, wanted", SHOWN)
 def test_shown(text: str, wanted: str) -> None:
     assert shown(text) == wanted
+
+
+def test_shown_is_bounded() -> None:
+    """Whoever wrote it could fill a screen for a day."""
+    assert shown("x" * 4000) == "x" * 4000
+    assert shown("\x1b" * 4001) == "?" * 4000 + ".. (4001 letters)"
+    assert shown("abc", 2) == "ab.. (3 letters)"
 
 
 # The owner and the mode of a folder, the owner of what is in it, who may hold it, and whether it is held.
@@ -98,9 +105,9 @@ def test_no_user(owner: int, runs_as: int, told: str, tmp_path: Path, monkeypatc
         user_of(0, tmp_path)
 
 
-def of_user(folder: Path) -> Store:
+def of_user(folder: Path) -> StoreFolder:
     """A store in a folder, whose user is who runs this."""
-    store = Store.__new__(Store)
+    store = StoreFolder.__new__(StoreFolder)
     store.db, store.folder, store.handle = folder / "books.db", folder, opened(folder)
     store.user = store_user.StoreUser("me", os.geteuid(), os.getegid())
     return store

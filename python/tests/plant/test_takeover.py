@@ -9,18 +9,18 @@ from types import SimpleNamespace
 
 from wanekupo.standby import half
 import pytest
-from wanekupo.standby.half import Refused, Settings, State
+from wanekupo.standby.half import StandbyError, StandbySettings, DrbdState
 from wanekupo.standby.look import Contents
 from scripts import script
 
 takeover = script("standby/takeover")
-BOTH = State("Connected", "Secondary", "Secondary", "UpToDate", "UpToDate", False)
-ALONE = State("WFConnection", "Secondary", "Unknown", "UpToDate", "DUnknown", False)
+BOTH = DrbdState("Connected", "Secondary", "Secondary", "UpToDate", "UpToDate", False)
+ALONE = DrbdState("WFConnection", "Secondary", "Unknown", "UpToDate", "DUnknown", False)
 SINCE = datetime(2026, 6, 15, 12, 0, tzinfo=timezone.utc)
 
 
 def state(like=ALONE, **more):
-    return State(**{**like.__dict__, **more})
+    return DrbdState(**{**like.__dict__, **more})
 
 
 class FakeHalf:
@@ -28,7 +28,7 @@ class FakeHalf:
 
     def __init__(self, *states, is_there=False, **settings):
         self.states, self.calls, self.is_there, self.resource = list(states), [], is_there, "station"
-        self.settings = Settings(**settings)
+        self.settings = StandbySettings(**settings)
 
     def __call__(self, settings):
         return self
@@ -61,7 +61,7 @@ def put_in(monkeypatch):
             def call(*words):
                 own.calls.append((name, *words[1:]) if name == "since" else name)
                 if name == refuses:
-                    raise Refused(name)
+                    raise StandbyError(name)
                 return answer
 
             return call
@@ -115,7 +115,7 @@ def test_fit(now):
     (state(connection="WFReportParams", other_role="Primary"), "has the store"),
 ])  # fmt: skip
 def test_unfit(now, told):
-    with pytest.raises(Refused, match=told):
+    with pytest.raises(StandbyError, match=told):
         takeover.tested_state(now)
 
 
@@ -130,7 +130,7 @@ def test_shut_out(put_in, named, fenced, is_certain):
     if is_certain:
         takeover.shut_out(own, named)
     else:
-        with pytest.raises(Refused, match="takeover --other-is-off there"):
+        with pytest.raises(StandbyError, match="takeover --other-is-off there"):
             takeover.shut_out(own, named)
     assert own.calls == ["fence"]
 
@@ -138,7 +138,7 @@ def test_shut_out(put_in, named, fenced, is_certain):
 @pytest.mark.parametrize("named", ["here", "ther", "There"])
 def test_the_word_for_another_machine_is_none(put_in, named):
     own = put_in(FakeHalf(ALONE), fenced=True)
-    with pytest.raises(Refused, match=f"is there, and not {named}"):
+    with pytest.raises(StandbyError, match=f"is there, and not {named}"):
         takeover.shut_out(own, named)
     assert own.calls == [], "no machine is switched off by a wrong name"
 
@@ -157,7 +157,7 @@ def test_the_half_is_held_against_its_witness(put_in, named, commands, since, is
 
 def test_alone_there_has_to_be_a_witness(put_in):
     own = put_in(FakeHalf(ALONE))
-    with pytest.raises(Refused, match="There is no witness"):
+    with pytest.raises(StandbyError, match="There is no witness"):
         takeover.tested_contents(own, words(), SINCE)
     assert own.calls == []
 
@@ -189,7 +189,7 @@ def test_a_look(put_in, now, is_looked):
     if is_looked:
         assert takeover.looked(words(witness=["f"])) == 0 and own.calls[1:] == ["look", "compare"]
     else:
-        with pytest.raises(Refused, match="may be writing this half"):
+        with pytest.raises(StandbyError, match="may be writing this half"):
             takeover.looked(words(witness=["f"]))
         assert own.calls == []
 
@@ -210,7 +210,7 @@ def test_promote(put_in, now, calls):
 
 def test_no_word_is_left_where_drbd_refuses(put_in):
     own = put_in(FakeHalf(ALONE), refuses="primary")
-    with pytest.raises(Refused):
+    with pytest.raises(StandbyError):
         takeover.promote(own, ALONE)
     assert own.calls[-1] == "take_word"
 
@@ -221,7 +221,7 @@ def test_no_word_is_left_where_drbd_refuses(put_in):
 ])  # fmt: skip
 def test_what_has_changed_meanwhile_is_looked_at_anew(put_in, before, after):
     own = put_in(FakeHalf(after))
-    with pytest.raises(Refused, match="Type the same again"):
+    with pytest.raises(StandbyError, match="Type the same again"):
         takeover.promote(own, before)
     assert own.calls == []
 
@@ -258,7 +258,7 @@ def test_where_the_other_machine_is_dead(put_in):
 @pytest.mark.parametrize("refuses", ["needs", "look", "compare", "living"])
 def test_a_refusal_changes_nothing(put_in, refuses):
     own = put_in(FakeHalf(ALONE), fenced=True, refuses=refuses)
-    with pytest.raises(Refused):
+    with pytest.raises(StandbyError):
         takeover.take_over(words(witness=["f"]))
     assert own.calls[-1] == refuses and "drbdadm primary station" not in own.calls and "give_word" not in own.calls
     assert refuses != "needs" or own.calls == ["needs"], "no machine is switched off for a resource that is unfit"
@@ -271,7 +271,7 @@ def test_a_refusal_changes_nothing(put_in, refuses):
 ])  # fmt: skip
 def test_take_over_refuses(put_in, now, told):
     own = put_in(FakeHalf(now))
-    with pytest.raises(Refused, match=told):
+    with pytest.raises(StandbyError, match=told):
         takeover.take_over(words(other_is_off="there", witness=["f"]))
     assert own.calls == []
 
@@ -316,7 +316,7 @@ def left(monkeypatch, tmp_path, now, error=None):
     living, calls = takeover.living, []
     own = FakeHalf(now)
     own.folder = tmp_path
-    user = SimpleNamespace(call=lambda call: calls.append("as the user") or call())
+    user = SimpleNamespace(call=lambda call, seconds: calls.append("as the user") or call())
     handle = os.open(tmp_path, os.O_RDONLY)
     monkeypatch.setattr(living, "Store", lambda db: {tmp_path / "books.db": SimpleNamespace(user=user,
         handle=handle)}[db])
@@ -339,11 +339,11 @@ def left(monkeypatch, tmp_path, now, error=None):
 
 def test_the_list_is_left_as_the_stores_user(monkeypatch, tmp_path):
     assert left(monkeypatch, tmp_path, BOTH) == ["as the user", (tmp_path / "tokens.living", "a\nb\n")]
-    with pytest.raises(Refused, match="can't be written beside the store: .*full"):
+    with pytest.raises(StandbyError, match="can't be written beside the store: .*full"):
         left(monkeypatch, tmp_path, BOTH, OSError(28, "full"))
 
 
 def test_nothing_is_left_while_writes_are_frozen(monkeypatch, tmp_path):
-    with pytest.raises(Refused, match="writes are frozen"):
+    with pytest.raises(StandbyError, match="writes are frozen"):
         left(monkeypatch, tmp_path, state(is_frozen=True))
     assert os.listdir(tmp_path) == []

@@ -7,9 +7,9 @@ from pathlib import Path
 
 import pytest
 from wanekupo.common import token_file
-from wanekupo.standby.half import Settings
+from wanekupo.standby.half import StandbySettings
 from scripts import script
-from wanekupo.common.token_file import LAST, Outer, Seat, TokenError, Tokens, mark_of, tokens_of
+from wanekupo.common.token_file import LAST, Outer, TokenSeat, TokenError, Tokens, mark_of, tokens_of
 
 token = script("token")
 
@@ -27,7 +27,7 @@ def args_of(*words):
 
 
 def tokens_with(*outers):
-    made = Tokens({"a1": Seat("a1", "acme", "inner-of-a1", given=9), "b1": Seat("b1", "bolt", "inner-of-b1", given=9)})
+    made = Tokens({"a1": TokenSeat("a1", "acme", "inner-of-a1", given=9), "b1": TokenSeat("b1", "bolt", "inner-of-b1", given=9)})
     made.outers = list(outers)
     return made
 
@@ -205,7 +205,7 @@ def test_a_link_to_a_site_file_stays_one(tmp_path):
 def test_a_list_that_cant_be_left_is_status_6(tmp_path, monkeypatch):
     path, _ = files(tmp_path)
     monkeypatch.setattr(token, "SETTINGS", tmp_path)
-    monkeypatch.setattr(token, "read_settings", lambda: Settings(tokens=str(path)))
+    monkeypatch.setattr(token, "read_settings", lambda: StandbySettings(tokens=str(path)))
     monkeypatch.setattr(token.Half, "is_mounted", lambda self: True)
     monkeypatch.setattr(token.living, "leave", lambda half, tokens: (_ for _ in ()).throw(token.Refused("frozen.")))
     with pytest.raises(TokenError, match="the other machine doesn't know it. frozen") as error:

@@ -8,9 +8,9 @@ import tomllib
 
 import pytest
 from wanekupo.common import token_file
-from wanekupo.standby.half import Settings
+from wanekupo.standby.half import StandbySettings
 from scripts import script
-from wanekupo.common.token_file import Outer, Seat, TokenError, Tokens, put, read, text_of, tokens_of
+from wanekupo.common.token_file import Outer, TokenSeat, TokenError, Tokens, put, read, text_of, tokens_of
 
 token = script("token")
 NOW = "2026-06-15T12:00"
@@ -27,7 +27,7 @@ manager = {{ token = "{TEST}" }}
 
 
 def seats(*made):
-    return Tokens({it.seat: it for it in made or (Seat("a1", "acme", "abc"), Seat("b1", "bolt", "hello"))})
+    return Tokens({it.seat: it for it in made or (TokenSeat("a1", "acme", "abc"), TokenSeat("b1", "bolt", "hello"))})
 
 
 def outer(number, seat="a1", **more):
@@ -159,7 +159,7 @@ def test_where_nothing_is_printed_a_change_is_none_that_was_refused(file, monkey
 def test_a_new_seat(file, capsys):
     found = done(file, "seat", "a1", "--customer", "acme")
     inner = found.seats["a1"].inner
-    assert found.seats == {"a1": Seat("a1", "acme", inner)} and re.fullmatch("[0-9a-f]{64}", inner)
+    assert found.seats == {"a1": TokenSeat("a1", "acme", inner)} and re.fullmatch("[0-9a-f]{64}", inner)
     out, err = capsys.readouterr()
     assert out == f'[[customer.seat]]\nname = "a1"\ntoken = "{token.digest_of(inner)}"\n' and inner not in out + err
     assert stat.S_IMODE(file.stat().st_mode) == 0o600
@@ -189,7 +189,7 @@ def test_refused_words_change_nothing(file, text):
 
 def test_another_server(file, capsys):
     put(file, text_of(seats()))
-    assert done(file, "seat", "a1", "--server", "127.0.0.1:881").seats["a1"] == Seat("a1", "acme", "abc",
+    assert done(file, "seat", "a1", "--server", "127.0.0.1:881").seats["a1"] == TokenSeat("a1", "acme", "abc",
         "127.0.0.1:881")
 
 
@@ -208,7 +208,7 @@ def test_a_known_seat(file, tmp_path, capsys, seat, inner, is_known):
         assert not file.exists()
         return
     customer = {"a1": "acme", "b1": "bolt"}.get(seat, seat)
-    assert done(file, *text).seats == {seat: Seat(seat, customer, inner)}
+    assert done(file, *text).seats == {seat: TokenSeat(seat, customer, inner)}
     with pytest.raises(TokenError, match="is there already"):
         done(file, *text)
     for more in ([], ["--server", "127.0.0.1:882"]):
@@ -235,7 +235,7 @@ def test_a_seat_into_a_site_file(file, tmp_path):
 def test_no_line_stands_in_a_string():
     """What looks like the customer's section in a text of several lines is none."""
     text = "note = '''\n[[customer]]\nname = \"acme\"\n[x]\n'''\n[[customer]]\nname = \"acme\"\nissuer = []\n"
-    found = tomllib.loads(token.grown(text, Seat("a1", "acme", "abc"), "t"))
+    found = tomllib.loads(token.grown(text, TokenSeat("a1", "acme", "abc"), "t"))
     assert found["customer"] == [{"name": "acme", "issuer": [], "seat": [{"name": "a1", "token": ABC}]}]
     assert found["note"] == tomllib.loads(text)["note"]
 
@@ -253,7 +253,7 @@ def test_a_folder_that_others_write_is_refused(file, mode, is_fit):
 
 
 def test_titles():
-    found = [Seat("a1", "acme", "x").title(), Seat("@manager", "@manager", "x").title(), Seat("@b", "@b", "x").title()]
+    found = [TokenSeat("a1", "acme", "x").title(), TokenSeat("@manager", "@manager", "x").title(), TokenSeat("@b", "@b", "x").title()]
     assert found == ["the seat a1 of acme", "the manager's seat @manager", "the manager's seat @b"]
 
 
@@ -311,7 +311,7 @@ def test_a_number_and_a_name_are_never_given_again(file):
 
 
 def with_outers(file, *outers):
-    tokens = seats(Seat("a1", "acme", "abc", given=9), Seat("a", "acme", "x"), Seat("b1", "bolt", "hello", given=9))
+    tokens = seats(TokenSeat("a1", "acme", "abc", given=9), TokenSeat("a", "acme", "x"), TokenSeat("b1", "bolt", "hello", given=9))
     tokens.outers = list(outers)
     put(file, text_of(tokens))
 
@@ -355,7 +355,7 @@ def test_list(file, capsys):
 
 
 def test_the_seat_of_health_needs_no_outer_token(file, capsys):
-    put(file, text_of(seats(Seat("health", "acme", "x"))))
+    put(file, text_of(seats(TokenSeat("health", "acme", "x"))))
     done(file, "list")
     assert capsys.readouterr().err == ""
 
@@ -373,12 +373,12 @@ def test_inner(file, tmp_path, capsys):
 
 
 @pytest.mark.parametrize("made, told", [
-    ((Seat("a1", "acme", "abc"), Seat("b1", "bolt", "hello"), Seat("@manager", "@manager", "test")), ""),
-    ((Seat("a1", "acme", "abc"), Seat("b1", "bolt", "hello")), "@manager"),
-    ((Seat("a1", "acme", "abc"), Seat("b1", "bolt", "xx"), Seat("@manager", "@manager", "test")), "b1"),
-    ((Seat("a1", "acme", "abc"), Seat("b1", "bolt", "hello"), Seat("c1", "acme", "xx"), Seat("@m", "@m", "test")),
+    ((TokenSeat("a1", "acme", "abc"), TokenSeat("b1", "bolt", "hello"), TokenSeat("@manager", "@manager", "test")), ""),
+    ((TokenSeat("a1", "acme", "abc"), TokenSeat("b1", "bolt", "hello")), "@manager"),
+    ((TokenSeat("a1", "acme", "abc"), TokenSeat("b1", "bolt", "xx"), TokenSeat("@manager", "@manager", "test")), "b1"),
+    ((TokenSeat("a1", "acme", "abc"), TokenSeat("b1", "bolt", "hello"), TokenSeat("c1", "acme", "xx"), TokenSeat("@m", "@m", "test")),
      "c1"),
-    ((Seat("a1", "bolt", "abc"), Seat("b1", "bolt", "hello"), Seat("@manager", "@manager", "test")), "a1"),
+    ((TokenSeat("a1", "bolt", "abc"), TokenSeat("b1", "bolt", "hello"), TokenSeat("@manager", "@manager", "test")), "a1"),
 ])  # fmt: skip
 def test_check(file, tmp_path, capsys, made, told):
     (tmp_path / "site.toml").write_text(SITE)
@@ -482,7 +482,7 @@ def test_wrong_words(text, capsys):
 def test_one_of_two_machines(file, tmp_path, monkeypatch, capsys, is_mounted, left, told, status):
     """The other one is told by the volume; a change that nginx didn't read either keeps its own status."""
     monkeypatch.setattr(token, "SETTINGS", tmp_path)
-    monkeypatch.setattr(token, "read_settings", lambda: Settings(tokens=str(file)))
+    monkeypatch.setattr(token, "read_settings", lambda: StandbySettings(tokens=str(file)))
     monkeypatch.setattr(token.Half, "is_mounted", lambda it: is_mounted)
 
     def leave(half, tokens):
@@ -504,5 +504,5 @@ def test_on_one_machine_alone_nothing_is_left(file, tmp_path, monkeypatch):
     monkeypatch.setattr(token.Half, "is_mounted", lambda it: True)
     for settings, tokens in ((tmp_path / "none", file), (tmp_path, tmp_path / "other.conf")):
         monkeypatch.setattr(token, "SETTINGS", settings)
-        monkeypatch.setattr(token, "read_settings", lambda tokens=tokens: Settings(tokens=str(tokens)))
+        monkeypatch.setattr(token, "read_settings", lambda tokens=tokens: StandbySettings(tokens=str(tokens)))
         assert token.left_to_the_other(file, seats()) is None

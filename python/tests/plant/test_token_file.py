@@ -2,12 +2,15 @@
 
 import os
 import re
+import stat
 from dataclasses import replace
 from pathlib import Path
+from types import SimpleNamespace
 
 import pytest
 from conftest import DEPLOY
-from wanekupo.common.token_file import PREFIX, Outer, Seat, TokenError, Tokens, is_past, later_than, living, mark_of, read, text_of
+from wanekupo.common import token_file
+from wanekupo.common.token_file import PREFIX, Outer, TokenSeat, TokenError, Tokens, is_past, later_than, living, mark_of, read, text_of
 from wanekupo.common.token_file import tokens_of as parsed
 
 CONF = (DEPLOY / "nginx.conf").read_text(encoding="utf-8")
@@ -78,7 +81,7 @@ def outer(number, seat, **more):
 def sample():
     """Two seats of two customers: one that may all, one that looks, one that ends, one that has ended, certificates."""
     tokens = Tokens()
-    tokens.seats = {"a1": Seat("a1", "acme", "inner-of-a1"), "b1": Seat("b1", "bolt", "inner-of-b1", "127.0.0.1:881")}
+    tokens.seats = {"a1": TokenSeat("a1", "acme", "inner-of-a1"), "b1": TokenSeat("b1", "bolt", "inner-of-b1", "127.0.0.1:881")}
     tokens.outers = [
         outer(1, "a1"),
         outer(2, "a1", looks=True),
@@ -194,3 +197,33 @@ def test_a_file_of_others_isnt_read(tmp_path):
     link.symlink_to(path)
     with pytest.raises(TokenError, match="is a link"):
         read(link)
+
+
+@pytest.mark.parametrize("record", [5000 * "[", "[]", "5", '"a"', "{}", '{"number": 1}', "null"])
+def test_a_record_that_is_none_is_told_in_a_sentence(record):
+    with pytest.raises(TokenError, match="^f isn't what token writes"):
+        parsed(f"#: {record}\n", Path("f"))
+
+
+# The owner and the mode of a folder, and whether a token may be made in it: by root, and by the user 7.
+FOLDERS = [(0, 0o700, 0, True), (0, 0o755, 0, True), (0, 0o1777, 0, True), (0, 0o777, 0, False), (0, 0o775, 0, False),
+           (7, 0o700, 0, False), (7, 0o1777, 0, False), (7, 0o700, 7, True), (8, 0o755, 7, False)]  # fmt: skip
+
+
+@pytest.mark.parametrize("owner, mode, own, is_fit", FOLDERS)
+def test_a_token_lies_where_nobody_else_replaces_it(tmp_path, monkeypatch, owner, mode, own, is_fit):
+    monkeypatch.setattr(token_file, "opened", lambda folder: os.open(folder, os.O_RDONLY))
+    found = SimpleNamespace(st_uid=owner, st_mode=stat.S_IFDIR | mode)
+    monkeypatch.setattr(token_file, "os", SimpleNamespace(**{**vars(os), "fstat": lambda handle: found,
+                                                             "geteuid": lambda: own}))  # fmt: skip
+    if is_fit:
+        token_file.check_folder(tmp_path)
+    else:
+        with pytest.raises(TokenError, match="another user's, or others may write it"):
+            token_file.check_folder(tmp_path)
+
+
+def test_no_link_leads_to_a_tokens_folder(tmp_path):
+    (tmp_path / "link").symlink_to(tmp_path)
+    with pytest.raises(TokenError, match="is a link, or no folder"):
+        token_file.check_folder(tmp_path / "link")

@@ -3,11 +3,11 @@
 import tomllib
 
 import pytest
-from wanekupo.common.token_file import Seat, TokenError
+from wanekupo.common.token_file import TokenSeat, TokenError
 from wanekupo.common.site_file import digest_of, digests_of, grown, is_in, lines_of
 
 ABC = "ba7816bf8f01cfea414140de5dae2223b00361a396177a9cb410ff61f20015ad"
-A2 = Seat("a2", "acme", "abc")
+A2 = TokenSeat("a2", "acme", "abc")
 BOTH = """# two customers
 [[customer]]
 name = "acme"   # the first
@@ -28,7 +28,7 @@ name = 'bolt'
 def test_digest():
     assert digest_of("abc") == ABC
     assert lines_of(A2) == f'[[customer.seat]]\nname = "a2"\ntoken = "{ABC}"\n'
-    assert lines_of(Seat("@manager", "@manager", "abc")) == f'[manager]\ntoken = "{ABC}"\n'
+    assert lines_of(TokenSeat("@manager", "@manager", "abc")) == f'[manager]\ntoken = "{ABC}"\n'
 
 
 def test_digests_of_a_site():
@@ -41,13 +41,13 @@ def test_digests_of_a_site():
 
 
 IN = [
-    (Seat("a1", "acme", "abc"), {"a1": ("acme", ABC)}, True),
-    (Seat("a1", "bolt", "abc"), {"a1": ("acme", ABC)}, False),
-    (Seat("a1", "acme", "abd"), {"a1": ("acme", ABC)}, False),
-    (Seat("a2", "acme", "abc"), {"a1": ("acme", ABC)}, False),
-    (Seat("@manager", "@manager", "abc"), {"@manager": ("@manager", ABC)}, True),
-    (Seat("@second", "@second", "abc"), {"@manager": ("@manager", ABC)}, True),
-    (Seat("@manager", "@manager", "abc"), {}, False),
+    (TokenSeat("a1", "acme", "abc"), {"a1": ("acme", ABC)}, True),
+    (TokenSeat("a1", "bolt", "abc"), {"a1": ("acme", ABC)}, False),
+    (TokenSeat("a1", "acme", "abd"), {"a1": ("acme", ABC)}, False),
+    (TokenSeat("a2", "acme", "abc"), {"a1": ("acme", ABC)}, False),
+    (TokenSeat("@manager", "@manager", "abc"), {"@manager": ("@manager", ABC)}, True),
+    (TokenSeat("@second", "@second", "abc"), {"@manager": ("@manager", ABC)}, True),
+    (TokenSeat("@manager", "@manager", "abc"), {}, False),
 ]
 
 
@@ -72,18 +72,18 @@ SITES = [
 def test_a_seat_more_and_nothing_else(site, customer, place):
     wanted = tomllib.loads(site)
     wanted["customer"][place].setdefault("seat", []).append({"name": "a2", "token": ABC})
-    assert tomllib.loads(grown(site, Seat("a2", customer, "abc"), "f")) == wanted
+    assert tomllib.loads(grown(site, TokenSeat("a2", customer, "abc"), "f")) == wanted
 
 
 def test_a_manager_more():
-    assert tomllib.loads(grown(BOTH, Seat("@manager", "@manager", "abc"), "f"))["manager"] == {"token": ABC}
+    assert tomllib.loads(grown(BOTH, TokenSeat("@manager", "@manager", "abc"), "f"))["manager"] == {"token": ABC}
 
 
 NOWHERE = [
-    (BOTH, Seat("c1", "cole", "abc"), "has no customer cole"),
+    (BOTH, TokenSeat("c1", "cole", "abc"), "has no customer cole"),
     ('customer = [{name = "acme", issuer = []}]\n', A2, "there is no place"),
     ("customer =", A2, "f: "),
-    (BOTH + '[manager]\ntoken = "x"\n', Seat("@manager", "@manager", "abc"), "there is no place"),
+    (BOTH + '[manager]\ntoken = "x"\n', TokenSeat("@manager", "@manager", "abc"), "there is no place"),
 ]
 
 
@@ -91,3 +91,15 @@ NOWHERE = [
 def test_no_place_that_is_sure(site, seat, told):
     with pytest.raises(TokenError, match=told):
         grown(site, seat, "f")
+
+
+DEEP = "x = " + 5000 * "[" + 5000 * "]" + "\n"
+NO_SITES = [DEEP, "x = " + 5000 * "9" + "\n", "customer = 1\n", "customer = [1]\n", 'customer = ["a"]\n',
+            '[[customer]]\nname = "acme"\nseat = 5\n', '[[customer]]\nseat = [{name = "a1", token = 5}]\n',
+            "manager = 5\n", "[manager]\ntoken = 5\n"]  # fmt: skip
+
+
+@pytest.mark.parametrize("text", NO_SITES, ids=lambda text: text[:30])
+def test_what_is_no_site_is_told_in_a_sentence(text):
+    with pytest.raises(TokenError, match="^site.toml"):
+        digests_of(text, "site.toml")

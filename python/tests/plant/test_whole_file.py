@@ -4,7 +4,7 @@ import os
 import stat
 
 import pytest
-from wanekupo.common.whole_file import held, make_file, put_whole
+from wanekupo.common.whole_file import held, make_file, opened_lock, put_whole
 
 
 def mode_of(path):
@@ -13,8 +13,9 @@ def mode_of(path):
 
 def test_a_new_file_is_its_owners_alone_and_replaces_nothing(tmp_path):
     path = tmp_path / "new"
-    os.umask(0)
+    before = os.umask(0)
     make_file(path, "ä\n")
+    os.umask(before)
     assert path.read_bytes() == b"\xc3\xa4\n" and mode_of(path) == 0o600
     with pytest.raises(FileExistsError):
         make_file(path, "other")
@@ -94,3 +95,18 @@ def test_one_run_has_the_lock(tmp_path):
     (tmp_path / "link").symlink_to(lock)
     with pytest.raises(OSError), held(tmp_path / "link", BusyError("busy")):
         pass
+
+
+def test_a_lock_is_a_plain_file(tmp_path):
+    """A pipe, a link or a folder in its place holds nobody up, and is opened by nobody."""
+    os.mkfifo(tmp_path / "pipe")
+    (tmp_path / "folder").mkdir()
+    (tmp_path / "link").symlink_to(tmp_path / "elsewhere")
+    for name in ("pipe", "folder", "link"):
+        with pytest.raises(OSError):
+            opened_lock(tmp_path / name)
+    with pytest.raises(FileNotFoundError):
+        opened_lock(tmp_path / "none", is_made=False)
+    os.close(opened_lock(tmp_path / "lock"))
+    os.close(opened_lock(tmp_path / "lock", is_made=False))
+    assert {it.name for it in tmp_path.iterdir()} == {"pipe", "folder", "link", "lock"}

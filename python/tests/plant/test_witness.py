@@ -9,7 +9,7 @@ from types import SimpleNamespace
 import pytest
 from conftest import TOP
 from wanekupo.standby import witness
-from wanekupo.standby.half import Refused
+from wanekupo.standby.half import StandbyError
 from wanekupo.standby.look import SEAT, numbers_of
 from wanekupo.standby.needs import secret_faults
 from wanekupo.standby.witness import Reply, compare, gathered
@@ -56,14 +56,14 @@ def test_compare_passes(store, witness):
 
 @pytest.mark.parametrize("store, witness, why, told", REFUSED)
 def test_compare_refuses(store, witness, why, told):
-    with pytest.raises(Refused) as refused:
+    with pytest.raises(StandbyError) as refused:
         compare(store, replies(witness))
     assert str(refused.value).startswith(why) and told in str(refused.value)
 
 
 def test_seats_of_the_site_count_as_zero():
     assert numbers_of("seat a1 17\nseat b1 3\n", ["a1", "a5"]) == {"a1": 17, "a5": 0, "b1": 3}
-    with pytest.raises(Refused):
+    with pytest.raises(StandbyError):
         compare(numbers_of("seat a1 17\n", ["a1", "a5"]), replies({"a1": 17}))
 
 
@@ -134,7 +134,7 @@ def test_a_part_has_its_own_seats_alone(tmp_path, monkeypatch, parts, told, is_c
         words.append((f"{owner}=" if owner else "") + (f"cat {file}" if is_command else str(file)))
     given = ([], words) if is_command else (words, [])
     if told:
-        with pytest.raises(Refused) as refused:
+        with pytest.raises(StandbyError) as refused:
             gathered(*given, None, table)
         assert told in str(refused.value).replace("`", "")
     else:
@@ -162,7 +162,7 @@ def test_a_table_that_is_none(tmp_path, monkeypatch, user, mode, text, told):
     table.write_text(text)
     found = SimpleNamespace(st_uid=user, st_mode=mode)
     monkeypatch.setattr(witness, "os", SimpleNamespace(stat=lambda path: found))
-    with pytest.raises(Refused, match=told):
+    with pytest.raises(StandbyError, match=told):
         gathered([], [], None, table)
 
 
@@ -190,7 +190,7 @@ WRONG = [
 
 @pytest.mark.parametrize("text, told", WRONG)
 def test_no_witness(text, told):
-    with pytest.raises(Refused) as refused:
+    with pytest.raises(StandbyError) as refused:
         witness_of(text, "w", NOW.replace(microsecond=0))
     assert told in str(refused.value)
 
@@ -205,7 +205,7 @@ COMMANDS = [
 
 @pytest.mark.parametrize("command, told", COMMANDS)
 def test_a_command_that_gives_no_witness(command, told):
-    with pytest.raises(Refused) as refused:
+    with pytest.raises(StandbyError) as refused:
         gathered([], [command], None)
     assert command in str(refused.value) and told in str(refused.value) and len(str(refused.value)) < 1000
 

@@ -17,13 +17,13 @@ from dataclasses import replace
 from pathlib import Path
 from typing import Callable, Iterator, Mapping, Optional, TypeVar
 
-from wanekupo.bench.board import MOST_LAST, PASSED, WORKING, Board, Shift, Socket, begun_socket, ended_socket, in_common
+from wanekupo.bench.board import MOST_LAST, PASSED, WORKING, Board, ShiftCounts, Socket, begun_socket, ended_socket, in_common
 from wanekupo.bench.old_folders import clear_old
 from wanekupo.seat.settings import Settings, changed, looking_station_of, station_of
 from wanekupo.bench.endings import STOP, Ended, ended_by
 from wanekupo.common.errors import BadSettings
 from wanekupo.chips.espefuse import KeyFile
-from wanekupo.bench.bench_files import Kept, now_text
+from wanekupo.bench.bench_files import BenchFiles, now_text
 from wanekupo.bench.life import Life, steps_of
 from wanekupo.bench.page import Page
 from wanekupo.bench.parts import part_of
@@ -65,7 +65,7 @@ APART = re.compile(r"[\s,;|/]+")
 class Bench:
     """A recipe's sockets over one seat. `spool` is where requests for certificates are kept."""
 
-    def __init__(self, recipe: Recipe, station: Station, kept: Kept, url: str, spool: Optional[Path]):
+    def __init__(self, recipe: Recipe, station: Station, kept: BenchFiles, url: str, spool: Optional[Path]):
         self.recipe, self.kept, self.spool, self._url = recipe, kept, spool, url
         sockets = [_found_in(name, kept) for name in recipe.sockets]
         if kept.operator():
@@ -305,7 +305,7 @@ class Bench:
 
     def new_shift(self) -> None:
         with self._counting, self._on_disk():
-            shift, last = Shift(now_text()), self.kept.shift()
+            shift, last = ShiftCounts(now_text()), self.kept.shift()
             counts = {"passed": last.passed, "first": last.first, "failed": dict(last.failed)}
             self.kept.log({"shift": shift.since, "ended": {"since": last.since, **counts}})
             self.kept.counted(shift)
@@ -343,7 +343,7 @@ class Bench:
             self.board.notice(ended.ending.sentence(**ended.facts))
 
 
-def _found_in(name: str, kept: Kept) -> Socket:
+def _found_in(name: str, kept: BenchFiles) -> Socket:
     """What a socket shows at a start. Nobody knows what is in it by now, so none is green before it is read."""
     begun = [chip for chip, it in kept.under_way().items() if it["socket"] == name]
     if begun:
@@ -388,7 +388,7 @@ def main(settings: Settings, arguments: argparse.Namespace) -> int:
     port = recipe.page if arguments.port is None else arguments.port
     has_page = not arguments.no_page and (arguments.port is not None or recipe.page > 0)
     with contextlib.ExitStack() as stack:
-        kept = stack.enter_context(contextlib.closing(Kept(recipe.folder or Path(f"{settings.state}.bench"))))
+        kept = stack.enter_context(contextlib.closing(BenchFiles(recipe.folder or Path(f"{settings.state}.bench"))))
         if arguments.clear_folders:
             return clear_old(kept, stack.enter_context(looking_station_of(settings)))
         tell: list[Callable[[str], None]] = []

@@ -21,7 +21,7 @@ from dataclasses import asdict
 from pathlib import Path
 from typing import Any, Iterator, Mapping, Optional
 
-from wanekupo.bench.board import FAILED, PASSED, Before, Failure, Shift, Socket, state_of
+from wanekupo.bench.board import FAILED, PASSED, Before, Failure, ShiftCounts, Socket, state_of
 from wanekupo.bench.endings import ENDINGS, NO_LABEL, Ended
 from wanekupo.common.errors import BadStateFile
 from wanekupo.common.files import locked, opened_lock, opened_own, removed_folder, replace_file, synced_folder, tested_folder
@@ -39,7 +39,7 @@ def now_text() -> str:
     return time.strftime("%Y-%m-%dT%H:%M:%SZ", time.gmtime())
 
 
-class Kept:
+class BenchFiles:
     """The files of one bench's folder."""
 
     def __init__(self, folder: Path):
@@ -52,7 +52,7 @@ class Kept:
         except OSError as error:
             self.close()
             raise BadStateFile(f"{folder} is another bench's", "End that one, or have another folder.") from error
-        shift = asdict(Shift(now_text()))
+        shift = asdict(ShiftCounts(now_text()))
         nothing: dict[str, Any] = {"before": {}, "last": {}, "map": "", "under_way": {}, "going": [], "operator": ""}
         self._data: dict[str, Any] = {**nothing, "shift": shift}
         try:
@@ -102,7 +102,7 @@ class Kept:
             begun = {**chips, chip: {"socket": socket, "step": step, "since": since}}
             self._keep(under_way=begun, going=[it for it in self._going("") if it != chip])
 
-    def ended(self, last: Socket, ended: Ended, goes: bool = False) -> Shift:
+    def ended(self, last: Socket, ended: Ended, goes: bool = False) -> ShiftCounts:
         """A chip has ended so in a socket: the counts with it. One that may come again stays under way, and of one that
         `goes` the folder is to go."""
         with self._turn:
@@ -138,7 +138,7 @@ class Kept:
     def _without(self, chip: str) -> dict[str, Any]:
         return {name: it for name, it in self._data["before"].items() if name != chip}
 
-    def counted(self, shift: Shift) -> None:
+    def counted(self, shift: ShiftCounts) -> None:
         """The counts are others, as of a new shift."""
         with self._turn:
             self._keep(shift=asdict(shift))
@@ -162,11 +162,11 @@ class Kept:
                 self._keep(under_way=chips, going=self._going(chip if goes else ""))
             return is_there
 
-    def shift(self) -> Shift:
+    def shift(self) -> ShiftCounts:
         with self._turn:
             found = self._data["shift"]
             row = tuple(Failure(**it) for it in found["row"])
-            return Shift(found["since"], int(found["passed"]), dict(found["failed"]), row, int(found.get("first", 0)))
+            return ShiftCounts(found["since"], int(found["passed"]), dict(found["failed"]), row, int(found.get("first", 0)))
 
     # Who works here, by the badge that was scanned last.
 

@@ -75,7 +75,7 @@ class Before:
 
 
 @dataclass(frozen=True)
-class Shift:
+class ShiftCounts:
     """The counts of a shift, of chips and not of stays: since when, how many passed, how many failed by the reasons of
     their last stays, the last ones that failed with none between that passed, and how many passed at first."""
 
@@ -85,7 +85,7 @@ class Shift:
     row: tuple[Failure, ...] = ()
     first: int = 0
 
-    def with_ending(self, ended: Ended, last: Socket, before: Optional[Before]) -> Shift:
+    def with_ending(self, ended: Ended, last: Socket, before: Optional[Before]) -> ShiftCounts:
         """The counts behind one stay more. A chip that failed before counts anew, by this stay. One that is shipped and
         has no label has passed, and doesn't pass again with its label."""
         ending, failed, row = ended.ending, Counter(self.failed), self.row
@@ -100,7 +100,7 @@ class Shift:
             row = (*others, Failure(last.step, ending.name, last.name, last.chip))
         row = () if ending.name == "passed" else row
         first = self.first + (is_new and not before)
-        return Shift(self.since, self.passed + is_new, dict(+failed), row, first)
+        return ShiftCounts(self.since, self.passed + is_new, dict(+failed), row, first)
 
 
 def state_of(ending: Ending) -> str:
@@ -144,7 +144,7 @@ class Board:
         order: str,
         sockets: Sequence[Socket],
         start: str,
-        shift: Shift,
+        shift: ShiftCounts,
         steps: Sequence[str] = (),
         operator: str = "",
         last: Sequence[Socket] = (),
@@ -208,7 +208,7 @@ class Board:
         """Who works here from now on."""
         self._set(operator=operator)
 
-    def counted(self, shift: Shift) -> None:
+    def counted(self, shift: ShiftCounts) -> None:
         self._set(shift=shift)
 
     def left(self, rest: int) -> None:

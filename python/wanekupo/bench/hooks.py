@@ -18,7 +18,7 @@ from pathlib import Path
 from typing import IO, Callable, Mapping, Optional
 
 from wanekupo.bench.endings import Ended
-from wanekupo.bench.recipe import Command
+from wanekupo.bench.recipe import RecipeCommand
 from wanekupo.common.texts import shown, without_secrets
 
 # What of a hook's output is kept in the log, and what of its last line comes on a screen.
@@ -26,7 +26,7 @@ KEPT_OUTPUT, SHOWN_OUTPUT = 1 << 16, 120
 
 
 @dataclass(frozen=True)
-class Done:
+class HookResult:
     """What a hook did: its status, None where its time was out, how long it took, and what it printed."""
 
     name: str
@@ -35,7 +35,7 @@ class Done:
     output: str
 
 
-def run_hook(command: Command, facts: Mapping[str, str], here: Path, log: Callable[[Done], None]) -> None:
+def run_hook(command: RecipeCommand, facts: Mapping[str, str], here: Path, log: Callable[[HookResult], None]) -> None:
     """Runs a command in the recipe's folder with the facts in its environment, and has its output kept. Raises how it
     failed. What it leaves running is ended."""
     begun = time.monotonic()
@@ -55,7 +55,7 @@ def run_hook(command: Command, facts: Mapping[str, str], here: Path, log: Callab
         status = _waited(process, command.timeout)
         said = _output(output)
     kept = without_secrets(said, (facts.get("KEY_SHA256", ""),))
-    log(Done(command.name, status, round(time.monotonic() - begun, 3), kept))
+    log(HookResult(command.name, status, round(time.monotonic() - begun, 3), kept))
     if status is None:
         raise Ended("hook_late", hook=command.name, detail=f"more than {command.timeout:g} seconds")
     if status:

@@ -16,12 +16,12 @@ from wanekupo.bench.endings import REFUSALS, Ended, ended_by
 from wanekupo.common.errors import Refused, StationError
 from wanekupo.chips.espefuse import KeyFile, wishes_of
 from wanekupo.chips.families import Blocks, Told, family_of
-from wanekupo.bench.hooks import Done, run_hook
-from wanekupo.bench.bench_files import Kept, synced_files
+from wanekupo.bench.hooks import HookResult, run_hook
+from wanekupo.bench.bench_files import BenchFiles, synced_files
 from wanekupo.seat.keys import keep_csr, public_key_of
 from wanekupo.seat.records import addresses_of
 from wanekupo.bench.parts import Part
-from wanekupo.bench.recipe import Command, Recipe, Wish
+from wanekupo.bench.recipe import RecipeCommand, Recipe, Wish
 from wanekupo.chips.layout import Layout, Place, places_of, wanted_of
 from wanekupo.chips.work import Work
 from wanekupo.seat.replies import Device, Identity, Order, Verdict
@@ -63,11 +63,11 @@ def steps_of(recipe: Recipe) -> list[str]:
     return ["read", "look", "register", *keys, "plan", *burning, *identity, *before, "ship", *label]
 
 
-class Line(Protocol):
+class LifeBench(Protocol):
     """What a life has of its bench."""
 
     recipe: Recipe
-    kept: Kept
+    kept: BenchFiles
     spool: Optional[Path]
     supply: Supply
 
@@ -85,7 +85,7 @@ class Line(Protocol):
 class Life:
     """One stay of a chip in a socket. `keys` are those that `part` burns, by the names of their fields."""
 
-    def __init__(self, line: Line, socket: str, part: Part, keys: dict[str, KeyFile]):
+    def __init__(self, line: LifeBench, socket: str, part: Part, keys: dict[str, KeyFile]):
         self.line, self.socket, self.part, self.keys = line, socket, part, keys
         self.chip = self.serial = self.step = ""
         self._blocks = Told([], "")
@@ -293,7 +293,7 @@ class Life:
             if is_known and known[wish.field] != digest:
                 raise Ended("lost_key", detail=f"{file} is another one")
 
-    def _make_key(self, wish: Wish, command: Command, file: Path) -> None:
+    def _make_key(self, wish: Wish, command: RecipeCommand, file: Path) -> None:
         """Has a key made, whose bytes are in a synced file of its own before its plan is sent."""
         self._at(f"key of {wish.field}")
         new = file.with_suffix(".new")
@@ -358,12 +358,12 @@ class Life:
         told = {"SERIAL": record.serial, "KEY_SHA256": record.key_sha256}
         return {**told, "MAC": record.mac or "", "MACS": " ".join(macs)}
 
-    def _run(self, command: Command, facts: Mapping[str, str]) -> None:
+    def _run(self, command: RecipeCommand, facts: Mapping[str, str]) -> None:
         own = {"CHIP": self.chip, "ORDER": self.line.recipe.order, "SOCKET": self.socket}
         folder = {"FOLDER": str(self.line.kept.folder_of(self.chip))}
         run_hook(command, {**own, **folder, **facts}, self.line.recipe.file.parent, self._log)
 
-    def _log(self, done: Done) -> None:
+    def _log(self, done: HookResult) -> None:
         told = {"hook": done.name, "chip": self.chip, "serial": self.serial, "socket": self.socket}
         self.line.kept.log({**told, "status": done.status, "seconds": done.seconds, "output": done.output})
 

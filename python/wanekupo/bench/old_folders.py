@@ -7,7 +7,7 @@ from __future__ import annotations
 
 import sys
 
-from wanekupo.bench.bench_files import Kept
+from wanekupo.bench.bench_files import BenchFiles
 from wanekupo.common.printing import say
 from wanekupo.seat.station import Station
 
@@ -15,7 +15,7 @@ DONE = 0
 GONE = ("shipped", "scrapped")
 
 
-def clear_old(kept: Kept, station: Station) -> int:
+def clear_old(kept: BenchFiles, station: Station) -> int:
     """Asks, and removes the folders."""
     begun = kept.under_way()
     known = {chip: station.find_device(chip) for chip in kept.chips() if chip not in begun}

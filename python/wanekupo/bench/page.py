@@ -53,7 +53,7 @@ class Handler(http.server.BaseHTTPRequestHandler):
     protocol_version = "HTTP/1.1"
     server_version, sys_version = "wanekupo", ""
     timeout = 60
-    server: Server
+    server: PageServer
 
     def do_GET(self) -> None:
         path, _, query = self.path.partition("?")
@@ -93,7 +93,9 @@ class Handler(http.server.BaseHTTPRequestHandler):
         """Whether the browser took this machine for what it asks, and asks for a page from here."""
         origin = self.headers.get("Origin")
         hosts = [f"{name}:{self.server.server_address[1]}" for name in (HOST, "localhost")]
-        return self.headers.get("Host") in hosts and origin in (None, *(f"http://{it}" for it in hosts))
+        named = self.headers.get_all("Host", [])
+        is_here = len(named) == 1 and named[0] in hosts
+        return is_here and origin in (None, *(f"http://{it}" for it in hosts))
 
     def _told(self) -> tuple[int, dict[Any, Any]]:
         """The status of a POST and what it says: 403 where another page could send it without asking."""
@@ -126,7 +128,7 @@ class Handler(http.server.BaseHTTPRequestHandler):
         """The terminal is the screen's."""
 
 
-class Server(http.server.ThreadingHTTPServer):
+class PageServer(http.server.ThreadingHTTPServer):
     """Listens on this machine alone."""
 
     daemon_threads = True
@@ -159,7 +161,7 @@ class Page:
 
     def __init__(self, bench: Bench, port: int):
         try:
-            self._server = Server(bench, port)
+            self._server = PageServer(bench, port)
         except OSError as error:
             told = "End the other program, or give another --port."
             raise BadSettings(f"the port {port} of the page can't be had ({error.strerror})", told) from error

@@ -15,7 +15,7 @@ from wanekupo.chips.work import Work
 NO_FUSES, LONGEST_NAME = "none", 30
 
 
-class Named:
+class NamedPart:
     """A part without fuses. Its socket's command prints the name: 12 hexadecimal digits, as an address or a number."""
 
     def __init__(self, tool: Sequence[str]):
@@ -37,9 +37,9 @@ class Named:
         raise Ended("bad_wish", detail="a part without fuses has none to burn")
 
 
-Part = Union[Espefuse, Named]
+Part = Union[Espefuse, NamedPart]
 
 
 def part_of(tool: Sequence[str], keys: Mapping[str, KeyFile], family: str) -> Part:
     """What is behind a socket's command."""
-    return Named(tool) if family == NO_FUSES else Espefuse(tool, keys, family_of(family))
+    return NamedPart(tool) if family == NO_FUSES else Espefuse(tool, keys, family_of(family))

@@ -43,7 +43,7 @@ class BadRecipe(StationError):
 
 
 @dataclass(frozen=True)
-class Command:
+class RecipeCommand:
     """A command of the recipe's, and how many seconds it may take."""
 
     name: str
@@ -60,7 +60,7 @@ class Wish:
     index: int = 0
     value: str = ""
     file: Optional[Path] = None
-    command: Optional[Command] = None
+    command: Optional[RecipeCommand] = None
     burnt_as: str = ""
 
     def asked(self) -> dict[str, Any]:
@@ -96,7 +96,7 @@ class Recipe:
     family: str
     sockets: Mapping[str, tuple[str, ...]]
     wishes: tuple[Wish, ...] = ()
-    hooks: Mapping[str, Command] = field(default_factory=dict)
+    hooks: Mapping[str, RecipeCommand] = field(default_factory=dict)
     server: Mapping[str, Any] = field(default_factory=dict)
     lost_in_a_row: int = 3
     start: str = "key"
@@ -217,11 +217,11 @@ def _words(found: Any, where: str, here: Path) -> tuple[str, ...]:
     return (first, *found[1:])
 
 
-def _command(name: str, table: Any, here: Path, longest: float) -> Command:
+def _command(name: str, table: Any, here: Path, longest: float) -> RecipeCommand:
     if not isinstance(table, dict):
         raise ValueError(f"the hook {name} is no table, as {{ command = [..], timeout = 20 }}")
     _known(table, ("command", "timeout"), f"the hook {name}")
-    return Command(name, _words(table.get("command"), f"the hook {name}", here), _seconds(table, longest, name))
+    return RecipeCommand(name, _words(table.get("command"), f"the hook {name}", here), _seconds(table, longest, name))
 
 
 def _seconds(table: Mapping[str, Any], longest: float, where: str) -> float:
@@ -287,4 +287,4 @@ def _wish(table: Mapping[str, Any], where: str, here: Path) -> Wish:
         return made(file=here / _text(table, "file", where), burnt_as=burnt_as)
     timeout = _seconds(table, LONGEST_HOOK, where)
     words = _words(table["command"], f"the command of {where}", here)
-    return made(command=Command(f"key of {table['field']}", words, timeout), burnt_as=burnt_as)
+    return made(command=RecipeCommand(f"key of {table['field']}", words, timeout), burnt_as=burnt_as)

@@ -12,7 +12,7 @@ from typing import Callable, Optional, Protocol, Sequence, TypeVar
 
 from wanekupo.bench.board import WORKING, Board
 from wanekupo.bench.endings import STOP, ended_by
-from wanekupo.bench.bench_files import Kept
+from wanekupo.bench.bench_files import BenchFiles
 from wanekupo.bench.questions import NO, Questions
 from wanekupo.bench.recipe import Recipe
 from wanekupo.seat.replies import Device
@@ -27,11 +27,11 @@ Made = TypeVar("Made")
 UNKNOWN = "unknown"
 
 
-class Line(Protocol):
+class ScrapBench(Protocol):
     """What scrapping has of its bench."""
 
     recipe: Recipe
-    kept: Kept
+    kept: BenchFiles
     board: Board
     questions: Questions
 
@@ -51,7 +51,7 @@ def chip_named(text: str) -> Optional[str]:
 class Scrapping:
     """One chip at a time: its name, a question, and an answer."""
 
-    def __init__(self, line: Line):
+    def __init__(self, line: ScrapBench):
         self._line, self._looked_at = line, ""
 
     def begin(self, words: Sequence[str]) -> None:

@@ -38,7 +38,7 @@ FEW, LONGEST = 4, 1.0
 
 
 @dataclass(frozen=True)
-class Counts:
+class OrderSupply:
     """What a report has of an order: its serial numbers left, and its devices that are to get one."""
 
     left: int
@@ -54,7 +54,7 @@ class Supply:
 
     def __init__(
         self,
-        ask: Callable[[Callable[[Station], tuple[Counts, float]]], tuple[Counts, float]],
+        ask: Callable[[Callable[[Station], tuple[OrderSupply, float]]], tuple[OrderSupply, float]],
         order: str,
         shown: Callable[[int], None],
         leaving: threading.Event,
@@ -64,7 +64,7 @@ class Supply:
         self._left = self._free = self._begun = 0
         self._at = time.monotonic()
 
-    def look(self) -> Counts:
+    def look(self) -> OrderSupply:
         """Asks for the report. Nobody here registers a chip meanwhile, so that it is in the report or counts behind."""
         with self._turn:
             found, self._at = self._ask(self._looked)
@@ -72,11 +72,11 @@ class Supply:
             self._shown(found.left)
             return found
 
-    def _looked(self, station: Station) -> tuple[Counts, float]:
+    def _looked(self, station: Station) -> tuple[OrderSupply, float]:
         at = time.monotonic()
         try:
             row = station.report()[self._order]
-            return Counts(row["serials_left"], row["registered"], row["planned"] + row["settled"]), at
+            return OrderSupply(row["serials_left"], row["registered"], row["planned"] + row["settled"]), at
         except (KeyError, ValueError, StopIteration) as error:
             raise NotTheServer(f"a report without the order {self._order}") from error
 
@@ -134,6 +134,6 @@ class Supply:
             raise Leaving
 
 
-def _none_for(found: Counts) -> Ended:
+def _none_for(found: OrderSupply) -> Ended:
     """Why a chip isn't registered: to scrap the red box helps only where a number is left."""
     return Ended("order_full" if found.left else "used_up")

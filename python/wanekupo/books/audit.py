@@ -17,7 +17,7 @@ from wanekupo.books.once import twice
 from wanekupo.books.papers import given_twice, papers, repeated, unasked
 from wanekupo.books.shift import Period
 from wanekupo.books.steps import Book, Step
-from wanekupo.books.store_rows import Books, Entry, Life
+from wanekupo.books.store_rows import Books, LedgerRow, StoredChip
 from wanekupo.books.verdicts import Chip, asked_faults
 
 
@@ -153,7 +153,7 @@ class Laid:
             yield Found(kind, step.at, it.customer, it.seat, it.chip, _told(it, f"{told} ({step.place()})"))
 
 
-def _left_of(entry: Entry) -> Left:
+def _left_of(entry: LedgerRow) -> Left:
     row = entry.row
     words = (sys.intern(row["event"]), row["note"], sys.intern(row["seat"]))
     return Left(entry.id, sys.intern(entry.customer), entry.chip, row["n"], *words)
@@ -231,7 +231,7 @@ def _journal_faults(journals: Iterable[Seated], store: Books) -> Iterator[Found]
         for fault in it.book.faults:
             yield Found("journal", fault.at, it.customer, it.seat, "", f"{fault.place()} {fault.told}")
         is_bare = not any(map(Step.is_done, it.book.steps))  # a seat that was only refused has no row
-        if it.seat in store.seats or not it.book.times and not it.book.faults:
+        if it.seat in store.seats or not it.book.times and not any(fault.line for fault in it.book.faults):
             continue
         if not is_bare or it.seat not in store.site_seats:
             told = f"{it.book.files[0]} is of a seat that the store doesn't have"
@@ -257,7 +257,7 @@ def _clock_faults(journals: Iterable[Seated], pairs: list[Timed], period: Period
             yield Found("clock", first.step.at, own.customer, own.seat, first.step.chip, told)
 
 
-def _lines_of(life: Life, made: Matched) -> dict[int, Step]:
+def _lines_of(life: StoredChip, made: Matched) -> dict[int, Step]:
     """The lines of a chip's entries by the numbers of these. A line counts where it is surely its entry's: where there
     are as many of both, or no other entry says the same, and where no other one was asked under its number."""
     said = Counter((it.row["event"], it.row["note"]) for it in life.entries)
@@ -266,7 +266,7 @@ def _lines_of(life: Life, made: Matched) -> dict[int, Step]:
     return {row["n"]: step for row, step in pairs if is_whole or said[row["event"], row["note"]] == 1}
 
 
-def _contradictions(life: Life, lines: dict[int, Step], store: Books) -> Iterator[Found]:
+def _contradictions(life: StoredChip, lines: dict[int, Step], store: Books) -> Iterator[Found]:
     """What of a chip's device, ledger, records and lines says something else. Its entries were committed in their
     order."""
     states = {number: str(it.reply["state"]) for number, it in lines.items() if it.is_done() and "state" in it.reply}

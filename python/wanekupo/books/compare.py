@@ -31,7 +31,7 @@ NAMES = {
 
 
 @dataclass(frozen=True)
-class Difference:
+class RowDifference:
     """What a row isn't, in words: its kind, its key, and what differs."""
 
     kind: str
@@ -76,16 +76,16 @@ class Text:
         return parts_of(self.rows[key])[2]
 
 
-def differences(before: Text, after: Text) -> Iterator[Difference]:
+def differences(before: Text, after: Text) -> Iterator[RowDifference]:
     """What the later text can't be, row by row in the order of their keys, and what of it contradicts itself."""
     for key, line in before.rows.items():
         now = after.rows.get(key)
         if now is None:
-            yield Difference(*key, "is gone")
+            yield RowDifference(*key, "is gone")
         elif now != line:
             told = "; ".join(_changes(key, before, after))
             if told:
-                yield Difference(*key, told)
+                yield RowDifference(*key, told)
     yield from contradictions(after)
 
 
@@ -168,7 +168,7 @@ def _seat_changes(old: Members, new: Members) -> Iterator[str]:
         yield from _told(old, new, _changed(old, new))
 
 
-def contradictions(text: Text) -> Iterator[Difference]:
+def contradictions(text: Text) -> Iterator[RowDifference]:
     """What of a text contradicts itself: a device whose ledger or record says something else."""
     ledgers: dict[tuple[str, str], list[Members]] = {}
     records: dict[tuple[str, str], list[Members]] = {}
@@ -178,7 +178,7 @@ def contradictions(text: Text) -> Iterator[Difference]:
         elif kind == "record":
             members = text.members((kind, key))
             if members["chip"] is None:
-                yield Difference(kind, key, f"has the address {members['mac']}, and is of no chip")
+                yield RowDifference(kind, key, f"has the address {members['mac']}, and is of no chip")
                 continue
             records.setdefault((key[0], members["chip"]), []).append(members)
     for kind, key in text.rows:
@@ -186,8 +186,8 @@ def contradictions(text: Text) -> Iterator[Difference]:
             whose = key[0], key[1]
             device = text.members((kind, key))
             for told in faults_of(device, ledgers.pop(whose, []), records.pop(whose, [])):
-                yield Difference(kind, key, told)
+                yield RowDifference(kind, key, told)
     for whose in ledgers:
-        yield Difference("device", whose, "isn't there, though its ledger is")
+        yield RowDifference("device", whose, "isn't there, though its ledger is")
     for whose in records.keys() - ledgers.keys():
-        yield Difference("device", whose, "isn't there, though a record is of it")
+        yield RowDifference("device", whose, "isn't there, though a record is of it")

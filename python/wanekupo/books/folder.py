@@ -7,6 +7,8 @@ from __future__ import annotations
 
 import gzip
 import hashlib
+import io
+import os
 import re
 import zlib
 from dataclasses import dataclass, field
@@ -18,11 +20,15 @@ from wanekupo.books.compare import Text, contradictions, differences
 from wanekupo.books.shift import seconds_between
 from wanekupo.books.stamp import Service, is_near, moment_in, verified
 from wanekupo.common.errors import BadSettings
+from wanekupo.common.files import opened_plain
 from wanekupo.common.sentences import sentence_of
 from wanekupo.common.signing import CMS, MINISIG, BadSignature, beside, verify
 
 # By how many seconds daily seals may be apart: a day, and an hour.
 A_DAY = 25 * 3600
+
+# More bytes than a row has, and than the rows of a seal that a machine can compare.
+LONGEST_ROW, MOST_ROWS = 1 << 16, 2 << 30
 
 GZIP = b"\x1f\x8b"
 COMPRESSED = ".gz"
@@ -66,9 +72,12 @@ def _counted(number: int, what: str) -> str:
     return f"{number} {what}" if number == 1 else f"{number} {what}s"
 
 
-def rows_of(data: bytes, name: Path) -> Text:
+def rows_of(name: Path) -> Text:
     """The rows of a file of a seal, which may be compressed. A file in which no line is a row is another one."""
-    text = _text_of(_plain(data))
+    data = _bytes_of(name, MOST_ROWS)
+    if len(data) > MOST_ROWS:
+        raise BadSettings(f"{name} has more than {MOST_ROWS >> 20} MB of rows", "Look who wrote it.")
+    text = _text_of(data)
     if not text.rows:
         told = "is no file of rows" if text.bad else "has no row, so nothing can be compared"
         raise BadSettings(f"{name} {told}", "Name NUMBER.rows of a seal, or the copy of a store.")
@@ -80,12 +89,15 @@ def _text_of(data: bytes, known: Optional[Text] = None) -> Text:
     return Text.of(lines if lines[-1] else lines[:-1], known)
 
 
-def _plain(data: bytes) -> bytes:
-    """The bytes of a file of rows. What is compressed and damaged stays as it is."""
+def _bytes_of(file: Path, most: int) -> bytes:
+    """The bytes of a plain file of rows, of more than so many one more. What is compressed and damaged stays as it is:
+    a few bytes of it may be any number."""
+    with open(opened_plain(file, os.O_RDONLY, follows_links=True), "rb") as source:
+        data = source.read(most + 1)
     if not data.startswith(GZIP):
         return data
     try:
-        return gzip.decompress(data)
+        return gzip.GzipFile(fileobj=io.BytesIO(data)).read(most + 1)
     except (OSError, EOFError, zlib.error):
         return data
 
@@ -99,6 +111,10 @@ def sentences_of(before: Text, after: Text) -> list[str]:
 def tested(chain: Chain, trusted: Trusted) -> Tested:
     """Tests a folder that has a chain. One without is an error, as nothing can be tested there."""
     made, names = Tested(), sorted(it.name for it in chain.folder.iterdir())
+    odd = [it for it in names if (it in OF_CHAIN or OF_SEAL.fullmatch(it)) and not (chain.folder / it).is_file()]
+    if odd:
+        made.found += [f"{chain.folder / it} is no plain file: look who put it there." for it in odd]
+        return made
     try:
         seals = chain.seals()
     except BadChain as error:
@@ -252,9 +268,12 @@ def _test_rows(chain: Chain, seals: list[Seal], made: Tested) -> None:
         if not files:
             made.missing.append(seal.number)
             continue
-        data = [_plain(it.read_bytes()) for it in files]
+        most = min(MOST_ROWS, LONGEST_ROW * (seal.rows + 1))
+        data = [_bytes_of(it, most) for it in files]
         changed = [it for it, its in zip(files, data) if hashlib.sha256(its).hexdigest() != seal.text]
-        made.found += [f"{it} was changed since it was sealed." for it in changed]
+        large = {it for it, its in zip(files, data) if len(its) > most}
+        told = f"has more than {most} bytes, and its seal is of {_counted(seal.rows, 'row')}"
+        made.found += [f"{it} {told if it in large else 'was changed since it was sealed'}." for it in changed]
         if changed:
             continue
         text = _text_of(data[0], before)

@@ -20,7 +20,7 @@ class BadMap(StationError):
 
 
 @dataclass(frozen=True)
-class Layout:
+class FuseWords:
     """The words of a map's blocks, its key fields in their order, each with its block, and all of its fields; of a map
     that can't be read nothing."""
 
@@ -67,7 +67,7 @@ class Layout:
         }
 
 
-def layout_of(text: str) -> Layout:
+def layout_of(text: str) -> FuseWords:
     """The layout of a map's text. The server reads TOML 1.1, and this program 1.0."""
     try:
         table = tomllib.loads(text)
@@ -78,4 +78,4 @@ def layout_of(text: str) -> Layout:
             raise ValueError("a field lies in no block")
     except (ValueError, LookupError, TypeError, AttributeError) as error:
         raise BadMap(str(error)) from error
-    return Layout(blocks, keys, fields)
+    return FuseWords(blocks, keys, fields)

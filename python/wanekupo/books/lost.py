@@ -6,22 +6,25 @@ from datetime import datetime
 from pathlib import Path
 from typing import Any, Iterable, Iterator, Optional, Sequence
 
+from wanekupo.common.errors import StationError
 from wanekupo.seat.journal import journals_of, placed_lines_of
-from wanekupo.seat.journal_lines import Name
+from wanekupo.seat.journal_lines import Folders, Name, journals_below, stations_folders
 from wanekupo.common.moments import tested_period, text_of
-from wanekupo.common.texts import csv_lines, formulas_in, shown
+from wanekupo.common.texts import brief, csv_lines, formulas_in, shown
 
 
 def given_up(
-    journals: Iterable[Name], start: Optional[datetime] = None, end: Optional[datetime] = None
-) -> tuple[list[list[str]], list[str]]:
+    journals: Iterable[Name], start: Optional[datetime] = None, end: Optional[datetime] = None,
+    folders: Optional[Folders] = None,
+) -> tuple[list[list[str]], list[str]]:  # fmt: skip
     """The chips that were lost or scrapped, each once, by the stations' logs: when the reply that said so first was
     written down, the log, the chip, its order where a log has its registration, and why. And what got no reply, of
-    chips of which nothing is known since."""
+    chips of which nothing is known since. Where it is known which seats each folder of all stations' has, a line of
+    another one says nothing, and a folder that can't be read is told."""
     tested_period(start, end)
-    orders, found, unanswered = {}, [], {}
-    for files in journals_of(journals):
-        for journal, asked, answer in _answers(files):
+    orders, found, unanswered, unread = {}, [], {}, list[str]()
+    for answers in _read(journals, folders, unread):
+        for journal, asked, answer in answers:
             path, chip = asked["path"], asked["asked"].get("chip", "")
             reply = answer["reply"] if answer and answer["status"] == 200 else {}
             if path == "/v1/device" and reply:
@@ -39,13 +42,31 @@ def given_up(
     lines = [[at, journal, chip, orders.get(chip, ""), why] for at, journal, chip, why, _ in firsts.values()]
     first, last = text_of(start) if start else "", text_of(end) if end else "~"
     told = [text for chip, (at, text) in unanswered.items() if chip not in firsts and first <= at < last]
-    return [line for line in lines if first <= line[0] < last], told
+    return [line for line in lines if first <= line[0] < last], [*unread, *told]
 
 
-def _answers(files: Iterable[Path]) -> Iterator[tuple[str, dict[str, Any], Optional[dict[str, Any]]]]:
+Answer = tuple[str, dict[str, Any], Optional[dict[str, Any]]]
+
+
+def _read(journals: Iterable[Name], folders: Optional[Folders], unread: list[str]) -> Iterator[Iterable[Answer]]:
+    """The answers of each journal. What of the stations' folders can't be read comes to `unread`."""
+    if folders is None:
+        yield from (_answers(files) for files in journals_of(journals))
+        return
+    for it in (folder for name in journals for folder in stations_folders(Path(name), folders)):
+        try:
+            for files in journals_of(journals_below(it), is_shipped=True):
+                yield list(_answers(files, folders[it.name]))
+        except (StationError, OSError) as error:
+            unread.append(f"{it} isn't read to its end: {error}")
+
+
+def _answers(files: Iterable[Path], seats: Optional[frozenset[str]] = None) -> Iterator[Answer]:
     """The requests of a journal, each with its file and the line of its reply. One that was sent again has one."""
     asked, place = None, ""
-    for file, _, line in placed_lines_of(files):
+    for file, _, line in placed_lines_of(files, follows_links=seats is None):
+        if seats is not None and line.get("seat", "") not in ("", *seats):
+            continue
         if "asked" in line:
             if asked and (asked["path"], asked["asked"]) != (line["path"], line["asked"]):
                 yield place, asked, None
@@ -61,7 +82,7 @@ LOST = ["time", "journal", "chip", "order", "reason"]
 
 
 def lost_text(lines: Sequence[Sequence[str]]) -> str:
-    rows = [LOST, *([shown(str(word)) for word in line] for line in lines)]
+    rows = [LOST, *([*map(shown, line[:2]), *(shown(brief(it)) for it in line[2:])] for line in lines)]
     widths = [max(map(len, column)) for column in zip(*rows)]
     return "".join(" ".join(word.ljust(width) for word, width in zip(row, widths)).rstrip() + "\n" for row in rows)
 

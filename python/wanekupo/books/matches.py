@@ -13,7 +13,7 @@ from itertools import takewhile
 from typing import Iterable, Optional
 
 from wanekupo.books.steps import Book, Step
-from wanekupo.books.store_rows import Books, Entry
+from wanekupo.books.store_rows import Books, LedgerRow
 
 # A chip of a customer.
 Chip = tuple[str, str]
@@ -56,7 +56,7 @@ def seated(book: Book, store: Books) -> Seated:
 class Pair:
     """An entry and its line. `told` says in what they differ, where they do."""
 
-    entry: Entry
+    entry: LedgerRow
     step: Step
     kind: str = ""
     told: str = ""
@@ -67,7 +67,7 @@ class Matched:
     """The entries and lines of a chip's steps, laid beside each other: the pairs, and what is left over of both."""
 
     pairs: list[Pair] = field(default_factory=list)
-    entries: list[Entry] = field(default_factory=list)
+    entries: list[LedgerRow] = field(default_factory=list)
     steps: list[Told] = field(default_factory=list)
 
 
@@ -83,10 +83,10 @@ def steps_by_chip(journals: Iterable[Seated]) -> dict[Chip, list[Told]]:
     return found
 
 
-def matched(entries: Iterable[Entry], steps: Iterable[Told]) -> Matched:
+def matched(entries: Iterable[LedgerRow], steps: Iterable[Told]) -> Matched:
     """Each entry of a chip's ledger, which come in their order, beside its line. What is left over has none, nor has it
     one under another seat or with another note."""
-    own: dict[str, list[Entry]] = defaultdict(list)
+    own: dict[str, list[LedgerRow]] = defaultdict(list)
     told: dict[str, list[Told]] = defaultdict(list)
     for entry in entries:
         own[entry.row["seat"]].append(entry)
@@ -99,17 +99,17 @@ def matched(entries: Iterable[Entry], steps: Iterable[Told]) -> Matched:
     return found
 
 
-def _said(entry: Entry) -> tuple[str, str]:
+def _said(entry: LedgerRow) -> tuple[str, str]:
     return entry.row["event"], entry.row["note"]
 
 
-def _fits(both: tuple[Entry, Told]) -> bool:
+def _fits(both: tuple[LedgerRow, Told]) -> bool:
     """Whether an entry can be that of a line; one whose reply was lost has no note."""
     entry, (_, step) = both
     return entry.row["event"] == step.event and (not step.is_done() or entry.row["note"] == step.note)
 
 
-def _lay(found: Matched, entries: list[Entry], steps: list[Told]) -> None:
+def _lay(found: Matched, entries: list[LedgerRow], steps: list[Told]) -> None:
     """Lays the entries and lines of one chip and seat beside each other: from the first ones on as far as they fit,
     then those that were answered, those whose reply was lost, and those that were refused."""
     own = [it for it in steps if it[1].is_stored and it[1].status in (None, 200)]
@@ -131,8 +131,8 @@ def _lay(found: Matched, entries: list[Entry], steps: list[Told]) -> None:
 
 
 def _lay_unanswered(
-    found: Matched, entries: list[Entry], steps: list[Told], laid: set[int], kind: str = ""
-) -> list[Entry]:
+    found: Matched, entries: list[LedgerRow], steps: list[Told], laid: set[int], kind: str = ""
+) -> list[LedgerRow]:
     """Lays entries beside lines of the same event whose reply says nothing, and gives those that are left."""
     free, rest = [it for _, it in steps if not it.is_done()], []
     for entry in entries:
@@ -159,7 +159,7 @@ def _lay_others(found: Matched) -> None:
     found.entries = rest
 
 
-def _difference(entry: Entry, it: Seated, step: Step) -> tuple[str, str]:
+def _difference(entry: LedgerRow, it: Seated, step: Step) -> tuple[str, str]:
     """In what an entry and a line differ: the kind, and the words."""
     note = entry.row["note"] or "none"
     if it.seat != entry.row["seat"]:
@@ -170,7 +170,7 @@ def _difference(entry: Entry, it: Seated, step: Step) -> tuple[str, str]:
     return "exchanged", "it is at another place in its ledger than its line in the journal"
 
 
-def _fitting(entry: Entry, steps: list[Told]) -> Optional[int]:
+def _fitting(entry: LedgerRow, steps: list[Told]) -> Optional[int]:
     """The place of a line of the same event that can be an entry's: of the same seat with another note, or of another
     seat."""
     same = [(place, it, step) for place, (it, step) in enumerate(steps) if step.event == entry.row["event"]]

@@ -18,7 +18,7 @@ from wanekupo.books.clocks import longest_run
 from wanekupo.books.matches import Seated
 from wanekupo.books.shift import Period
 from wanekupo.books.steps import Book, Step
-from wanekupo.books.store_rows import Books, Seat
+from wanekupo.books.store_rows import Books, StoredSeat
 
 
 @dataclass
@@ -132,7 +132,7 @@ def _in_turns(books: Sequence[Book]) -> tuple[list[Turn], list[Step]]:
     return turns, steps
 
 
-def _own_turn(seat: Seat, steps: Sequence[Step], turns: Sequence[Turn], period: Period) -> int:
+def _own_turn(seat: StoredSeat, steps: Sequence[Step], turns: Sequence[Turn], period: Period) -> int:
     """Which turn the store is of: the last one. Of those that begin behind the period it may be too early."""
     own = len(turns)
     with_last = {it.turn for it in steps if (it.number, it.digest) == (seat.last, seat.digest)}
@@ -141,7 +141,7 @@ def _own_turn(seat: Seat, steps: Sequence[Step], turns: Sequence[Turn], period: 
     return own
 
 
-def _in_order(seat: Seat, books: Sequence[Book], period: Period) -> tuple[list[Step], list[Turn]]:
+def _in_order(seat: StoredSeat, books: Sequence[Book], period: Period) -> tuple[list[Step], list[Turn]]:
     """A seat's lines by their turns and numbers, and the turns up to the one that the store is of: that is 0 in the
     lines."""
     turns, steps = _in_turns(books)
@@ -151,7 +151,7 @@ def _in_order(seat: Seat, books: Sequence[Book], period: Period) -> tuple[list[S
     return sorted(steps, key=lambda it: (it.turn, it.number)), turns[:own]
 
 
-def _settle(seat: Seat, steps: Sequence[Step], turns: Sequence[Turn], span: Span) -> set[int]:
+def _settle(seat: StoredSeat, steps: Sequence[Step], turns: Sequence[Turn], span: Span) -> set[int]:
     """Says which lines the store can't have, lays those with the same number together, and gives those that go: a
     request that stands there again, and one without a reply whose number was taken by another, which so was not done.
     """
@@ -179,7 +179,7 @@ def _settle(seat: Seat, steps: Sequence[Step], turns: Sequence[Turn], span: Span
     return gone
 
 
-def _span_of(seat: Seat, books: list[Book], period: Period) -> Span:
+def _span_of(seat: StoredSeat, books: list[Book], period: Period) -> Span:
     span = Span(seat.name, seat.customer, "")
     books = sorted(books, key=lambda it: it.times[:1])
     steps, turns = _in_order(seat, books, period)
@@ -209,7 +209,7 @@ def _unanswered_faults(
 # Numbers.
 
 
-def _count(span: Span, seat: Seat, steps: list[Step], turns: Sequence[Turn], period: Period) -> None:
+def _count(span: Span, seat: StoredSeat, steps: list[Step], turns: Sequence[Turn], period: Period) -> None:
     """What of a seat's numbers is there, and what is wrong with them."""
     done = [it for it in steps if it.is_done()]
     if not done:
@@ -251,7 +251,7 @@ def _named(first: int, last: int) -> str:
     return f"the number {first} has" if first == last else f"the numbers {first} to {last} have"
 
 
-def _end_fault(seat: Seat, span: Span, own: list[Step], asked: int, period: Period) -> Optional[str]:
+def _end_fault(seat: StoredSeat, span: Span, own: list[Step], asked: int, period: Period) -> Optional[str]:
     """Whether the store and the journals end with the same number: journals reach as far as the store does. A line of
     the period that the store doesn't know shows an older store, but for one that was answered behind it."""
     if seat.last > asked:
@@ -264,7 +264,7 @@ def _end_fault(seat: Seat, span: Span, own: list[Step], asked: int, period: Peri
     return None
 
 
-def _last_fault(seat: Seat, steps: list[Step]) -> Optional[str]:
+def _last_fault(seat: StoredSeat, steps: list[Step]) -> Optional[str]:
     """Whether the last request that the store has is the one of the journal's line with its number."""
     lines = [it for it in steps if it.number == seat.last]
     lines = [it for it in lines if it.turn == lines[-1].turn]

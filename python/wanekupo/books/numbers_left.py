@@ -1,21 +1,13 @@
-"""How many serial numbers orders have left: from a report of now, or from the files that `wanekupo watch` keeps."""
+"""How many serial numbers orders have left, by a report of now."""
 
 from __future__ import annotations
 
-import re
 from dataclasses import dataclass, replace
-from datetime import timedelta
 from typing import Iterable, Optional
 
-from wanekupo.books.shift import Counts, Key, Shift
+from wanekupo.books.shift import OrderCounts, Key, ShiftReport
 from wanekupo.books.steps import named
 from wanekupo.seat.settings import Settings, looking_station_of
-from wanekupo.common.errors import NoReports
-from wanekupo.common.moments import file_of, moment_of, name_of, text_of
-from wanekupo.books.yield_reports import kept_reports, key_of
-
-# How many days before a moment a kept report is looked for.
-DAYS = 8
 
 
 def asked(settings: Settings, words: Iterable[str]) -> dict[Key, int]:
@@ -27,27 +19,6 @@ def asked(settings: Settings, words: Iterable[str]) -> dict[Key, int]:
             for order, counts in station.report().items():
                 found[it.customer, order] = counts["serials_left"]
     return found
-
-
-def kept(files: Iterable[str], moment: str) -> dict[Key, int]:
-    """The rest of each order by the last report of each file that isn't behind a moment."""
-    found: dict[Key, int] = {}
-    for file in files:
-        found.update(_last_of(file, moment))
-    return found
-
-
-def _last_of(file: str, moment: str) -> dict[Key, int]:
-    for days in range(DAYS):
-        path = file_of(name_of(file), text_of(moment_of(moment) - timedelta(days=days))[:10])
-        reports = kept_reports(path) if path.exists() else ()
-        found = {at: rows for at, rows in reports if at <= moment and any("order" in row for row in rows)}
-        if found:
-            rows = (row for row in found[max(found)] if re.fullmatch("[0-9]+", row.get("serials_left", "")))
-            return {key_of(row): int(row["serials_left"]) for row in rows}
-    told = "Look at the file's name: it is the one that watch was given, of a customer and not of the site."
-    happened = f"{file_of(file, 'DAY')} has no report by orders at or before {moment}, or in the week before"
-    raise NoReports(happened, told)
 
 
 @dataclass(frozen=True)
@@ -62,7 +33,7 @@ class Rest:
     told: str
 
 
-def rests(shift: Shift, left: dict[Key, int]) -> list[Rest]:
+def rests(shift: ShiftReport, left: dict[Key, int]) -> list[Rest]:
     """What is left of each order that the shift touched, and of those that are used up, the shortest first. Of a
     customer without a name the orders of any customer count, where only one has an order of that name."""
     found = []
@@ -81,7 +52,7 @@ def _rest_of(left: dict[Key, int], customer: str, order: str) -> Optional[int]:
     return others[0] if not customer and len(others) == 1 else None
 
 
-def _told(customer: str, order: str, rest: int, counts: Counts, hours: float) -> Rest:
+def _told(customer: str, order: str, rest: int, counts: OrderCounts, hours: float) -> Rest:
     """An order, with what is to be said of it: it has none left, or less than another shift like this one takes."""
     given = counts.identified
     lasts = rest * hours / given if given else None

@@ -43,7 +43,7 @@ def period_of(start: datetime, end: datetime) -> Period:
 
 
 @dataclass(frozen=True)
-class Done:
+class DoneStep:
     """A step of a chip that was accepted, with the station that did it. `place` is where it stands among those of other
     stations: its time, or where its station's clock was set back a little that of a step before."""
 
@@ -60,21 +60,21 @@ class Done:
 
 
 @dataclass
-class Chip:
+class ChipHistory:
     """A chip's steps by their times, and its order where a journal has its registration."""
 
     name: str
     customer: str
-    done: list[Done] = field(default_factory=list)
+    done: list[DoneStep] = field(default_factory=list)
 
     def order(self) -> str:
         return next((str(it.step.asked.get("order", "")) for it in self.done if it.step.event == "registered"), "")
 
-    def first(self, *states: str) -> Optional[Done]:
+    def first(self, *states: str) -> Optional[DoneStep]:
         """The first step that left it in one of these states."""
         return next((it for it in self.done if it.state() in states), None)
 
-    def until(self, moment: str) -> Optional[Done]:
+    def until(self, moment: str) -> Optional[DoneStep]:
         """Its last step before a moment."""
         return next((it for it in reversed(self.done) if it.at < moment), None)
 
@@ -83,9 +83,9 @@ class Chip:
         is_again = any(it.step.reason for it in self.done if it.step.event == "shipped")
         return not is_again and all(it.step.note == "match" for it in self.done if it.step.event == "read")
 
-    def once(self) -> list[Done]:
+    def once(self) -> list[DoneStep]:
         """Its steps, but those that were done anew, as behind a restore: a chip is begun and shipped once."""
-        firsts: dict[str, Done] = {}
+        firsts: dict[str, DoneStep] = {}
         is_first = lambda it: it.step.event in ("planned", "read") or firsts.setdefault(it.step.event, it) is it
         return list(filter(is_first, self.done))
 
@@ -96,7 +96,7 @@ class Chip:
 
 
 @dataclass
-class Counts:
+class OrderCounts:
     """What was done with the chips of an order. `identified` is how many serial numbers were given."""
 
     begun: int = 0
@@ -114,11 +114,11 @@ class Counts:
 
 
 @dataclass
-class Line:
+class StationShift:
     """What a station did: its counts, how long its shipped chips took, and its longest stand."""
 
     operators: list[str] = field(default_factory=list)
-    counts: Counts = field(default_factory=Counts)
+    counts: OrderCounts = field(default_factory=OrderCounts)
     seconds: list[tuple[float, str]] = field(default_factory=list)
     stand: tuple[float, str, str] = (0.0, "", "")
 
@@ -143,7 +143,7 @@ class Lost:
 
 
 @dataclass(frozen=True)
-class UnderWay:
+class UnfinishedChip:
     """A chip that isn't finished: its state since its last step."""
 
     customer: str
@@ -155,7 +155,7 @@ class UnderWay:
 
 
 @dataclass(frozen=True)
-class Stopped:
+class Standstill:
     """A station that was out of step, or that waits for a reply, and when it went on."""
 
     at: str
@@ -166,18 +166,18 @@ class Stopped:
 
 
 @dataclass
-class Shift:
+class ShiftReport:
     """All of it."""
 
     period: Period
-    orders: dict[Key, Counts] = field(default_factory=dict)
-    stations: dict[Key, Line] = field(default_factory=dict)
+    orders: dict[Key, OrderCounts] = field(default_factory=dict)
+    stations: dict[Key, StationShift] = field(default_factory=dict)
     lost: list[Lost] = field(default_factory=list)
-    under_way: list[UnderWay] = field(default_factory=list)
-    stopped: list[Stopped] = field(default_factory=list)
+    under_way: list[UnfinishedChip] = field(default_factory=list)
+    stopped: list[Standstill] = field(default_factory=list)
 
-    def all(self) -> Counts:
-        found = Counts()
+    def all(self) -> OrderCounts:
+        found = OrderCounts()
         for it in self.orders.values():
             found.begun += it.begun
             found.first += it.first
@@ -192,31 +192,31 @@ class Shift:
 Owned = tuple[str, Book]
 
 
-def chips_of(books: Iterable[Owned]) -> dict[Key, Chip]:
+def chips_of(books: Iterable[Owned]) -> dict[Key, ChipHistory]:
     """The chips of journals, each with its accepted steps in the order of their times. Those of a journal stay in their
     order, also where its station's clock was set back a little."""
-    found: dict[Key, Chip] = {}
+    found: dict[Key, ChipHistory] = {}
     for customer, book in books:
         station, last = (customer, book.name()), ""
         for step in book.steps:
             if step.event and step.is_done():
                 is_set_back = step.answered < last and seconds_between(step.answered, last) <= SET_BACK
                 last = last if is_set_back else step.answered
-                chip = found.setdefault((customer, step.chip), Chip(step.chip, customer))
-                chip.done.append(Done(step.answered, station, step, last))
+                chip = found.setdefault((customer, step.chip), ChipHistory(step.chip, customer))
+                chip.done.append(DoneStep(step.answered, station, step, last))
     for chip in found.values():
         chip.done.sort(key=lambda it: it.place)
     return found
 
 
-def shift_of(books: Iterable[Owned], period: Period) -> Shift:
+def shift_of(books: Iterable[Owned], period: Period) -> ShiftReport:
     """What the journals say of a period."""
     owned = list(books)
-    shift, stations = Shift(period), defaultdict[Key, list[Book]](list)
+    shift, stations = ShiftReport(period), defaultdict[Key, list[Book]](list)
     for customer, book in owned:
         stations[customer, book.name()].append(book)
     for (customer, name), own in stations.items():
-        line = shift.stations.setdefault((customer, name), Line())
+        line = shift.stations.setdefault((customer, name), StationShift())
         line.stand = _longest_stand(own, period)
         shift.stopped += _stops(customer, own, period)
         steps = (it for book in own for it in book.steps)
@@ -232,9 +232,9 @@ def shift_of(books: Iterable[Owned], period: Period) -> Shift:
     return shift
 
 
-def _count(shift: Shift, chip: Chip) -> None:
+def _count(shift: ShiftReport, chip: ChipHistory) -> None:
     """Adds what was done with a chip to its order's counts, and to those of the stations that did it."""
-    period, order = shift.period, shift.orders.setdefault((chip.customer, chip.order()), Counts())
+    period, order = shift.period, shift.orders.setdefault((chip.customer, chip.order()), OrderCounts())
     for done in chip.once():
         if not period.has(done.at):
             continue
@@ -257,12 +257,12 @@ def _count(shift: Shift, chip: Chip) -> None:
     last = chip.until(period.end)
     if last and last.state() not in FINISHED:
         where = chip.customer, chip.order(), chip.name, last.state(), last.at, last.station[1]
-        shift.under_way.append(UnderWay(*where))
+        shift.under_way.append(UnfinishedChip(*where))
     if last and (period.has(last.at) or last.state() not in FINISHED):
         order.states[last.state()] += 1
 
 
-def _time(station: Line, chip: Chip, shipped: Done) -> None:
+def _time(station: StationShift, chip: ChipHistory, shipped: DoneStep) -> None:
     """How long a chip that was shipped took, where the same station registered it."""
     begun = next((it for it in chip.done if it.step.event == "registered" and it.station == shipped.station), None)
     if begun:
@@ -278,7 +278,7 @@ def _longest_stand(books: Iterable[Book], period: Period) -> tuple[float, str, s
     return max(stands, key=lambda it: it[0])
 
 
-def _stops(customer: str, books: Iterable[Book], period: Period) -> list[Stopped]:
+def _stops(customer: str, books: Iterable[Book], period: Period) -> list[Standstill]:
     """When a station was out of step, and when it went on; and a request whose reply never came. A machine in the place
     of another one has a journal of its own, in which the station goes on."""
     own = sorted(books, key=lambda it: it.times[:1])
@@ -293,10 +293,10 @@ def _stops(customer: str, books: Iterable[Book], period: Period) -> list[Stopped
             told += f", and the server expects {expected}" if expected is not None else ""
             place = bisect_left(went_on, step.answered)
             behind = "".join(went_on[place : place + 1])
-            found.append(Stopped(step.answered, customer, name, told, behind if behind < period.end else ""))
+            found.append(Standstill(step.answered, customer, name, told, behind if behind < period.end else ""))
     last = next((it for it in reversed(steps) if it.at < period.end), None)
     is_given_up = last is not None and any(last.at <= at < period.end for at in told_on)
     if last and not is_given_up and (last.status is None or last.answered >= period.end):
         told = f"no reply to {last.path} with number {last.number}"
-        found.append(Stopped(last.at, customer, name, told, ""))
+        found.append(Standstill(last.at, customer, name, told, ""))
     return found

@@ -6,7 +6,7 @@ from typing import Iterator, Optional, Sequence
 
 from wanekupo.books.pages import Table, bars, heading, looks, page, paragraph
 from wanekupo.books.numbers_left import Rest
-from wanekupo.books.shift import Counts, Key, Shift
+from wanekupo.books.shift import OrderCounts, Key, ShiftReport
 from wanekupo.seat.states import LOST
 from wanekupo.books.yields import SENTENCE, share
 
@@ -24,10 +24,10 @@ STOPPED = ("time", "customer", "station", "what", "went_on")
 RESTS = ("customer", "order", "left", "identified", "lasts_hours", "what")
 
 FIRST = "First: shipped, each read-back matched at once, and no stay at a bench failed before."
-NO_REST = "Not asked: give --left or --watch, and this says what the next shift runs out of."
+NO_REST = "Not asked: give --left, and this says what the next shift runs out of."
 
 
-def tables(shift: Shift, rests: Optional[Sequence[Rest]]) -> list[Table]:
+def tables(shift: ShiftReport, rests: Optional[Sequence[Rest]]) -> list[Table]:
     """All tables, by the names of their files."""
     lost = [(it.at, it.customer, it.station, it.operator, it.order, it.chip, it.reason) for it in shift.lost]
     under_way = [(it.customer, it.order, it.chip, it.state, it.since, it.station) for it in shift.under_way]
@@ -46,13 +46,13 @@ def _no_rest(rests: Optional[Sequence[Rest]]) -> str:
     return NO_REST if rests is None else "None of these orders is known to the server."
 
 
-def _counts(counts: Counts) -> list[object]:
+def _counts(counts: OrderCounts) -> list[object]:
     return [counts.begun, counts.first, counts.shipped, counts.given_up()]
 
 
-def _order_rows(shift: Shift) -> Iterator[list[object]]:
+def _order_rows(shift: ShiftReport) -> Iterator[list[object]]:
     """A row for each order that was worked on, and one for all of them."""
-    names: list[tuple[Key, Counts]] = [*shift.orders.items()]
+    names: list[tuple[Key, OrderCounts]] = [*shift.orders.items()]
     if len(names) > 1:
         names.append((("all", ""), shift.all()))
     for (customer, order), it in names:
@@ -60,7 +60,7 @@ def _order_rows(shift: Shift) -> Iterator[list[object]]:
         yield [customer, order, *_counts(it), share(it.as_row()), *reasons, it.identified]
 
 
-def _station_rows(shift: Shift) -> Iterator[list[object]]:
+def _station_rows(shift: ShiftReport) -> Iterator[list[object]]:
     for (customer, station), it in shift.stations.items():
         slowest, chip = it.slowest()
         seconds, start, _ = it.stand
@@ -79,19 +79,19 @@ def _rest_rows(rests: Optional[Sequence[Rest]]) -> list[list[object]]:
     ]
 
 
-def _head(shift: Shift) -> str:
+def _head(shift: ShiftReport) -> str:
     total = shift.all()
     told = f"{total.begun} begun, {total.shipped} shipped, {total.given_up()} given up"
     found = share(total.as_row())
     return f"{told}, {len(shift.under_way)} under way. Yield: {f'{found} %' if found else 'nothing finished'}."
 
 
-def as_text(shift: Shift, shown: Sequence[Table]) -> str:
+def as_text(shift: ShiftReport, shown: Sequence[Table]) -> str:
     period = f"from {shift.period.start} to {shift.period.end}"
     return "\n".join([period, _head(shift), "", *(table.as_text() for table in shown), f"{SENTENCE} {FIRST}", ""])
 
 
-def as_html(shift: Shift, shown: Sequence[Table]) -> str:
+def as_html(shift: ShiftReport, shown: Sequence[Table]) -> str:
     """The page of the shift, with a bar for each order by the states in which its chips are at the end."""
     states = {" ".join(filter(None, key)) or "order unknown": dict(it.states) for key, it in shift.orders.items()}
     parts = [

@@ -11,9 +11,9 @@ from dataclasses import dataclass, field
 from pathlib import Path
 from typing import Any, Iterable, Iterator, Optional, Union
 
-from wanekupo.common.errors import BadJournal
+from wanekupo.common.errors import BadJournal, StationError
 from wanekupo.seat.journal import journals_of, request_digest, seat_named
-from wanekupo.seat.journal_lines import MOST, MOST_LINES, SUFFIX, Folders, Name, journals_below, lines_of
+from wanekupo.seat.journal_lines import MOST, MOST_LINES, Folders, Name, journals_below, lines_of, stations_folders
 from wanekupo.common.moments import moment_of
 from wanekupo.common.texts import brief
 
@@ -122,7 +122,7 @@ class Resynchronized:
 
 
 @dataclass(frozen=True)
-class Fault:
+class JournalFault:
     """What is wrong with a journal, and in which line."""
 
     file: str
@@ -131,7 +131,7 @@ class Fault:
     told: str
 
     def place(self) -> str:
-        return f"line {self.line} of {self.file}"
+        return f"line {self.line} of {self.file}" if self.line else self.file
 
 
 @dataclass
@@ -142,7 +142,7 @@ class Book:
     files: list[str]
     steps: list[Step] = field(default_factory=list)
     resynchronized: list[Resynchronized] = field(default_factory=list)
-    faults: list[Fault] = field(default_factory=list)
+    faults: list[JournalFault] = field(default_factory=list)
     times: list[str] = field(default_factory=list)
     seat: str = ""
     is_asked: bool = False
@@ -155,7 +155,7 @@ class Book:
 Members = dict[str, Any]
 
 
-def digest_fault(file: str, number: int, line: Members) -> Optional[Fault]:
+def digest_fault(file: str, number: int, line: Members) -> Optional[JournalFault]:
     """A request whose digest isn't that of what it asks was changed behind the station's back."""
     try:
         found = request_digest(line["path"], line["asked"])
@@ -164,7 +164,7 @@ def digest_fault(file: str, number: int, line: Members) -> Optional[Fault]:
     if line.get("digest") == found:
         return None
     told = "was changed: its digest isn't that of what it asks" if "digest" in line else "has no digest"
-    return Fault(file, number, line["at"], told)
+    return JournalFault(file, number, line["at"], told)
 
 
 def _tested_clock(book: Book, file: str, number: int, at: str) -> None:
@@ -173,7 +173,7 @@ def _tested_clock(book: Book, file: str, number: int, at: str) -> None:
         seconds = (moment_of(book.times[-1]) - moment_of(at)).total_seconds()
         if seconds > SET_BACK:
             told = f"is {seconds:.0f} seconds before the line in front of it, by the station's clock"
-            book.faults.append(Fault(file, number, at, told))
+            book.faults.append(JournalFault(file, number, at, told))
 
 
 def _answered(last: Optional[Step], line: Members) -> str:
@@ -194,7 +194,7 @@ def _take(book: Book, file: str, number: int, line: Members) -> None:
     book.times.append(line["at"])
     seat = line.get("seat", "")
     if seat and book.seat and seat != book.seat:
-        book.faults.append(Fault(file, number, line["at"], f"is of the seat {seat}, among lines of {book.seat}"))
+        book.faults.append(JournalFault(file, number, line["at"], f"is of the seat {seat}, among lines of {book.seat}"))
     book.seat = book.seat or seat
     last = book.steps[-1] if book.steps else None
     if "asked" in line:
@@ -215,7 +215,7 @@ def _take(book: Book, file: str, number: int, line: Members) -> None:
     elif "status" in line:
         told = _answered(last if book.is_asked else None, line)
         if told:
-            book.faults.append(Fault(file, number, line["at"], told))
+            book.faults.append(JournalFault(file, number, line["at"], told))
         book.is_asked = False
     else:
         it = Resynchronized(file, number, line["at"], line["resynchronized"], len(book.steps))
@@ -258,7 +258,7 @@ def book_of(files: Iterable[Path], seats: Optional[frozenset[str]] = None, room:
             end = line.end
             if fault := line.fault or _others(line.members, path, seats):
                 is_told = not line.fault and (path, fault) in told
-                book.faults += [] if is_told else [Fault(str(path), line.number, last, fault)]
+                book.faults += [] if is_told else [JournalFault(str(path), line.number, last, fault)]
                 told.add((path, fault))
             else:
                 last = line.members["at"]
@@ -272,29 +272,31 @@ def books_of(names: Iterable[Name]) -> list[Book]:
 
 
 def shipped_books(path: Path, folders: Folders) -> Iterator[Book]:
-    """The journals of a folder of all, in which each station has its own."""
-    for it in sorted(path.iterdir()):
-        if it.is_symlink() or it.name not in folders and (it.is_dir() or it.suffix == SUFFIX):
-            told = "Name a folder that has the stations' folders, and say in that file which seats each one has."
-            raise BadJournal(f"{it} is no folder that the file of folders names", told)
-        files, room = journals_below(it) if it.is_dir() else [], Room()
-        yield from (book_of(group, folders[it.name], room) for group in journals_of(files))
+    """The journals of a folder of all, in which each station has its own. What one station wrote keeps nobody from
+    reading the others': a folder that can't be read is a journal with that fault."""
+    for it in stations_folders(path, folders):
+        room = Room()
+        try:
+            for group in journals_of(journals_below(it), is_shipped=True):
+                yield book_of(group, folders[it.name], room)
+        except (StationError, OSError) as error:
+            yield Book([str(it)], faults=[JournalFault(str(it), 0, "", f"isn't read to its end: {error}")])
 
 
 @dataclass(frozen=True)
-class Named:
+class NamedPath:
     """A word of the command line: a path, and in front of it the name of the customer, where there is one."""
 
     customer: str
     path: Path
 
 
-def named(word: Union[str, Path]) -> Named:
+def named(word: Union[str, Path]) -> NamedPath:
     """`acme=journals/` is the customer acme's; a path that is there as it stands has no name."""
     name, equals, path = str(word).partition("=")
     if not equals or Path(word).exists() or "/" in name:
-        return Named("", Path(word))
-    return Named(name, Path(path))
+        return NamedPath("", Path(word))
+    return NamedPath(name, Path(path))
 
 
 def told_faults(book: Book) -> Iterator[str]:

@@ -13,7 +13,7 @@ from pathlib import Path
 from typing import Any, Iterator, Optional
 
 from wanekupo.common.errors import StationError
-from wanekupo.common.files import tested_unlocked
+from wanekupo.common.files import opened_plain, tested_reading, tested_unlocked
 
 MAGIC = b"SQLite format 3\0"
 SCHEMA = 3
@@ -45,15 +45,16 @@ class BadStore(StationError):
 
 def is_store(file: Path) -> bool:
     """Whether a file is a database of SQLite."""
-    with open(file, "rb") as source:
+    with open(opened_plain(file, os.O_RDONLY, follows_links=True), "rb") as source:
         return source.read(len(MAGIC)) == MAGIC
 
 
-class Store:
+class StoreCopy:
     """A copy of a store, opened to be read."""
 
     def __init__(self, file: Path):
         self.file = file
+        tested_reading(file.parent)  # SQLite opens the log by its name, and makes a file beside it
         if not is_store(file):
             raise BadStore(f"{file} is no database", "Name the copy of books.db, with its log beside it.")
         _tested_lock(file)
@@ -67,7 +68,7 @@ class Store:
             self.close()
             raise
 
-    def __enter__(self) -> Store:
+    def __enter__(self) -> StoreCopy:
         return self
 
     def __exit__(self, *_: Any) -> None:

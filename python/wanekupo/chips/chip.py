@@ -3,36 +3,10 @@
 from __future__ import annotations
 
 import hashlib
-import re
-from typing import Any, Iterator, Mapping
+from typing import Any, Mapping
 
-from wanekupo.chips.espefuse import Espefuse, KeyFile
 from wanekupo.chips.families import Blocks, Told, bytes_of, crc8
 from wanekupo.chips.work import Work
-from wanekupo.common.texts import shown
-
-# What stands in other modules now, and is found here for one version more.
-__all__ = [
-    "Blocks",
-    "Espefuse",
-    "KeyFile",
-    "bit",
-    "blocks_of",
-    "bytes_of",
-    "checked",
-    "chip_of",
-    "commands",
-    "crc8",
-    "key",
-    "redacted",
-    "rlock",
-    "shows",
-    "value",
-    "wlock",
-]
-
-DUMPED = re.compile(r"^BLOCK(\d+) .*\[\d+ *\] read_regs:((?: [0-9a-f]{8})+) *$", re.MULTILINE)
-
 
 # The wishes of a plan.
 
@@ -60,14 +34,6 @@ def rlock(field: str) -> dict[str, Any]:
 
 
 # What a chip shows.
-
-
-def blocks_of(dump: str) -> Blocks:
-    """The words that `espefuse dump` prints of an ESP32; `families.dump_of` reads those of each family."""
-    found = DUMPED.findall(dump)
-    if not found or [int(number) for number, _ in found] != list(range(len(found))):
-        raise ValueError("this isn't what `espefuse.py dump` prints")
-    return [words.split() for _, words in found]
 
 
 def chip_of(blocks: Blocks) -> str:
@@ -100,18 +66,3 @@ def shows(blocks: Blocks, work: Work) -> bool:
     digests = {hashlib.sha256(bytes_of(block)).hexdigest() for block in blocks}
     bits = all(int(blocks[it.block][it.word], 16) & it.mask == it.mask for it in work.bits)
     return bits and digests.issuperset(work.keys.values())
-
-
-def commands(work: Work, keys: Mapping[str, KeyFile]) -> Iterator[list[str]]:
-    """The words of espefuse that burn a batch of an ESP32, keys first and block 0 last, a start of it for each; `keys`
-    are files by their fields. `Espefuse.burn` burns those of each family."""
-    for field, digest in work.keys.items():
-        file = keys.get(field)
-        if file is None or file.digest() != digest:
-            raise ValueError(f"no file of the key that {shown(field)} awaits")
-        # Never without --no-protect-key: the locks come in the second batch, and burnt now they are `stray`.
-        yield ["burn_key", "--no-protect-key", file.burnt_as, file.path]
-    for block in sorted({it.block for it in work.bits}, reverse=True):
-        words = [it for it in work.bits if it.block == block]
-        bits = [32 * it.word + place for it in words for place in range(32) if it.mask >> place & 1]
-        yield ["burn_bit", f"BLOCK{block}", *map(str, bits)]

@@ -82,7 +82,7 @@ class NoKey(StationError):
     """No file has the key that a batch awaits, or it can't be burnt as it is."""
 
 
-class Bench(Protocol):
+class Burner(Protocol):
     """What `Station.settle` asks of a chip."""
 
     def read(self) -> Blocks: ...
@@ -221,7 +221,7 @@ def port_fault(tool: Sequence[str]) -> str:
 
 
 @dataclass(frozen=True)
-class Step:
+class EspefuseCommand:
     """A command of espefuse, and the key that it is given behind its words, with the file that has it."""
 
     words: tuple[str, ...]
@@ -242,7 +242,7 @@ def _in_memory(contents: Sequence[bytes]) -> Iterator[list[int]]:
         yield files
 
 
-def steps_of(work: Work, shown_by: Dump, keys: Mapping[str, KeyFile]) -> list[Step]:
+def steps_of(work: Work, shown_by: Dump, keys: Mapping[str, KeyFile]) -> list[EspefuseCommand]:
     """The commands that burn what of a batch a chip doesn't show yet, keys first and block 0 last."""
     family = shown_by.family
     found = [_key_step(shown_by, field, digest, keys.get(field)) for field, digest in work.keys.items()]
@@ -259,11 +259,11 @@ def steps_of(work: Work, shown_by: Dump, keys: Mapping[str, KeyFile]) -> list[St
             if (it.mask & ~int(shown_by.words[number][it.word], 16)) >> place & 1
         ]
         if bits:
-            steps.append(Step(("burn_bit", f"BLOCK{number}", *map(str, bits))))
+            steps.append(EspefuseCommand(("burn_bit", f"BLOCK{number}", *map(str, bits))))
     return steps
 
 
-def _key_step(shown_by: Dump, field: str, digest: str, file: Optional[KeyFile]) -> Optional[Step]:
+def _key_step(shown_by: Dump, field: str, digest: str, file: Optional[KeyFile]) -> Optional[EspefuseCommand]:
     """The command that burns a key, or None where there is nothing to burn: the block has it, or it has other bits, of
     which the server's verdict is `key`."""
     if file is None or file.digest() != digest:
@@ -275,10 +275,10 @@ def _key_step(shown_by: Dump, field: str, digest: str, file: Optional[KeyFile]) 
         return None
     if family.burns == "burn_key":
         # Never without --no-protect-key: the locks come in the second batch, and burnt now they are `stray`.
-        return Step(("burn_key", "--no-protect-key", file.burnt_as), file.data(), file)
+        return EspefuseCommand(("burn_key", "--no-protect-key", file.burnt_as), file.data(), file)
     # A part of the key: the power failed meanwhile. Where it is forced, espefuse burns the same code word again.
     force = ("--force-write-always",) if any(there) else ()
-    return Step(("burn_block_data", *force, family.blocks[number]), key, file)
+    return EspefuseCommand(("burn_block_data", *force, family.blocks[number]), key, file)
 
 
 def _block_of(family: Family, field: str, file: KeyFile) -> int:
@@ -310,7 +310,7 @@ def typed_lines(tool: Sequence[str], family: Family, work: Work, keys: Mapping[s
     return [_typed(over_family(tool, family), it, is_five) for it in steps_of(work, blank, keys)]
 
 
-def _typed(tool: Sequence[str], step: Step, is_five: bool) -> str:
+def _typed(tool: Sequence[str], step: EspefuseCommand, is_five: bool) -> str:
     command, *words = step.words
     asked = [command.replace("_", "-") if is_five else command, *words]
     if not step.file:
@@ -333,7 +333,7 @@ def over_family(tool: Sequence[str], family: Family) -> list[str]:
     return [*tool, *([] if has_family else ["--chip", family.name])]
 
 
-def script_of(steps: Sequence[Step], paths: Sequence[str], mac: str) -> str:
+def script_of(steps: Sequence[EspefuseCommand], paths: Sequence[str], mac: str) -> str:
     """The script of `execute_scripts` of version 4, which burns all steps at once. Another chip isn't burnt."""
     shown_mac = ":".join(re.findall("..", mac))
     lines = [f'if not efuses["MAC"].get().startswith("{shown_mac}"):']
@@ -390,14 +390,14 @@ class Espefuse:
         else:
             self._run_each(steps, dump.mac())
 
-    def _run_script(self, steps: Sequence[Step], mac: str) -> None:
+    def _run_script(self, steps: Sequence[EspefuseCommand], mac: str) -> None:
         """All steps by one start: version 4."""
         with _in_memory([step.key for step in steps if step.key]) as keys:
             script = script_of(steps, [f"/dev/fd/{file}" for file in keys], mac)
             with _in_memory([script.encode()]) as scripts:
                 _ran([*self.tool, "execute_scripts", f"/dev/fd/{scripts[0]}"], [*keys, *scripts])
 
-    def _run_each(self, steps: Sequence[Step], mac: str) -> None:
+    def _run_each(self, steps: Sequence[EspefuseCommand], mac: str) -> None:
         """A start for each step, behind one that looks whether it is the same chip: version 5, whose commands have
         dashes, and whose scripts have another form."""
         if self.dump().mac() != mac:

@@ -13,12 +13,12 @@ from wanekupo.books.matches import seated
 from wanekupo.books.pages import write
 from wanekupo.books.shift import Period, period_of
 from wanekupo.books.steps import Book, books_of, shipped_books
-from wanekupo.books.store import Store
+from wanekupo.books.store import StoreCopy
 from wanekupo.books.store_rows import Books
 from wanekupo.seat.command import Command
 from wanekupo.seat.settings import Settings
-from wanekupo.common.errors import BadJournal, BadSettings, NoPeriod
-from wanekupo.seat.journal_lines import folders_at
+from wanekupo.common.errors import BadSettings, NoPeriod
+from wanekupo.seat.journal_lines import add_folders, named_folders
 from wanekupo.common.moments import tested_period, text_of
 from wanekupo.common.printing import Formulas, say
 from wanekupo.cli.shift import add_period
@@ -35,8 +35,7 @@ def _add_arguments(parser: argparse.ArgumentParser) -> None:
     parser.add_argument("store", metavar="STORE", help="a copy of a stopped store, with its log beside it")
     parser.add_argument("journals", nargs="+", metavar="JOURNAL", help="a journal, or a folder with journals")
     add_period(parser)
-    said = "the journals are folders of all stations' folders, of which this file of root's says whose each one is"
-    parser.add_argument("--folders", type=Path, metavar="FILE", help=said)
+    add_folders(parser)
     parser.add_argument("--html", metavar="FILE", help="write a page, to be read and printed")
     parser.add_argument("--csv", metavar="FILE", help="write what is found as comma-separated values")
     add_signer(parser)
@@ -46,16 +45,13 @@ def _journals(names: list[str], folders: Optional[Path]) -> list[Book]:
     """The journals; with a file of folders those of all stations."""
     if folders is None:
         return books_of(names)
-    known = folders_at(folders)
-    if not known:
-        raise BadJournal(f"{folders} isn't there, or names no folder", "Name the file that a restore goes by.")
-    return [book for name in names for book in shipped_books(Path(name), known)]
+    return [book for name in names for book in shipped_books(Path(name), named_folders(folders))]
 
 
 def _read(store: Path, books: Iterable[Book]) -> list[tuple[str, int, str]]:
     """Each file that was read, with its length and its SHA-256."""
     files = [store, store.with_name(f"{store.name}-wal"), *(Path(it) for book in books for it in book.files)]
-    return [(str(file), file.stat().st_size, digest_of_file(file)) for file in files if file.exists()]
+    return [(str(file), file.stat().st_size, digest_of_file(file)) for file in files if file.is_file()]
 
 
 def _nothing_of(period: Period, journals: Iterable[Book]) -> tuple[str, str]:
@@ -83,7 +79,7 @@ def _audit(_: Settings, args: argparse.Namespace) -> int:
     if signer and not args.html:
         raise BadSettings("there is no page to be signed", "Give --html FILE.")
     journals, period = _journals(args.journals, args.folders), period_of(args.from_time, args.to_time)
-    with Store(path) as store:
+    with StoreCopy(path) as store:
         books = Books(store)
         audit = audit_of(books, journals, period, text_of(datetime.now(timezone.utc)))
         behind = _behind(books, journals, period) if audit.found else ""

@@ -1,35 +1,30 @@
-"""The commands of journals and of kept reports: what was issued, what was lost, the yield, and a restore."""
+"""The commands of journals and of printed reports: what was issued, what was lost, the yield, and a restore."""
 
 from __future__ import annotations
 
 import argparse
-import contextlib
 from pathlib import Path
 
 from wanekupo.cli.requests import asks
-from wanekupo.seat.command import Command, told
+from wanekupo.seat.command import Command, text_of, told
 from wanekupo.seat.settings import Settings, looking_station_of
-from wanekupo.common.errors import NoReports
+from wanekupo.common.errors import NotTheServer, StationError
 from wanekupo.seat.journal import issued, merged
+from wanekupo.seat.journal_lines import add_folders, named_folders
 from wanekupo.books.lost import LOST, given_up, lost_csv, lost_formulas, lost_text
-from wanekupo.common.moments import moment_of, seconds_of
-from wanekupo.books.pictures import as_svg
+from wanekupo.common.moments import moment_of
 from wanekupo.common.printing import Formulas, Progress, say, table_lines, warn
+from wanekupo.books.report_counts import as_csv, as_text, counts_of, difference_of, formulas_of
 from wanekupo.seat.replays import restore
-from wanekupo.common.sentences import sentence_of
-from wanekupo.books.yield_reports import as_csv, as_text, between, formulas_of
 from wanekupo.seat.station import Station
-from wanekupo.books.kept_reports import watch
 
 ISSUED = ("chip", "issuer", "serial", "key_sha256", "mac")
 
 JOURNALS = "a journal, or a folder with journals"
-WATCHED = """. The report is asked for at once, and at each round time from then on, with 15m at each quarter of an
-hour. One that isn't had in ten seconds is told on standard error, and leaves a gap. A file is one watch's; a watch that
-is started again adds to it. With --times, the status is 2 where a report failed."""
-YIELDED = """: the last reports at or before them, subtracted. The first line says which reports these are; read it.
-begun: how many were registered. given_up: how many were quarantined, or scrapped without that. yield: 100 times
-shipped / (shipped + given_up), each counted when it happened, so that more may be shipped than begun."""
+YIELDED = """, from the earlier one to the later one, or to the report of now, which the server is asked for. begun: how
+many were registered. given_up: how many were quarantined, or scrapped without that. yield: 100 times shipped /
+(shipped + given_up), each counted when it happened, so that more may be shipped than begun."""
+REPORT = "a file that report or site-report printed, or - for standard input"
 GIVEN_UP = """, each chip once, by the clocks of the stations. The order is known where a journal has the chip's
 registration. A read-back without a reply is told on standard error."""
 
@@ -54,23 +49,23 @@ def _issued(_: Settings, args: argparse.Namespace) -> int:
     return 0
 
 
-def _add_times(parser: argparse.ArgumentParser, required: bool) -> None:
+def _add_times(parser: argparse.ArgumentParser) -> None:
     said = "as 2026-11-27T06:00 by this machine's clock, 2026-11-27T06:00Z or 2026-11-27T06:00+02:00"
     for name in ("from", "to"):
-        parser.add_argument(
-            f"--{name}", dest=f"{name}_time", required=required, metavar="TIME", type=told(moment_of), help=said
-        )
+        parser.add_argument(f"--{name}", dest=f"{name}_time", metavar="TIME", type=told(moment_of), help=said)
 
 
 def _add_lost(parser: argparse.ArgumentParser) -> None:
     _add_journals(parser)
     _add_times(parser, required=False)
+    add_folders(parser)
     parser.add_argument("--csv", metavar="FILE", help="write it as comma-separated values too")
     parser.add_argument("--json", action="store_true", help="a line of JSON each, in place of a table")
 
 
 def _lost(_: Settings, args: argparse.Namespace) -> int:
-    lines, unanswered = given_up(args.journals, args.from_time, args.to_time)
+    folders = named_folders(args.folders) if args.folders else None
+    lines, unanswered = given_up(args.journals, args.from_time, args.to_time, folders)
     warn(*(f"warning: {it}" for it in [*unanswered, *(lost_formulas(lines) if args.csv else [])]))
     if args.csv:
         Path(args.csv).write_text(lost_csv(lines), encoding="utf-8")
@@ -78,39 +73,43 @@ def _lost(_: Settings, args: argparse.Namespace) -> int:
     return 0
 
 
-def _add_watch(parser: argparse.ArgumentParser) -> None:
-    parser.add_argument("file", metavar="FILE", help="FILE.csv is FILE-2026-11-27.csv of that day, in UTC")
-    parser.add_argument("--every", default="15m", type=told(seconds_of), help="as 30s, 15m or 1h")
-    parser.add_argument("--times", type=int, default=0, help="how many reports, without end where it is 0")
-    parser.add_argument("--customer", default="", help="the seat's customer, for the column of that name")
-    parser.add_argument("--site", action="store_true", help="the site's report, with the manager's token")
-
-
-def _watch(settings: Settings, args: argparse.Namespace) -> int:
-    path, failed = "/v1/site/report" if args.site else "/v1/report", 0
-    with looking_station_of(settings, timeout=10, patience=min(settings.patience, 10)) as station:
-        with contextlib.suppress(KeyboardInterrupt):
-            words = (args.file, args.every, args.times, args.customer)
-            failed = watch(lambda: station.get(path), *words, tell=sentence_of)
-    if failed:
-        raise NoReports(f"{failed} of {args.times} reports failed", "The lines above say why.")
-    return 0
-
-
 def _add_yield(parser: argparse.ArgumentParser) -> None:
-    parser.add_argument("file", metavar="FILE", help="the file that watch was given")
-    _add_times(parser, required=True)
+    parser.add_argument("earlier", metavar="EARLIER", help=REPORT)
+    parser.add_argument("later", metavar="LATER", nargs="?", help="the same, printed later")
     parser.add_argument("--csv", metavar="FILE", help="write it as comma-separated values too")
-    parser.add_argument("--svg", metavar="FILE", help="draw it")
 
 
-def _yield(_: Settings, args: argparse.Namespace) -> int:
-    shift = between(args.file, args.from_time, args.to_time)
-    warn(*(f"warning: {it}" for it in [*shift.warnings, *(formulas_of(shift) if args.csv else [])]))
-    for file, text in ((args.csv, as_csv), (args.svg, as_svg)):
-        if file:
-            Path(file).write_text(text(shift), encoding="utf-8")
-    say(as_text(shift))
+def _report_in(file: str) -> str:
+    """The text of a file that has a report."""
+    text = text_of(file)
+    try:
+        counts_of(text)
+    except ValueError as error:
+        told = "Name a file that `wanekupo report` or `wanekupo site-report` printed."
+        raise StationError(f"{file} has no report", told) from error
+    return text
+
+
+def _report_now(settings: Settings, earlier: str) -> str:
+    """The server's report now, of the same kind."""
+    path = "/v1/site/report" if counts_of(earlier)[0] == "customer" else "/v1/report"
+    with looking_station_of(settings) as station:
+        text = str(station.get(path))
+    try:
+        counts_of(text)
+    except ValueError as error:
+        raise NotTheServer(str(error)) from error
+    return text
+
+
+def _yield(settings: Settings, args: argparse.Namespace) -> int:
+    earlier = _report_in(args.earlier)
+    later = _report_now(settings, earlier) if args.later is None else _report_in(args.later)
+    difference = difference_of(earlier, later)
+    if args.csv:
+        warn(*(f"warning: {it}" for it in formulas_of(difference)))
+        Path(args.csv).write_text(as_csv(difference), encoding="utf-8")
+    say(as_text(difference))
     return 0
 
 
@@ -122,7 +121,6 @@ def restored(station: Station, args: argparse.Namespace) -> dict[str, object]:
 COMMANDS = [
     Command("issued", "show the records that journals have", _add_issued, _issued),
     Command("lost", "show which chips were lost or scrapped, when and why, by journals", _add_lost, _lost, GIVEN_UP),
-    Command("watch", "add the report to a file of each day, with its time", _add_watch, _watch, WATCHED),
-    Command("yield", "show what was done between two moments, by the files of watch", _add_yield, _yield, YIELDED),
+    Command("yield", "show what was done between two reports that were printed", _add_yield, _yield, YIELDED),
     Command("restore", "bring what journals say into a restored store", _add_journals, asks(restored)),
 ]

@@ -176,7 +176,7 @@ def _register(station: Station, args: argparse.Namespace) -> None:
 
 def plan(station: Station, args: argparse.Namespace) -> None:
     """A plan, in which a key comes with the number of its purpose where the family has one."""
-    family = family_of(getattr(args, "family", "esp32"))
+    family = family_of(args.family)
     try:
         wishes = [bit(field, int(index)) for field, index in args.bit]
     except ValueError:

@@ -14,7 +14,7 @@ from wanekupo.books.chain import PLANT, Chain
 from wanekupo.books.compare import Text
 from wanekupo.books.lines import KEY
 from wanekupo.books.stamp import Service
-from wanekupo.books.store import Store, is_store
+from wanekupo.books.store import StoreCopy, is_store
 from wanekupo.seat.command import Command
 from wanekupo.seat.settings import Settings, looking_station_of
 from wanekupo.common.errors import BadSettings
@@ -69,7 +69,7 @@ def _seal(settings: Settings, args: argparse.Namespace) -> int:
     with chain.held():
         chain.seals_of(args.customer or PLANT)
         if args.store:
-            with Store(Path(args.store)) as store:
+            with StoreCopy(Path(args.store)) as store:
                 seal = chain.add(_lines_of(store), _now(), PLANT, signer, service)
         else:
             with looking_station_of(settings) as station, Progress("devices") as told_of:
@@ -79,7 +79,7 @@ def _seal(settings: Settings, args: argparse.Namespace) -> int:
     return DONE
 
 
-def _lines_of(store: Store) -> Iterator[str]:
+def _lines_of(store: StoreCopy) -> Iterator[str]:
     """The rows of a copy, behind a word of what they lack."""
     books = stored.Books(store)
     warn(*(f"Of {customer} {told}." for customer, told in books.unread_maps()))
@@ -96,8 +96,8 @@ def _now() -> str:
 def rows_of(file: Path) -> Text:
     """The rows of a file of a seal, or of a copy of a store."""
     if not is_store(file):
-        return folder.rows_of(file.read_bytes(), file)
-    with Store(file) as store:
+        return folder.rows_of(file)
+    with StoreCopy(file) as store:
         return Text.of(_lines_of(store))
 
 

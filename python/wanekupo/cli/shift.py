@@ -8,7 +8,7 @@ from datetime import datetime, timezone
 from pathlib import Path
 
 from wanekupo.books.pages import write
-from wanekupo.books.numbers_left import asked, kept, rests
+from wanekupo.books.numbers_left import asked, rests
 from wanekupo.books.shift import Owned, period_of, shift_of
 from wanekupo.books.shift_page import as_html, as_text, tables
 from wanekupo.books.steps import books_of, named, told_faults
@@ -20,7 +20,7 @@ from wanekupo.common.printing import Formulas, say, warn
 
 MORE = """. A step counts when its reply was written down, by the station's clock. A journal is a file, or a folder;
 acme=FOLDER says whose it is, which is needed where two customers' orders have one name. The rest of serial numbers is
-asked by --left, or taken from the files of watch."""
+asked by --left."""
 TIME = "as 2026-11-27T06:00 by this machine's clock, 2026-11-27T06:00Z or 2026-11-27T06:00+02:00"
 
 
@@ -36,8 +36,6 @@ def _add_arguments(parser: argparse.ArgumentParser) -> None:
     add_period(parser)
     said = "ask what orders have left, by a customer's token that looks: FILE, or acme=FILE; may come again"
     parser.add_argument("--left", action="append", default=[], metavar="TOKEN", help=said)
-    said = "take it from what watch kept: the file that watch was given; may come again"
-    parser.add_argument("--watch", action="append", default=[], metavar="FILE", help=said)
     parser.add_argument("--html", metavar="FILE", help="write a page, to be read and printed")
     parser.add_argument("--csv", metavar="FOLDER", help="write a file of comma-separated values for each table")
 
@@ -68,8 +66,7 @@ def _shift(settings: Settings, args: argparse.Namespace) -> int:
     journals = owned(args.journals)
     warn(*(f"warning: {it}" for _, book in journals for it in told_faults(book)))
     shift = shift_of(journals, period_of(args.from_time, end))
-    left = {**kept(args.watch, shift.period.end), **asked(settings, args.left)}
-    shown = tables(shift, rests(shift, left) if args.left or args.watch else None)
+    shown = tables(shift, rests(shift, asked(settings, args.left)) if args.left else None)
     if args.html:
         write(Path(args.html), as_html(shift, shown))
     if folder:

@@ -136,13 +136,11 @@ class Differs(StationError):
     advice = f"A journal is missing, or two clocks differ: look into {PAGES}/how-to/back-up-and-restore.md."
 
 
-class NoReports(StationError):
-    """There is nothing to subtract."""
-
-
 class NoPeriod(StationError):
     """The end isn't behind the beginning."""
 
 
-class NotOneWatch(StationError):
-    """The reports of a file aren't those of one customer, or of the site, over one store."""
+class OtherReports(StationError):
+    """Two reports aren't those of one customer, or of the site, over one store, the earlier one first."""
+
+    advice = "They are another customer's, or the store was restored: then subtract until the restore, and behind it."

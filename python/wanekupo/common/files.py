@@ -57,6 +57,21 @@ def tested_folder(folder: Path) -> None:
         raise UnsafeFile(f"others can write the folder {folder}: chmod go-w it, or have these files in another one")
 
 
+def tested_reading(folder: Path) -> None:
+    """Whether root may read what has a name in a folder: not where another user writes it, or may put another one in
+    its place, as the name may lead anywhere then."""
+    if not IS_POSIX or os.geteuid():
+        return
+    for path in {Path(os.path.abspath(folder)), Path(os.path.realpath(folder))}:
+        for it in (path, *path.parents):
+            found = os.lstat(it)
+            is_sticky = found.st_mode & stat.S_ISVTX and it != path
+            is_shared = found.st_mode & OTHERS_WRITE and not is_sticky and not stat.S_ISLNK(found.st_mode)
+            if found.st_uid or is_shared:
+                told = "Read it as its user, or a copy of root's own; all stations' folders by --folders FILE."
+                raise UnsafeFile(f"others than root write {it}, and root follows no name of theirs", told)
+
+
 def own_path(file: str | os.PathLike[str]) -> Path:
     """Where a file is, so that its two names have one lock. A link on the way is this user's or root's, in a folder
     that nobody else writes: another one's may lead to any file that this user can write."""
@@ -117,12 +132,6 @@ def locked(opened: int) -> None:
     """Locks an opened file for this process alone, or fails with OSError at once."""
     if fcntl:
         fcntl.flock(opened, fcntl.LOCK_EX | fcntl.LOCK_NB)
-
-
-def wait_locked(opened: int) -> None:
-    """The same, once no other process has it."""
-    if fcntl:
-        fcntl.flock(opened, fcntl.LOCK_EX)
 
 
 def tested_unlocked(opened: int) -> None:

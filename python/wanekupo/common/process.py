@@ -7,6 +7,8 @@ from collections.abc import Callable
 from pathlib import Path
 
 from wanekupo.common.errors import PlantError, cause_of
+from wanekupo.common.store_user import shown
+from wanekupo.common.store_words import clean_words
 
 INSTALLED = Path("/usr/sbin")
 
@@ -18,10 +20,12 @@ def own_command(name: str) -> str:
 
 
 def end_tool(name: str, call: Callable[[], object]) -> int:
-    """The status of a tool: 0 behind its call, else the error's own, with the cause in words behind the tool's name."""
+    """The status of a tool: 0 behind its call, else the error's own, with the cause in words behind the tool's name. Root
+    leaves out first what led it elsewhere (`clean_words`)."""
+    clean_words()
     try:
         call()
         return 0
     except (PlantError, OSError, UnicodeError) as error:
-        print(f"{name}: {cause_of(error)}", file=sys.stderr)
+        print(shown(f"{name}: {cause_of(error)}"), file=sys.stderr)
         return error.status if isinstance(error, PlantError) else 1

@@ -6,7 +6,7 @@ import tomllib
 from collections.abc import Iterator
 from typing import Any, Optional
 
-from wanekupo.common.token_file import MANAGER, Seat, TokenError
+from wanekupo.common.token_file import MANAGER, TokenSeat, TokenError
 
 HEADER = re.compile(r"^[ \t]*\[\[?[ \t]*([A-Za-z0-9_.-]+)[ \t]*\]\]?[ \t]*(?:#.*)?$")
 
@@ -15,7 +15,7 @@ def digest_of(token: str) -> str:
     return hashlib.sha256(token.encode()).hexdigest()
 
 
-def lines_of(seat: Seat) -> str:
+def lines_of(seat: TokenSeat) -> str:
     """What the site file says of a seat, or of the manager."""
     head = ["[manager]"] if seat.is_manager() else ["[[customer.seat]]", f'name = "{seat.seat}"']
     return "\n".join([*head, f'token = "{digest_of(seat.inner)}"', ""])
@@ -24,24 +24,28 @@ def lines_of(seat: Seat) -> str:
 def _parsed(text: str, path: str) -> dict[str, Any]:
     try:
         return tomllib.loads(text)
-    except tomllib.TOMLDecodeError as error:
+    except (ValueError, RecursionError) as error:  # a number of too many digits is a ValueError, too
         raise TokenError(1, f"{path}: {error}") from None
 
 
 def digests_of(text: str, path: str) -> dict[str, tuple[str, str]]:
     """The digest of each seat with its customer, and of the manager, by name."""
     site = _parsed(text, path)
-    found = {
-        seat["name"]: (customer["name"], seat["token"].lower())
-        for customer in site.get("customer", [])
-        for seat in customer.get("seat", [])
-    }
-    if "manager" in site:
-        found[MANAGER] = (MANAGER, site["manager"]["token"].lower())
+    try:
+        found = {
+            seat["name"]: (customer["name"], seat["token"].lower())
+            for customer in site.get("customer", [])
+            for seat in customer.get("seat", [])
+        }
+        if "manager" in site:
+            found[MANAGER] = (MANAGER, site["manager"]["token"].lower())
+    except (KeyError, TypeError, AttributeError) as error:
+        told = "`station-site check` names the line"
+        raise TokenError(1, f"{path} is no site file ({type(error).__name__}: {error}): {told}") from None
     return found
 
 
-def is_in(digests: dict[str, tuple[str, str]], seat: Seat) -> bool:
+def is_in(digests: dict[str, tuple[str, str]], seat: TokenSeat) -> bool:
     """Whether a site has a seat with its token; a manager's name isn't in the site."""
     customer, digest = digests.get(MANAGER if seat.is_manager() else seat.seat, ("", ""))
     return digest == digest_of(seat.inner) and (seat.is_manager() or customer == seat.customer)
@@ -63,7 +67,7 @@ def _header(line: str) -> Optional[str]:
     return found[1] if found else None
 
 
-def grown(text: str, seat: Seat, path: str) -> str:
+def grown(text: str, seat: TokenSeat, path: str) -> str:
     """The site's text with the seat, at the end of its customer's section. By two readings it has that seat more, and
     is the same in all else."""
     wanted = _parsed(text, path)
@@ -100,5 +104,5 @@ def _names(lines: list[str], customer: str) -> bool:
 def _parsed_or_none(text: str) -> Optional[dict[str, Any]]:
     try:
         return tomllib.loads(text)
-    except tomllib.TOMLDecodeError:
+    except (ValueError, RecursionError):
         return None

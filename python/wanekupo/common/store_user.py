@@ -9,7 +9,8 @@ there, and hold each process of that user's. So nothing that he writes, names, p
 - Root reads, writes and removes nothing there by a name: a process of that user's does it (`StoreUser.run`, `call`).
 - That process has a session of its own and no terminal, no descriptor of root's but its pipes, none of root's words in
   its environment, and can't get rights again. It ends with root's. Behind its end root waits for nobody who has its
-  pipe. What it prints is bounded, is a form or is nothing, and reaches a terminal without control characters (`shown`).
+  pipe. Its time is bounded, and where memory runs out Linux ends it before the server. What it prints is bounded, is a
+  form or is nothing, and reaches a terminal without control characters (`shown`).
 - A copy that is tried lies in a room: a folder of the user's in one of root's, which only root can name or remove.
 """
 
@@ -42,11 +43,14 @@ STEP = os.O_PATH | os.O_DIRECTORY | os.O_NOFOLLOW
 PLAIN = os.O_RDONLY | os.O_NOFOLLOW | os.O_NONBLOCK | os.O_NOCTTY
 # Where rooms are, what their names begin with, and the bytes that a disk has to have beside a copy.
 ROOMS, ROOM, BESIDE = Path("/var/tmp"), "wanekupo-room.", 1 << 20
-# The most bytes that are taken of what a process prints, of an error's words, and of a small file.
-PRINTED, SAID, SMALL = 16 << 20, 4000, 1 << 20
+# The most bytes that are taken of what a process prints, of what is printed as it comes, of an error's words, and of a
+# small file.
+PRINTED, RELAYED, SAID, SMALL = 16 << 20, 1 << 20, 4000, 1 << 20
 # How many seconds a process has that was asked to end, how long root reads behind its end, as another one of that
 # user's may have its pipe, and how long one may take of which nothing else is said: a copy of a large store takes that.
-PATIENCE, LINGER, LONGEST = 10, 3, 3600
+# What root has done whole, as a backup with its way off or a restore, may take a day; what writes a line, a minute.
+PATIENCE, LINGER, LONGEST, DAY, MINUTE = 10, 3, 3600, 86400, 60
+OOM_SCORE = "/proc/self/oom_score_adj"
 # Of prctl(2).
 PDEATHSIG, DUMPABLE, NO_NEW_PRIVS = 1, 4, 38
 
@@ -55,9 +59,22 @@ class UserError(PlantError):
     """Why nothing is done as the store's user: a sentence."""
 
 
-def shown(text: str) -> str:
-    """A text of somebody's for a terminal, line feeds apart: no control character of it gets there."""
+def shown(text: str, most: int = SAID) -> str:
+    """A text of somebody's for a terminal, line feeds apart: no control character of it gets there, and of a long one
+    the beginning alone."""
+    text = text if len(text) <= most else f"{text[:most]}.. ({len(text)} letters)"
     return "".join(it if it.isprintable() or it == "\n" else "?" for it in text)
+
+
+def end_first() -> None:
+    """Has Linux end this process and those that it begins first where memory runs out: they read files of the store
+    user's. What root says of it that user can't take back."""
+    with contextlib.suppress(OSError):
+        handle = os.open(OOM_SCORE, os.O_WRONLY)
+        try:
+            os.write(handle, b"1000")
+        finally:
+            os.close(handle)
 
 
 # ---- Folders and files.
@@ -109,7 +126,7 @@ def read_small(path: Path, handle: int | None = None, most: int = SMALL) -> byte
     return data
 
 
-class Store:
+class StoreFolder:
     """A store's folder, which is held open, and its user. The store itself may not be there."""
 
     def __init__(self, db: str | Path):
@@ -210,6 +227,7 @@ class StoreUser:
                 child = subprocess.Popen(
                     self.words(*words), stdin=stdin, stdout=subprocess.PIPE, stderr=subprocess.PIPE, cwd=cwd,
                     env=self.environment(), start_new_session=True, pass_fds=fds, umask=0o077,
+                    preexec_fn=end_first,
                 )  # fmt: skip
             except OSError as error:
                 raise UserError(f"{words[0]}: {error.strerror}") from None
@@ -222,10 +240,12 @@ class StoreUser:
                 raise
         return subprocess.CompletedProcess(list(words), status, *(it.decode(errors="replace") for it in printed))
 
-    def call(self, function: Callable[[], object], told: Callable[[BaseException], str] = str) -> int:
+    def call(self, function: Callable[[], object], told: Callable[[BaseException], str] = str,
+             seconds: float = LONGEST) -> int:  # fmt: skip
         """Has a function done as the user, in a process of its own that begins in /, so its paths are whole ones. What
         it prints is printed here. Gives the number that it gives; its error comes back as a UserError of what `told`
-        makes of it. A signal that ends this run ends it first, as it would end a run of its own."""
+        makes of it. A signal that ends this run ends it first, as it would end a run of its own. Who takes longer is
+        ended: an error."""
         if self.is_own():
             return int(function() or 0)  # type: ignore[call-overload]
         pipes = [os.pipe() for _ in range(3)]
@@ -240,7 +260,7 @@ class StoreUser:
             raise
         if not child:
             self._called(function, told, [write for _, write in pipes], parent, mask)
-        said, status = _waited(child, pipes, mask)
+        said, status = _waited(child, pipes, mask, time.monotonic() + seconds)
         if said or not os.WIFEXITED(status):
             raise UserError(said or "the process that works as the store's user was killed")
         return os.WEXITSTATUS(status)
@@ -266,6 +286,7 @@ class StoreUser:
     def _become(self, parent: int) -> None:
         """Makes this process the user's for good."""
         words = self.environment()
+        end_first()
         os.setgroups(os.getgrouplist(self.name, self.group))
         os.setresgid(self.group, self.group, self.group)
         os.setresuid(self.number, self.number, self.number)
@@ -358,19 +379,22 @@ def _gathered(child: "subprocess.Popen[bytes]", most: int, end: float) -> list[b
 
 def _relayed(reads: list[int], child: int, end: float = math.inf) -> str:
     """Prints what a child prints, made harmless; gives the words of its error."""
-    outs, said = {reads[0]: sys.stdout, reads[1]: sys.stderr}, bytearray()
+    outs, said, left = {reads[0]: sys.stdout, reads[1]: sys.stderr}, bytearray(), RELAYED
     texts = {it: codecs.getincrementaldecoder("utf-8")("replace") for it in outs}
     for pipe, data in _parts(reads, child, end):
         if pipe in outs:
+            left -= len(data)
+            if left < 0:
+                raise UserError("a process of the store's user printed too much, and was ended")
             with contextlib.suppress(BrokenPipeError):  # who reads it may have enough, and the work goes on
-                outs[pipe].write(shown(texts[pipe].decode(data)))
+                outs[pipe].write(shown(texts[pipe].decode(data), RELAYED))
                 outs[pipe].flush()
         else:
             said += data[: SAID - len(said)]
     return said.decode(errors="replace")
 
 
-def _waited(child: int, pipes: list[tuple[int, int]], mask: set[signal.Signals]) -> tuple[str, int]:
+def _waited(child: int, pipes: list[tuple[int, int]], mask: set[signal.Signals], until: float) -> tuple[str, int]:
     """The words of a child's error, and its status. Where a signal ends this run the child is asked to end, too; one
     that doesn't, as the user may stop it, is killed with those that it began."""
     for _, write in pipes:
@@ -378,7 +402,7 @@ def _waited(child: int, pipes: list[tuple[int, int]], mask: set[signal.Signals])
     reads = [read for read, _ in pipes]
     try:
         signal.pthread_sigmask(signal.SIG_SETMASK, mask)
-        said = _relayed(reads, child)
+        said = _relayed(reads, child, until)
     except BaseException:
         os.kill(child, signal.SIGTERM)
         with contextlib.suppress(BaseException):

@@ -17,6 +17,7 @@ from pathlib import Path
 from typing import Optional
 
 from wanekupo.common.errors import PlantError
+from wanekupo.common.store_user import UserError, opened
 from wanekupo.common.whole_file import held, put_whole, sync
 
 HEAD = """# The outer tokens, the inner ones behind them, and what nginx makes of both. It has the tokens: root's alone.
@@ -46,7 +47,7 @@ class TokenError(PlantError):
 
 
 @dataclass(frozen=True)
-class Seat:
+class TokenSeat:
     """A seat of a site file, with its inner token, and the address of its server, or the name of nginx's upstream."""
 
     seat: str
@@ -82,7 +83,7 @@ class Outer:
 
 @dataclass
 class Tokens:
-    seats: dict[str, Seat] = field(default_factory=dict)
+    seats: dict[str, TokenSeat] = field(default_factory=dict)
     outers: list[Outer] = field(default_factory=list)
 
     def open_ones(self) -> list[Outer]:
@@ -168,9 +169,9 @@ def tokens_of(text: str, path: Path, is_anew: bool = False) -> Tokens:
             if "number" in record:
                 tokens.outers.append(Outer(**record))
             else:
-                tokens.seats[record["seat"]] = Seat(**record)
+                tokens.seats[record["seat"]] = TokenSeat(**record)
         same = text_of(tokens) == text
-    except (ValueError, TypeError, KeyError) as error:
+    except (ValueError, TypeError, KeyError, AttributeError, RecursionError) as error:
         raise TokenError(1, f"{path} isn't what token writes: {error}") from None
     if not same and not is_anew:
         raise TokenError(1, f"{path} was changed by hand, or is of another version: `write` makes it anew")
@@ -205,10 +206,27 @@ def put(path: Path, text: Optional[str]) -> None:
         put_whole(path, text)
 
 
+def check_folder(folder: Path) -> None:
+    """Refuses a folder in whose place another user can put another one, and one of which he can take a new file. So
+    /tmp is none of these, as it is root's and sticky."""
+    try:
+        handle = opened(folder)
+    except UserError as error:
+        raise TokenError(1, str(error)) from None
+    try:
+        there = os.fstat(handle)
+    finally:
+        os.close(handle)
+    is_shared = there.st_mode & 0o022 and not there.st_mode & stat.S_ISVTX
+    if there.st_uid not in (0, os.geteuid()) or is_shared:
+        raise TokenError(1, f"{folder} is another user's, or others may write it: name a folder of your own")
+
+
 @contextmanager
 def alone(path: Path, patience: float) -> Iterator[None]:
     """One run at a time, in a folder that nobody else may write: the next one waits, for so many seconds."""
     _check_owner(path.parent)
+    check_folder(path.parent)
     lock = path.with_name(path.name + ".lock")
     with held(lock, TokenError(3, f"another run has {lock}: nothing was changed"), patience):
         yield

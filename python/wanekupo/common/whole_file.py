@@ -1,6 +1,7 @@
 """Files that a crash leaves whole, and a lock that one run at a time has: for the tools of this folder."""
 
 import contextlib
+import errno
 import fcntl
 import os
 import stat
@@ -45,16 +46,21 @@ def put_whole(path: Path, text: str, like: os.stat_result | None = None) -> None
     sync(path.parent)
 
 
-def opened_lock(path: Path) -> int:
-    """A lock's file, which is made where there is none."""
-    return os.open(path, os.O_RDWR | os.O_CREAT | os.O_NOFOLLOW, 0o600)
+def opened_lock(path: Path, is_made: bool = True) -> int:
+    """A lock's file, which is made where there is none. It is a plain one: who may write its folder may have put
+    another thing there."""
+    handle = os.open(path, os.O_RDWR | os.O_NOFOLLOW | os.O_NONBLOCK | (os.O_CREAT if is_made else 0), 0o600)
+    if not stat.S_ISREG(os.fstat(handle).st_mode):
+        os.close(handle)
+        raise OSError(errno.EINVAL, "no plain file: look who made it, and move it away", str(path))
+    return handle
 
 
 @contextlib.contextmanager
-def held(path: Path, busy: Exception, patience: float = 0.0) -> Iterator[None]:
+def held(path: Path, busy: Exception, patience: float = 0.0, is_made: bool = True) -> Iterator[None]:
     """Has a lock's file. Where another run has it for longer than so many seconds, `busy` is raised. The lock goes with
     the last process that has it."""
-    handle = opened_lock(path)
+    handle = opened_lock(path, is_made)
     end = time.monotonic() + patience
     try:
         while True:

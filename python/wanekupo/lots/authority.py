@@ -24,7 +24,7 @@ from urllib.parse import unquote
 from wanekupo.common.errors import PAGES, BadKey, BadSettings, StationError
 from wanekupo.common.files import IS_POSIX, locked, opened_lock, replace_bytes, synced_folder, tested_folder
 from wanekupo.lots.idevid import TIME, chain_fault, faults_of, late_fault, now
-from wanekupo.lots.spools import Request, certificates_of, der_of, pem_of
+from wanekupo.lots.spools import CertificateRequest, certificates_of, der_of, pem_of
 
 READABLE = 0o644
 OTHERS_READ = 0o044
@@ -141,7 +141,7 @@ class Authority:
             (self.issued / f"{serial}.asked").unlink()
         return pem
 
-    def certified(self, record: Mapping[str, Any], request: Request) -> tuple[bytes, bool]:
+    def certified(self, record: Mapping[str, Any], request: CertificateRequest) -> tuple[bytes, bool]:
         """The certificate of a record, as PEM, and whether it was issued now. A request of it was looked at."""
         serial = record["serial"]
         self.take(record["issuer"])
@@ -181,7 +181,7 @@ class Authority:
 
     # The command.
 
-    def _signed(self, record: Mapping[str, Any], request: Request, begun: datetime) -> Any:
+    def _signed(self, record: Mapping[str, Any], request: CertificateRequest, begun: datetime) -> Any:
         begins = record["not_before"] or begun.strftime(TIME)
         with tempfile.TemporaryDirectory() as folder:
             csr, out = Path(folder) / f"{record['serial']}.csr", Path(folder) / "out.pem"

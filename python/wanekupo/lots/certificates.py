@@ -26,7 +26,7 @@ from wanekupo.seat.keys import library
 from wanekupo.common.printing import Progress, say, say_json, warn
 from wanekupo.seat.replies import Listed
 from wanekupo.common.sentences import sentence_of
-from wanekupo.lots.spools import CERTIFICATE, REQUEST, SECRET, Request, certificates_of
+from wanekupo.lots.spools import CERTIFICATE, REQUEST, SECRET, CertificateRequest, certificates_of
 from wanekupo.lots.spools import key_of_certificate, read_in, request_in, tested_crl, tested_spool
 from wanekupo.seat.states import IN_USE
 from wanekupo.seat.station import Station
@@ -57,7 +57,7 @@ def add_verify(parser: argparse.ArgumentParser) -> None:
 # Devices by their serial numbers.
 
 
-class Books:
+class DevicesBySerial:
     """The devices of some serial numbers, by one reading of the customer's list. A serial number of several issuers is
     that of the one that is named."""
 
@@ -102,7 +102,7 @@ def certify(settings: Settings, args: argparse.Namespace) -> int:
         if args.issuer and authority.issuer() not in (None, args.issuer):
             told = "Take that one's folder, or leave --issuer away."
             raise BadSettings(f"{args.ca_folder} certifies for {authority.issuer()}, and not for {args.issuer}", told)
-        books = Books(station, serials, args.issuer or authority.issuer())
+        books = DevicesBySerial(station, serials, args.issuer or authority.issuer())
         try:
             with Progress("requests") as shown:
                 for serial in gathering.watched(serials, shown, len(serials)):
@@ -112,7 +112,7 @@ def certify(settings: Settings, args: argparse.Namespace) -> int:
     return REFUSED if counts["refused"] else DONE
 
 
-def _outcome(spool: Path, serial: str, authority: Authority, books: Books) -> str:
+def _outcome(spool: Path, serial: str, authority: Authority, books: DevicesBySerial) -> str:
     """What became of a request: one that is refused is told, and the others go on."""
     try:
         return _certified(spool, serial, authority, books)
@@ -140,7 +140,7 @@ def _serials_in(spool: Path) -> Iterator[str]:
             warn(f"{file} is passed over: its name isn't a serial number with .csr behind it.")
 
 
-def _certified(spool: Path, serial: str, authority: Authority, books: Books) -> str:
+def _certified(spool: Path, serial: str, authority: Authority, books: DevicesBySerial) -> str:
     """Has a record's certificate beside its request, and says whether it was issued now or present."""
     request, beside = request_in(spool, serial), spool / f"{serial}{CERTIFICATE}"
     if request is None:
@@ -165,7 +165,7 @@ def _certified(spool: Path, serial: str, authority: Authority, books: Books) -> 
     return "issued" if is_new else "present"
 
 
-def _check_kept(request: Request, pem: bytes, file: Path) -> None:
+def _check_kept(request: CertificateRequest, pem: bytes, file: Path) -> None:
     """Holds a request to the certificate that its record has already, without a look at the record."""
     certificate = certificates_of(pem, file)[0]
     if request.public_key != key_of_certificate(certificate):
@@ -173,7 +173,7 @@ def _check_kept(request: Request, pem: bytes, file: Path) -> None:
         raise NotCertified(f"{file} has another key than the certificate of its serial number", told)
 
 
-def _check(request: Request, record: Mapping[str, Any], file: Path) -> None:
+def _check(request: CertificateRequest, record: Mapping[str, Any], file: Path) -> None:
     """Holds a request to the record of its serial number: the key, and the chip where its subject names one."""
     if request.digest != record["key_sha256"]:
         told = "Look which chip each is of, before anything else. The device keeps its record."
@@ -200,7 +200,7 @@ def verify(settings: Settings, args: argparse.Namespace) -> int:
     chains = {name: _chain_of(name) for name in dict.fromkeys(args.certificates)}
     serials = {name: _serial_of(chain[0]) for name, chain in chains.items() if chain}
     with looking_station_of(settings) as station:
-        books = Books(station, filter(None, serials.values()), args.issuer)
+        books = DevicesBySerial(station, filter(None, serials.values()), args.issuer)
         refused = sum(chain is None for chain in chains.values())
         for name, chain in chains.items():
             try:
@@ -240,7 +240,7 @@ def _serial_of(certificate: Any) -> str:
     return numbers[0] if len(numbers) == 1 and SERIAL.fullmatch(numbers[0]) else ""
 
 
-def _verified(chain: Sequence[Any], serial: str, books: Books, trusted: Path, crl: Optional[Path]) -> str:
+def _verified(chain: Sequence[Any], serial: str, books: DevicesBySerial, trusted: Path, crl: Optional[Path]) -> str:
     if not serial:
         raise NotCertified("it has no serialNumber of a record in its subject")
     listed, record = books.record(serial)

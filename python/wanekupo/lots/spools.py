@@ -31,7 +31,7 @@ OF_CA = ("ca.pem", "ca.cnf", "index.txt")
 
 
 @dataclass(frozen=True)
-class Request:
+class CertificateRequest:
     """A request for a certificate whose signature holds: in DER, with the SubjectPublicKeyInfo of its key."""
 
     der: bytes
@@ -90,7 +90,7 @@ def read_in(file: Path) -> Optional[bytes]:
     return data
 
 
-def request_in(spool: Path, serial: str) -> Optional[Request]:
+def request_in(spool: Path, serial: str) -> Optional[CertificateRequest]:
     """The request of a serial number, as PEM with any line ends or as DER; None where there is none."""
     file = spool / f"{serial}{CSR}"
     data = read_in(file)
@@ -103,7 +103,7 @@ def request_in(spool: Path, serial: str) -> Optional[Request]:
         public_key = public_key_of(csr=data)
         x509 = library("x509")
         load = x509.load_pem_x509_csr if b"-----BEGIN" in data else x509.load_der_x509_csr
-        return Request(load(data).public_bytes(library("hazmat.primitives.serialization").Encoding.DER), public_key)
+        return CertificateRequest(load(data).public_bytes(library("hazmat.primitives.serialization").Encoding.DER), public_key)
     except BadKey as error:
         told = "Don't go on with it: bring it from the bench's spool again. A device that is shipped makes no other."
         raise BadKey(f"{file} can't be used: {error}", told) from error

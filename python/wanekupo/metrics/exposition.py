@@ -1,6 +1,6 @@
 """Metrics as Prometheus reads them (text-based format 0.0.4), and which there are: each has its name here, once.
 
-The rules and the dashboard of deploy/prometheus are held to these names by a test.
+The rules of deploy/prometheus are held to these names by a test.
 """
 
 from __future__ import annotations

@@ -13,9 +13,9 @@ from typing import Any, Mapping, Sequence
 from wanekupo.seat import listings as gathering
 from wanekupo.common.errors import StationError
 from wanekupo.metrics.exposition import Samples
+from wanekupo.books.report_counts import report_rows
 from wanekupo.seat.station import Station
 from wanekupo.seat.states import FINISHED, REPORTED
-from wanekupo.books.kept_reports import report_rows
 
 # In these states a device is neither at its end nor lost.
 UNDER_WAY = tuple(state for state in REPORTED if state not in FINISHED)

@@ -39,14 +39,16 @@ from pathlib import Path
 from wanekupo.common.process import end_tool
 from wanekupo.common.errors import PlantError
 from wanekupo.plant.trial_copy import Backup, copy_files, copy_running, newest_backup
-from wanekupo.common.store_user import LONGEST, ROOMS, STOPS, Store, UserError, clear_rooms, read_small, room, shown
+from wanekupo.common.store_user import (
+    LONGEST, MINUTE, ROOMS, STOPS, StoreFolder, UserError, clear_rooms, read_small, room, shown,
+)  # fmt: skip
 
 # Bytes a second that a start reads, at the least (docs/reference/program.md). How old metrics may be, and how far ahead
 # their clock, in seconds.
 SLOWEST, OLDEST, AHEAD = 20_000_000, 1200, 60
 TRIED_BY_BYTES = "reckoned by its bytes, as no start was tried"
 # The folder is the store user's, so that user writes the file, whole.
-WRITTEN = 'umask 022; cat > "$1.new"; mv "$1.new" "$1"'
+WRITTEN = 'umask 022; rm -f "$1.new"; cat > "$1.new"; mv "$1.new" "$1"'
 
 
 class NoRestartError(PlantError):
@@ -130,7 +132,7 @@ def free_memory() -> int:
     return next(1024 * int(line.split()[1]) for line in lines if line.startswith("MemAvailable:"))
 
 
-def trial(args: argparse.Namespace, store: Store, backup: Backup | None, needed: int) -> float:
+def trial(args: argparse.Namespace, store: StoreFolder, backup: Backup | None, needed: int) -> float:
     """Starts a copy as the store's user, since a file may bring a program to do things; gives the seconds."""
     what = f"the copy in {backup.path}" if backup else "a copy of the store as it is now"
     with room(store.user, needed, args.room) as own:
@@ -149,7 +151,7 @@ def trial(args: argparse.Namespace, store: Store, backup: Backup | None, needed:
         return time.monotonic() - begun
 
 
-def seconds_away(args: argparse.Namespace, store: Store, metrics: Metrics) -> tuple[int, str]:
+def seconds_away(args: argparse.Namespace, store: StoreFolder, metrics: Metrics) -> tuple[int, str]:
     """How long a restart takes, and how that is known."""
     newest = newest_backup(store.user, args.backups)
     took, by = store.size() / SLOWEST, TRIED_BY_BYTES
@@ -167,12 +169,13 @@ def seconds_away(args: argparse.Namespace, store: Store, metrics: Metrics) -> tu
 # ---- The restart.
 
 
-def planned_until(args: argparse.Namespace, store: Store, moment: float) -> None:
+def planned_until(args: argparse.Namespace, store: StoreFolder, moment: float) -> None:
     """No alarm until then: the rule of ServerIsAway looks at it."""
     name = "wanekupo_restart_end_timestamp_seconds"
     text = f"# HELP {name} When the last restart that was planned is over at the latest.\n# TYPE {name} gauge\n"
     path = args.metrics.parent / "restart.prom"
-    done = store.user.run("sh", "-c", WRITTEN, "sh", str(path), given=f"{text}{name} {int(moment)}\n")
+    given = f"{text}{name} {int(moment)}\n"
+    done = store.user.run("sh", "-c", WRITTEN, "sh", str(path), given=given, seconds=MINUTE)
     if done.returncode:
         raise NoRestartError(f"{path} can't be written as {store.user.name}: {shown(done.stderr).strip()}")
 
@@ -187,7 +190,7 @@ def is_healthy(args: argparse.Namespace) -> bool:
     return done.stdout == b"200"
 
 
-def restart(args: argparse.Namespace, store: Store, wait: int) -> float:
+def restart(args: argparse.Namespace, store: StoreFolder, wait: int) -> float:
     """Restarts, and waits until it answers; gives the seconds."""
     begun, look = time.monotonic(), f"systemctl status {args.unit}; journalctl -u {args.unit}"
     if not service("try-restart", args.unit):
@@ -202,7 +205,7 @@ def restart(args: argparse.Namespace, store: Store, wait: int) -> float:
 
 
 def run(args: argparse.Namespace) -> None:
-    store = Store(args.db)
+    store = StoreFolder(args.db)
     store.size()
     clear_rooms(args.room)
     # Who stopped it had a reason, and nobody else starts it again.

@@ -42,10 +42,10 @@ from typing import Optional
 
 from wanekupo.common.process import end_tool
 from wanekupo.standby import living
-from wanekupo.standby.half import SETTINGS, Half, Refused, read_settings
+from wanekupo.standby.half import SETTINGS, Half, StandbyError, read_settings
 from wanekupo.common.token_file import (
-    HEALTH, LAST, MINUTE, PREFIX, Outer, Seat, TokenError, Tokens, alone, inner_of, is_past, mark_of, now, put, read,
-    text_of, tokens_of,
+    HEALTH, LAST, MINUTE, PREFIX, Outer, TokenSeat, TokenError, Tokens, alone, check_folder, inner_of, is_past, mark_of, now,
+    put, read, text_of, tokens_of,
 )  # fmt: skip
 from wanekupo.common.site_file import digest_of, digests_of, grown, is_in, lines_of
 from wanekupo.common.whole_file import make_file, put_whole
@@ -63,7 +63,7 @@ SPANS = {"m": "minutes", "h": "hours", "d": "days"}
 
 
 @dataclass
-class Done:
+class Outcome:
     """What a command came to: what it prints, what it tells, a secret, and another text of a site file."""
 
     shown: str = ""
@@ -170,7 +170,7 @@ def commit(args: argparse.Namespace, tokens: Tokens, before: Optional[str]) -> O
     return TokenError(5, f"{path} is changed, and nginx may go on as before:\n{wrong}") if wrong else None
 
 
-def put_site(args: argparse.Namespace, done: Done) -> Optional[TokenError]:
+def put_site(args: argparse.Namespace, done: Outcome) -> Optional[TokenError]:
     """A site file's new text, where a command has one."""
     try:
         if done.site:
@@ -181,7 +181,7 @@ def put_site(args: argparse.Namespace, done: Done) -> Optional[TokenError]:
         return TokenError(7, f"{args.file} is changed, and {args.into} isn't: {error}. {told}")
 
 
-def say(args: argparse.Namespace, done: Done, text: str) -> list[TokenError]:
+def say(args: argparse.Namespace, done: Outcome, text: str) -> list[TokenError]:
     """Prints what a command came to."""
     try:
         print(text, end="", flush=True)
@@ -205,24 +205,24 @@ def left_to_the_other(path: Path, tokens: Tokens) -> Optional[TokenError]:
         else:
             print("the store isn't mounted here: where the other machine has it, do the same there", file=sys.stderr)
         return None
-    except (Refused, OSError) as error:
+    except (StandbyError, OSError) as error:
         return TokenError(6, f"{path} is changed, and the other machine doesn't know it. {error}")
 
 
 # ---- commands
 
 
-def taken_over(args: argparse.Namespace, name: str, server: str) -> Seat:
+def taken_over(args: argparse.Namespace, name: str, server: str) -> TokenSeat:
     """A seat that the site file has, with its token out of a file."""
     digests = digests_of(Path(args.site).read_text(encoding="utf-8"), args.site)
     customer = name if name.startswith("@") else digests.get(name, ("", ""))[0]
-    made = Seat(name, customer, inner_of(args.known), server)
+    made = TokenSeat(name, customer, inner_of(args.known), server)
     if not is_in(digests, made):
         raise TokenError(1, f"{args.site} has no seat {name} with the token of {args.known}")
     return made
 
 
-def seat(args: argparse.Namespace, tokens: Tokens) -> Done:
+def seat(args: argparse.Namespace, tokens: Tokens) -> Outcome:
     name = of_form(f"@?{NAME}", args.seat, "name of a seat")
     server = of_form(SERVER, args.server or "station", "server")
     there = tokens.seats.get(name)
@@ -232,20 +232,20 @@ def seat(args: argparse.Namespace, tokens: Tokens) -> Done:
         raise TokenError(1, f"the seat {name} is there already")
     if there and args.server:
         tokens.seats[name] = replace(there, server=server)
-        return Done(told=f"the seat {name} is asked for at {server}")
+        return Outcome(told=f"the seat {name} is asked for at {server}")
     if there:
-        return Done(lines_of(there), f"the seat {name} is there already, with these lines", is_change=False)
+        return Outcome(lines_of(there), f"the seat {name} is there already, with these lines", is_change=False)
     if args.known:
         tokens.seats[name] = made = taken_over(args, name, server)
-        return Done(told=f"{made.title()}: its token is taken over; from outside it is 401")
+        return Outcome(told=f"{made.title()}: its token is taken over; from outside it is 401")
     customer = name if name.startswith("@") else of_form(NAME, args.customer or "", "customer: --customer")
-    tokens.seats[name] = made = Seat(name, customer, secrets.token_hex(32), server)
+    tokens.seats[name] = made = TokenSeat(name, customer, secrets.token_hex(32), server)
     if args.into:
         if not os.access(args.into, os.W_OK):
             raise TokenError(1, f"{args.into} can't be written")
         text = grown(Path(args.into).read_text(encoding="utf-8"), made, args.into)
-        return Done(told=f"{made.title()} is in {args.into}", site=text)
-    return Done(lines_of(made), f"{made.title()}: these lines are for the site file")
+        return Outcome(told=f"{made.title()} is in {args.into}", site=text)
+    return Outcome(lines_of(made), f"{made.title()}: these lines are for the site file")
 
 
 def new_one(tokens: Tokens, like: Outer) -> Outer:
@@ -270,7 +270,7 @@ def told_of(made: Outer) -> str:
     return f"{made.token} {what}{end}: {made.subject or made.mark}"
 
 
-def add(args: argparse.Namespace, tokens: Tokens) -> Done:
+def add(args: argparse.Namespace, tokens: Tokens) -> Outcome:
     if args.seat not in tokens.seats:
         raise TokenError(1, f"there is no seat {args.seat}: make it with `{NAMED} seat`")
     subject = of_form(SUBJECT, args.certificate, "subject of a certificate") if args.certificate else ""
@@ -280,7 +280,7 @@ def add(args: argparse.Namespace, tokens: Tokens) -> Done:
     holder = of_form(r"[ -~]{0,80}", args.holder, "text of at most 80 letters")
     like = Outer("", 0, args.seat, args.look, "", "", subject=subject, until=until, holder=holder)
     made = new_one(tokens, like)
-    return Done(told=told_of(made), secret=made.text)
+    return Outcome(told=told_of(made), secret=made.text)
 
 
 def of_name(outers: list[Outer], name: str) -> list[Outer]:
@@ -299,14 +299,14 @@ def end(tokens: Tokens, outer: Outer) -> None:
     tokens.change(outer, text="", ended=now())
 
 
-def revoke(args: argparse.Namespace, tokens: Tokens) -> Done:
+def revoke(args: argparse.Namespace, tokens: Tokens) -> Outcome:
     """Ends them. Of one that has ended nginx may not know it yet: then it is told once more."""
     if of_name(tokens.outers, args.name) and not of_name(tokens.open_ones(), args.name):
-        return Done(told=f"{args.name} had ended before")
+        return Outcome(told=f"{args.name} had ended before")
     found = named(tokens, args.name)
     for outer in found:
         end(tokens, outer)
-    return Done(told="".join(f"{it.token} has ended: {it.subject or it.mark}\n" for it in found).rstrip())
+    return Outcome(told="".join(f"{it.token} has ended: {it.subject or it.mark}\n" for it in found).rstrip())
 
 
 def end_past(tokens: Tokens) -> None:
@@ -316,7 +316,7 @@ def end_past(tokens: Tokens) -> None:
             tokens.change(outer, text="", ended=outer.until)
 
 
-def rotate(args: argparse.Namespace, tokens: Tokens) -> Done:
+def rotate(args: argparse.Namespace, tokens: Tokens) -> Outcome:
     found = [it for it in named(tokens, args.name) if not it.until or it.until.endswith(LAST)]
     if not found:
         raise TokenError(1, f"{args.name} was rotated already, and ends by itself")
@@ -331,7 +331,7 @@ def rotate(args: argparse.Namespace, tokens: Tokens) -> Done:
         tokens.change(old, until=min(until, old.until or until))
     else:
         end(tokens, old)
-    return Done(told=f"{told_of(made)}\n{old.token} {'ends ' + until if until else 'has ended'}", secret=made.text)
+    return Outcome(told=f"{told_of(made)}\n{old.token} {'ends ' + until if until else 'has ended'}", secret=made.text)
 
 
 def shown(until: str) -> str:
@@ -350,24 +350,24 @@ def rows_of(tokens: Tokens, is_all: bool) -> list[list[str]]:
     return rows
 
 
-def show(args: argparse.Namespace, tokens: Tokens) -> Done:
+def show(args: argparse.Namespace, tokens: Tokens) -> Outcome:
     rows = rows_of(tokens, args.all)
     widths = [max(len(row[place]) for row in rows) for place in range(len(rows[0]))]
     lines = ["  ".join(cell.ljust(width) for cell, width in zip(row, widths)).rstrip() for row in rows]
     asking = {it.seat for it in tokens.open_ones()} | {HEALTH}
     without = [name for name in tokens.seats if name not in asking]
     told = f"without an outer token: {', '.join(without)}" if without else ""
-    return Done("\n".join([*lines, ""]), told, is_change=False)
+    return Outcome("\n".join([*lines, ""]), told, is_change=False)
 
 
-def inner(args: argparse.Namespace, tokens: Tokens) -> Done:
+def inner(args: argparse.Namespace, tokens: Tokens) -> Outcome:
     if args.seat not in tokens.seats:
         raise TokenError(1, f"there is no seat {args.seat}")
     told = f"{args.to} has the seat's own token: remove it where it was needed"
-    return Done(told=told, secret=tokens.seats[args.seat].inner, is_change=False)
+    return Outcome(told=told, secret=tokens.seats[args.seat].inner, is_change=False)
 
 
-def check(args: argparse.Namespace, tokens: Tokens) -> Done:
+def check(args: argparse.Namespace, tokens: Tokens) -> Outcome:
     digests = digests_of(Path(args.site).read_text(encoding="utf-8"), args.site)
     lines = [f"{it.title()}: {args.site} has it not, or with another token"
              for it in tokens.seats.values() if not is_in(digests, it)]  # fmt: skip
@@ -377,11 +377,11 @@ def check(args: argparse.Namespace, tokens: Tokens) -> Done:
     ]
     if lines:
         raise TokenError(1, "\n".join(lines))
-    return Done(told=f"{len(digests)} seats, as in {args.site}", is_change=False)
+    return Outcome(told=f"{len(digests)} seats, as in {args.site}", is_change=False)
 
 
-def write(args: argparse.Namespace, tokens: Tokens) -> Done:
-    return Done(told=f"{args.file} is written anew")
+def write(args: argparse.Namespace, tokens: Tokens) -> Outcome:
+    return Outcome(told=f"{args.file} is written anew")
 
 
 COMMANDS = {
@@ -406,6 +406,7 @@ def run(args: argparse.Namespace) -> None:
             end_past(tokens)
         late, to = None, Path(args.to) if getattr(args, "to", None) and done.secret else None
         if to:
+            check_folder(to.parent)
             make_file(to, done.secret + "\n")
         try:
             late = commit(args, tokens, before) if done.is_change else None

@@ -7,6 +7,7 @@ what a reader uses has the form that it relies on. Folders are bounded, and so i
 
 from __future__ import annotations
 
+import argparse
 import json
 import os
 import re
@@ -190,6 +191,16 @@ def journals_below(folder: Path) -> list[Path]:
     return sorted(found)
 
 
+def stations_folders(path: Path, folders: Folders) -> list[Path]:
+    """The folders in the folder of all, in which each station has its own, and which root's file names."""
+    found = sorted(path.iterdir())
+    for it in found:
+        if it.is_symlink() or it.name not in folders and (it.is_dir() or it.suffix == SUFFIX):
+            told = "Name a folder that has the stations' folders, and say in that file which seats each one has."
+            raise BadJournal(f"{it} is no folder that the file of folders names", told)
+    return [it for it in found if it.is_dir()]
+
+
 # The file that says which seats each folder of journals has (docs/reference/files.md, Folders of journals).
 
 
@@ -203,8 +214,20 @@ def folders_at(path: Path) -> Folders:
             return folders_in(file.read(LONGEST_FILE).decode(), path)
     except FileNotFoundError:
         return {}
-    except (OSError, ValueError, StationError) as error:
+    except (OSError, ValueError, RecursionError, StationError) as error:
         raise BadJournal(f"{path} can't be read: {error}") from None
+
+
+def add_folders(parser: argparse.ArgumentParser) -> None:
+    said = "the journals are folders of all stations' folders, of which this file of root's says whose each one is"
+    parser.add_argument("--folders", type=Path, metavar="FILE", help=said)
+
+
+def named_folders(path: Path) -> Folders:
+    """The same of a file that a person names, which has to name folders."""
+    if found := folders_at(path):
+        return found
+    raise BadJournal(f"{path} isn't there, or names no folder", "Name the file that a restore goes by.")
 
 
 def folders_in(text: str, path: Path) -> Folders:

@@ -102,7 +102,7 @@ class Entry:
 
 
 @dataclass(frozen=True)
-class Done:
+class LastRequest:
     """The last request of the seat that was accepted; of blocks its members have the SHA-256 of each."""
 
     path: str

@@ -151,7 +151,7 @@ def _table_of(file: Path, is_needed: bool) -> dict[str, Any]:
         raise BadSettings(f"other users can write the configuration file {file}", told)
     try:
         return tomllib.loads(data.decode("utf-8"))
-    except ValueError as error:
+    except (ValueError, RecursionError) as error:
         raise BadSettings(f"{file} is no TOML: {error}", "Mend that line.") from error
 
 

@@ -36,7 +36,7 @@ def _kept(asked: Optional[Mapping[str, Any]]) -> Optional[dict[str, Any]]:
     return {**asked, "body": compact_json(redacted(members))}
 
 
-class State:
+class StateFile:
     """What a seat keeps, and which process has it. Without a file nothing is kept, and so nothing begun.
 
     Of the token it has the SHA-256: with another seat's its request would be another one, and might be done as that.
@@ -78,7 +78,7 @@ class State:
     @property
     def late(self) -> list[dict[str, str]]:
         """The requests with the next number that were sent more than once and then refused, as they were sent. Behind
-        an accepted one those before are of no use; the client in JavaScript leaves them there."""
+        an accepted one those before are of no use; another client may leave them there."""
         return [it for it in self._data["late"] if json.loads(it["body"])["nr"] == self.next]
 
     def late_with(self, asked: Mapping[str, str]) -> list[dict[str, str]]:
@@ -120,8 +120,8 @@ class State:
             raise BadStateFile(f"{self.file} is no state file", told) from error
 
     def forget_words(self) -> None:
-        """A file of an earlier version has what a chip showed, which may be a key, in its last request. One that the
-        client in JavaScript went on with may have it in requests of which no copy can be accepted any more."""
+        """A file of an earlier version has what a chip showed, which may be a key, in its last request. One that
+        another client went on with may have it in requests of which no copy can be accepted any more."""
         if self.last != _kept(self.last) or self.late != self._data["late"]:
             self.keep()
 

@@ -15,13 +15,15 @@ import threading
 from typing import Any, Callable, Iterable, Iterator, Mapping, NoReturn, Optional, Sequence, TypeVar
 from urllib.parse import quote
 
-from wanekupo.chips.chip import Blocks, Espefuse, checked, shows
+from wanekupo.chips.chip import checked, shows
 from wanekupo.seat.connection import Server
 from wanekupo.common.errors import BadStateFile, NotTheServer, OutOfStep, Refused, UnderWay
+from wanekupo.chips.espefuse import Burner
+from wanekupo.chips.families import Blocks
 from wanekupo.common.printing import warn
 from wanekupo.seat.replies import (
     Device,
-    Done,
+    LastRequest,
     Entry,
     Identity,
     Imported,
@@ -39,7 +41,7 @@ from wanekupo.seat.replies import (
     work_of,
 )
 from wanekupo.seat.rows import LONGEST_BODY, Rows, csv_of, parts_of
-from wanekupo.seat.state_file import State, members_of
+from wanekupo.seat.state_file import StateFile, members_of
 
 Self = TypeVar("Self", bound="Seat")
 
@@ -115,7 +117,7 @@ class Seat:
         self._journal, self._closes_journal = journal, closes_journal
         self._tell, self._tells_of_new_file = tell, tells_of_new_file
         self._turn = threading.RLock()
-        self._state = State(file, token)
+        self._state = StateFile(file, token)
         try:
             if not self._state.is_of_the_token() and not new_token:
                 told = "Name the seat's own file; or give --new-token where the token is a new one of the same seat."
@@ -264,13 +266,13 @@ class Seat:
         return False
 
     @_in_turn
-    def finish(self) -> Optional[Done]:
+    def finish(self) -> Optional[LastRequest]:
         """Sends what is under way again, as it was, and gives the last request that was accepted, if there is one."""
         self.take_token()
         if self._state.under_way:
             self._complete(is_repeat=True)
         last = self._state.last
-        return Done(last["path"], members_of(last), last["reply"]) if last else None
+        return LastRequest(last["path"], members_of(last), last["reply"]) if last else None
 
     @_in_turn
     def expected_number(self) -> int:
@@ -433,7 +435,7 @@ class Station(Seat):
         """The counts of each customer, by its name; the manager's alone."""
         return self.report("/v1/site/report")
 
-    def settle(self, chip: str, chip_io: Espefuse, tries: int = 3) -> Device:
+    def settle(self, chip: str, chip_io: Burner, tries: int = 3) -> Device:
         """Burns and reads back what a device awaits. It is then settled or quarantined, or still awaits what the chip
         doesn't take in so many tries.
 

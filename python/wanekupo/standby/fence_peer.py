@@ -15,7 +15,7 @@ import time
 from collections.abc import Sequence
 
 
-from wanekupo.standby.half import Half, Refused, fenced_by_command, read_settings, run, take_word
+from wanekupo.standby.half import Half, StandbyError, clean_words, fenced_by_command, read_settings, run, take_word
 
 IS_OFF, IS_UNKNOWN = 7, 1
 # DRBD's own tool ends a handler behind ten minutes. `other-is-off` goes on without it then.
@@ -74,8 +74,9 @@ def main(words: Sequence[str]) -> int:
     if list(words) in (["-h"], ["--help"]):
         print(__doc__)
         return 0
+    clean_words()
     try:
         return answered()
-    except Refused as refused:
+    except StandbyError as refused:
         print(f"fence-peer: {refused}", file=sys.stderr)
         return IS_UNKNOWN

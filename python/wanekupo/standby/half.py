@@ -25,6 +25,7 @@ from typing import Any, TextIO
 
 from wanekupo.common.errors import PlantError
 from wanekupo.common.store_user import UserError, shown
+from wanekupo.common.store_words import clean_words
 from wanekupo.common.whole_file import put_whole
 
 SETTINGS = Path("/etc/station/standby.toml")
@@ -58,12 +59,12 @@ FROZEN = (
 )
 
 
-class Refused(PlantError):
+class StandbyError(PlantError):
     """Why something isn't done, and what to do then: whole sentences."""
 
 
 @dataclass(frozen=True)
-class Settings:
+class StandbySettings:
     """The settings of /etc/station/standby.toml."""
 
     resource: str = "station"
@@ -84,27 +85,27 @@ class Settings:
     witnesses: tuple[str, ...] = ()
 
 
-def read_settings(file: Path = SETTINGS) -> Settings:
+def read_settings(file: Path = SETTINGS) -> StandbySettings:
     """The settings, where nobody but root can have written them: they name commands that root runs."""
     try:
         found = os.stat(file)
         text = file.read_bytes().decode()
         values = tomllib.loads(text)
     except FileNotFoundError:
-        return Settings()
-    except (UnicodeDecodeError, tomllib.TOMLDecodeError) as error:
-        raise Refused(f"{file} is no TOML: {error}.") from None
+        return StandbySettings()
+    except (UnicodeDecodeError, tomllib.TOMLDecodeError, RecursionError) as error:
+        raise StandbyError(f"{file} is no TOML: {error}.") from None
     if found.st_uid != 0 or found.st_mode & 0o022:
-        raise Refused(f"Others than root can write {file}, whose commands root runs: chown root, and chmod go-w.")
-    kinds = {field.name: type(field.default) for field in fields(Settings)}
+        raise StandbyError(f"Others than root can write {file}, whose commands root runs: chown root, and chmod go-w.")
+    kinds = {field.name: type(field.default) for field in fields(StandbySettings)}
     for name, value in values.items():
         if name not in kinds:
-            raise Refused(f"{file} has {name}, which is no setting.")
+            raise StandbyError(f"{file} has {name}, which is no setting.")
         if kinds[name] is tuple and isinstance(value, list) and all(isinstance(it, str) for it in value):
             values[name] = tuple(value)
         elif not isinstance(value, kinds[name]) or isinstance(value, bool):
-            raise Refused(f"{name} in {file} has another form than the settings' own.")
-    return Settings(**values)
+            raise StandbyError(f"{name} in {file} has another form than the settings' own.")
+    return StandbySettings(**values)
 
 
 def run(words: list[str], seconds: float = COMMAND_SECONDS, **more: Any) -> subprocess.CompletedProcess[str]:
@@ -122,7 +123,7 @@ def done(words: list[str], seconds: float = COMMAND_SECONDS) -> str:
     ended = run(words, seconds)
     if ended.returncode:
         said = (ended.stderr or ended.stdout).strip().replace("\n", "; ")
-        raise Refused(f"`{shlex.join(words)}` ended with status {ended.returncode}: {said}")
+        raise StandbyError(f"`{shlex.join(words)}` ended with status {ended.returncode}: {said}")
     return ended.stdout.strip()
 
 
@@ -135,14 +136,15 @@ def tell(line: str, out: TextIO | None = None) -> None:
 def ended(name: str, call: Callable[[], int], *, alone: bool = False) -> int:
     """The status of a command's call, with sentences where it is refused or stopped. With `alone` a second one that has
     it too is kept out."""
+    clean_words()
     for number in (signal.SIGTERM, signal.SIGHUP):
         signal.signal(number, signal.default_int_handler)
     try:
         if os.geteuid() != 0:
-            raise Refused("Only root can do that.")
+            raise StandbyError("Only root can do that.")
         with alone_at_work() if alone else contextlib.nullcontext():
             return call()
-    except (Refused, UserError) as refused:
+    except (StandbyError, UserError) as refused:
         tell(f"{name}: refused: {refused}", sys.stderr)
     except OSError as error:
         tell(f"{name}: It failed: {error}. Mend that, and type the same again.", sys.stderr)
@@ -158,12 +160,12 @@ def alone_at_work() -> Iterator[None]:
         try:
             fcntl.flock(lock, fcntl.LOCK_EX | fcntl.LOCK_NB)
         except BlockingIOError:
-            raise Refused("Another `takeover` or `stepdown` is at work on this machine: wait until it ends.") from None
+            raise StandbyError("Another `takeover` or `stepdown` is at work on this machine: wait until it ends.") from None
         yield
 
 
 @dataclass(frozen=True)
-class State:
+class DrbdState:
     """What DRBD says: how the two are connected, this machine's role and the other's, what their disks are, and whether
     this machine's writes are frozen."""
 
@@ -185,22 +187,22 @@ class State:
 class Half:
     """This machine's half."""
 
-    def __init__(self, settings: Settings):
+    def __init__(self, settings: StandbySettings):
         self.settings, self.resource = settings, settings.resource
         self.folder = Path(settings.folder)
 
     def asked(self, what: str) -> str:
         return done(["drbdadm", what, self.resource])
 
-    def state(self) -> State:
+    def state(self) -> DrbdState:
         """What DRBD says now, by the kernel's own table, which DRBD 8.4 has."""
         minor = self.settings.device.removeprefix("/dev/drbd")
         # Where DRBD doesn't look for the other machine there is no letter of a protocol behind the disks.
         form = rf"^ *{minor}: cs:(\S+) ro:(\S+)/(\S+) ds:(\S+)/(\S+) +(?:[ABC] +)?([rs])"
         table = TABLE.read_text(encoding="ascii") if TABLE.exists() else ""
         if found := re.search(form, table, re.MULTILINE):
-            return State(*found.groups()[:5], is_frozen=found[6] == "s")
-        raise Refused(f"DRBD has no {self.settings.device} here: `drbdadm up {self.resource}`.")
+            return DrbdState(*found.groups()[:5], is_frozen=found[6] == "s")
+        raise StandbyError(f"DRBD has no {self.settings.device} here: `drbdadm up {self.resource}`.")
 
     def received(self) -> str:
         """How much this half got from the other machine since this one is on: it grows with each write of the other's,
@@ -217,7 +219,7 @@ class Half:
         found = re.findall(r"^    on (\S+) \{", self.asked("dump"), re.MULTILINE)
         names = [name for name in found if name != os.uname().nodename]
         if len(names) != 1:
-            raise Refused(f"The resource {self.resource} has {len(names)} other machines, and not one.")
+            raise StandbyError(f"The resource {self.resource} has {len(names)} other machines, and not one.")
         return names[0]
 
     def is_mounted(self) -> bool:
@@ -227,10 +229,10 @@ class Half:
         if os.path.ismount(self.folder):
             if device.exists() and self.folder.stat().st_dev == device.stat().st_rdev:
                 return True
-            raise Refused(f"{where} another volume than {device}: unmount it, and take its line out of /etc/fstab.")
+            raise StandbyError(f"{where} another volume than {device}: unmount it, and take its line out of /etc/fstab.")
         if left := [path.name for path in self.folder.iterdir() if path.name != "lost+found"]:
             told = "Look whose they are, and move them away, so that nothing but the half is ever there."
-            raise Refused(f"{where} files, {' and '.join(sorted(left)[:3])}, and {device} isn't mounted. {told}")
+            raise StandbyError(f"{where} files, {' and '.join(sorted(left)[:3])}, and {device} isn't mounted. {told}")
         return False
 
     def mount(self, device: str = "", where: str = "") -> None:
@@ -254,7 +256,7 @@ def run_file(name: str) -> Path:
     RUN.mkdir(mode=0o700, exist_ok=True)
     found = os.stat(RUN)
     if found.st_uid != 0 or found.st_mode & 0o022:
-        raise Refused(f"Others than root can write {RUN}.")
+        raise StandbyError(f"Others than root can write {RUN}.")
     return RUN / name
 
 
@@ -296,7 +298,7 @@ def take_word() -> bool:
         return False
 
 
-def fenced_by_command(settings: Settings) -> bool:
+def fenced_by_command(settings: StandbySettings) -> bool:
     """Whether the plant's own command has switched the other machine off."""
     return bool(settings.fence) and run(shlex.split(settings.fence)).returncode == 0
 

@@ -9,7 +9,7 @@ import sys
 from collections.abc import Sequence
 
 
-from wanekupo.standby.half import Half, Refused, read_settings
+from wanekupo.standby.half import Half, StandbyError, read_settings, tell
 
 
 def main(words: Sequence[str]) -> int:
@@ -20,6 +20,6 @@ def main(words: Sequence[str]) -> int:
         if Half(read_settings()).is_mounted():
             return 0
         print("The store's volume isn't mounted here: `takeover` mounts it.", file=sys.stderr)
-    except (Refused, OSError) as refused:
-        print(f"refused: {refused}", file=sys.stderr)
+    except (StandbyError, OSError) as refused:
+        tell(f"refused: {refused}", sys.stderr)
     return 2

@@ -11,8 +11,8 @@ import os
 import re
 from pathlib import Path
 
-from wanekupo.standby.half import Half, Refused, tell
-from wanekupo.common.store_user import Store, UserError, read_small
+from wanekupo.standby.half import Half, StandbyError, tell
+from wanekupo.common.store_user import MINUTE, StoreFolder, UserError, read_small
 from wanekupo.common.token_file import Tokens, TokenError, is_past, living, read, tokens_of
 from wanekupo.common.whole_file import put_whole
 
@@ -28,7 +28,7 @@ def here(half: Half) -> Tokens:
         text = read(path)
         return Tokens() if text is None else tokens_of(text, path)
     except (TokenError, OSError, UnicodeDecodeError) as error:
-        raise Refused(f"The tokens of this machine can't be read: {error}.") from None
+        raise StandbyError(f"The tokens of this machine can't be read: {error}.") from None
 
 
 def listed(folder: int) -> set[str] | None:
@@ -51,17 +51,17 @@ def listed(folder: int) -> set[str] | None:
 def leave(half: Half, tokens: Tokens) -> None:
     """Writes the list beside the store, which this machine has."""
     if half.state().is_frozen:
-        raise Refused("This machine's writes are frozen. Once they aren't, type `station-token write`.")
+        raise StandbyError("This machine's writes are frozen. Once they aren't, type `station-token write`.")
     text = "".join(f"{line}\n" for line in living(tokens))
     try:
-        store = Store(half.folder / "books.db")
+        store = StoreFolder(half.folder / "books.db")
         try:
-            store.user.call(lambda: put_whole(half.folder / NOTE, text))
+            store.user.call(lambda: put_whole(half.folder / NOTE, text), seconds=MINUTE)
         finally:
             os.close(store.handle)
     except (UserError, OSError) as error:
         told = "Mend that, and type `station-token write`"
-        raise Refused(f"{NOTE} can't be written beside the store: {error}. {told}.") from None
+        raise StandbyError(f"{NOTE} can't be written beside the store: {error}. {told}.") from None
 
 
 def names_of(lines: set[str]) -> str:
@@ -79,7 +79,7 @@ def test(half: Half, there: set[str] | None, is_known: bool) -> None:
         tell(f"tokens that {other} didn't let in so, and that may ask here by your word: {names_of(more)}")
         return
     why = f"{other} didn't let in so" if there is not None else f"{other} may have ended, as the volume has no list"
-    raise Refused(
+    raise StandbyError(
         f"This machine has tokens that {why}: {names_of(more)}. Copy the files of {other} as step 8 of the page "
         "`standby` does, or end here what was ended there (`station-token revoke NAME`), and type the same again. "
         "Where nobody knows, and they may ask, add --ended-tokens-may-ask."

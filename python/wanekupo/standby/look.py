@@ -18,8 +18,8 @@ from dataclasses import dataclass
 from pathlib import Path
 
 from wanekupo.standby import living
-from wanekupo.standby.half import Half, Refused, done, run
-from wanekupo.common.store_user import Store, user_named
+from wanekupo.standby.half import Half, StandbyError, done, run
+from wanekupo.common.store_user import StoreFolder, user_named
 from wanekupo.common.token_file import MANAGER, TokenError
 from wanekupo.common.site_file import digests_of
 
@@ -69,7 +69,7 @@ def clear(half: Half) -> None:
         run(["umount", str(folder / "shown")])
     if run(["dmsetup", "info", NAME]).returncode == 0:
         if run(["dmsetup", "remove", "--retry", NAME]).returncode:
-            raise Refused("A look that was killed is at work still. Wait a minute, and type the same again.")
+            raise StandbyError("A look that was killed is at work still. Wait a minute, and type the same again.")
         run(["dmsetup", "mknodes"])
     for place in (half.disk(), *(str(folder / CHANGES) for folder in left)):
         for line in run(["losetup", "--associated", place]).stdout.splitlines():
@@ -101,17 +101,17 @@ def as_user(half: Half, words: list[str], folder: Path) -> str:
     if ended.returncode:
         said = (ended.stderr or ended.stdout).strip().replace("\n", "; ")
         name, told = Path(words[0]).name, "Look that fault up; the site file has to be the newest one."
-        raise Refused(f"{name} ended with status {ended.returncode} over this machine's half: {said}. {told}")
+        raise StandbyError(f"{name} ended with status {ended.returncode} over this machine's half: {said}. {told}")
     return ended.stdout
 
 
-def tested_owner(half: Half, store: Store) -> None:
+def tested_owner(half: Half, store: StoreFolder) -> None:
     """Refuses a half without a store, and one whose user has another number on this machine."""
     store.size()
     user, number = half.settings.user, store.user.number
     if user_named(user).number != number:
         told = "Give that user one number on both machines, as step 1 of the page `standby` does"
-        raise Refused(f"The half is the user's of number {number}, and {user} has another number here. {told}.")
+        raise StandbyError(f"The half is the user's of number {number}, and {user} has another number here. {told}.")
 
 
 def seats_of(site: str) -> list[str]:
@@ -119,7 +119,7 @@ def seats_of(site: str) -> list[str]:
     try:
         return [name for name in digests_of(Path(site).read_text(encoding="utf-8"), site) if name != MANAGER]
     except (TokenError, OSError, UnicodeDecodeError, RecursionError) as error:
-        raise Refused(f"The seats of {site} can't be read: {error}.") from None
+        raise StandbyError(f"The seats of {site} can't be read: {error}.") from None
 
 
 @dataclass(frozen=True)
@@ -141,7 +141,7 @@ def contents(half: Half) -> Contents:
     half holds: so the seats of that file are those of both."""
     settings = half.settings
     with mounted(half) as shown:
-        store = Store(shown / "books.db")
+        store = StoreFolder(shown / "books.db")
         try:
             tested_owner(half, store)
             words = [settings.program, "replay", "--site", settings.site, "--db", "books.db", "--existing"]

@@ -10,7 +10,7 @@ import re
 import shlex
 from pathlib import Path
 
-from wanekupo.standby.half import Half, Refused, done
+from wanekupo.standby.half import Half, StandbyError, done
 
 NEEDED = {
     "protocol": "C",
@@ -44,7 +44,7 @@ def test(half: Half) -> None:
         wrong.append(f"the handler `fence-peer` is {' '.join(words) or 'missing'}, and not {HANDLER}")
     if wrong:
         told = "Mend it by the deployed `station.res`, with your own secret, on both, and type `drbdadm adjust` there."
-        raise Refused(f"The resource {half.resource} doesn't keep its promise: {'; '.join(wrong)}. {told}")
+        raise StandbyError(f"The resource {half.resource} doesn't keep its promise: {'; '.join(wrong)}. {told}")
 
 
 def secret_faults(shown: str) -> list[str]:

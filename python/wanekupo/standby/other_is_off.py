@@ -13,7 +13,7 @@ import time
 from collections.abc import Sequence
 
 
-from wanekupo.standby.half import Half, Refused, done, ended, give_word, read_settings, run, take_word, tell, waited_for
+from wanekupo.standby.half import Half, StandbyError, done, ended, give_word, read_settings, run, take_word, tell, waited_for
 
 
 # How long DRBD's handler may take to hear it, if it waits.
@@ -24,21 +24,21 @@ def say(name: str) -> int:
     half = Half(read_settings())
     other, state = half.other_name(), half.state()
     if name != other:
-        raise Refused(f"The other machine of this one is {other}, and not {name}.")
+        raise StandbyError(f"The other machine of this one is {other}, and not {name}.")
     if state.is_connected():
-        raise Refused(f"{other} is on: the two are connected ({state}).")
+        raise StandbyError(f"{other} is on: the two are connected ({state}).")
     if state.role != "Primary":
         told = f"To have it here type `takeover --other-is-off {other}`."
-        raise Refused(f"This machine hasn't the store ({state}). {told}")
+        raise StandbyError(f"This machine hasn't the store ({state}). {told}")
     if not state.is_frozen:
-        raise Refused(f"This machine's writes aren't frozen ({state}): there is nothing to say.")
+        raise StandbyError(f"This machine's writes aren't frozen ({state}): there is nothing to say.")
     try:
         give_word()
         is_heard = waited_for(lambda: not half.state().is_frozen, HANDLER)
     finally:
         take_word()
     if half.state().is_connected():
-        raise Refused(f"The two are connected again ({half.state()}), so {other} is on. Nothing was said.")
+        raise StandbyError(f"The two are connected again ({half.state()}), so {other} is on. Nothing was said.")
     if not is_heard:
         # DRBD has ended its handler, as nobody said anything for ten minutes.
         done(["drbdadm", "resume-io", half.resource])

@@ -14,7 +14,7 @@ from wanekupo.standby.half import (
     FROZEN,
     SERVER_SECONDS,
     Half,
-    Refused,
+    StandbyError,
     done,
     ended,
     read_settings,
@@ -26,11 +26,11 @@ def step_down(is_alone: bool) -> int:
     half = Half(read_settings())
     state = half.state()
     if state.role != "Primary":
-        raise Refused(f"This machine hasn't the store ({state}).")
+        raise StandbyError(f"This machine hasn't the store ({state}).")
     if state.is_frozen:
-        raise Refused(f"This machine's writes are frozen ({state}), so nothing can be stopped here. {FROZEN}")
+        raise StandbyError(f"This machine's writes are frozen ({state}), so nothing can be stopped here. {FROZEN}")
     if not is_alone and not (state.is_connected() and state.other_disk == "UpToDate"):
-        raise Refused(
+        raise StandbyError(
             f"The other half isn't up to date ({state}), and `takeover` there would be refused. Wait until it is, or "
             "type `stepdown --alone`."
         )

@@ -24,8 +24,8 @@ from wanekupo.standby.half import (
     FROZEN,
     SERVER_SECONDS,
     Half,
-    Refused,
-    State,
+    StandbyError,
+    DrbdState,
     alone_since,
     done,
     ended,
@@ -51,31 +51,31 @@ SPLIT = (
 )
 
 
-def tested_state(state: State) -> None:
+def tested_state(state: DrbdState) -> None:
     """Refuses a half of which DRBD knows that it is unfit, and one that is in use."""
     if state.other_role == "Primary":
-        raise Refused(f"The other machine has the store ({state}): type `stepdown` there.")
+        raise StandbyError(f"The other machine has the store ({state}): type `stepdown` there.")
     # A half that came up alone is `Consistent`: whether it is the newer one the witness says, as of one that lost the
     # other machine while it was on.
     if state.disk not in (("UpToDate",) if state.is_connected() else ("UpToDate", "Consistent")):
         told = UNFIT.get(state.disk, "DRBD doesn't say that it is whole")
-        raise Refused(f"This half is {state.disk}: {told} ({state}). {ELSE}")
+        raise StandbyError(f"This half is {state.disk}: {told} ({state}). {ELSE}")
     if state.connection == "StandAlone":
-        raise Refused(f"{SPLIT} ({state})")
+        raise StandbyError(f"{SPLIT} ({state})")
 
 
 def shut_out(half: Half, named: str | None) -> None:
     """Makes certain that the other machine is off, by the plant's command or by a person's word."""
     other = half.other_name()
     if named and named != other:
-        raise Refused(f"The other machine of this one is {other}, and not {named}.")
+        raise StandbyError(f"The other machine of this one is {other}, and not {named}.")
     if fenced_by_command(half.settings):
         tell(f"{other} was switched off by the plant's command")
     elif named:
         tell(f"{other} is off, by your word")
     else:
         told = f"See that {other} has no power, and that it stays so. Then type `takeover --other-is-off {other}` again"
-        raise Refused(f"The two aren't connected ({half.state()}), and nobody knows whether {other} is off. {told}.")
+        raise StandbyError(f"The two aren't connected ({half.state()}), and nobody knows whether {other} is off. {told}.")
 
 
 def tested_contents(half: Half, args: argparse.Namespace, since: datetime | None) -> None:
@@ -84,7 +84,7 @@ def tested_contents(half: Half, args: argparse.Namespace, since: datetime | None
     if not args.witness and not half.settings.witnesses:
         if since:
             told = "Gather `wanekupo witness` of all stations now, and type the same again with --witness FILE."
-            raise Refused(f"There is no witness. {told}")
+            raise StandbyError(f"There is no witness. {told}")
         tell("no witness was named: both halves are connected")
     contents = compared(half, args, since)
     living.test(half, contents.tokens, args.ended_tokens_may_ask)
@@ -107,17 +107,17 @@ def looked(args: argparse.Namespace) -> int:
     state = half.state()
     tell(f"DRBD says: {state}")
     if "Primary" in (state.role, state.other_role):
-        raise Refused(f"A server may be writing this half ({state}): type `stepdown --alone` where the store is.")
+        raise StandbyError(f"A server may be writing this half ({state}): type `stepdown --alone` where the store is.")
     compared(half, args, None)
     tell("This half isn't behind its witness." if args.witness or half.settings.witnesses else "No witness was named.")
     return 0
 
 
-def promote(half: Half, before: State) -> None:
+def promote(half: Half, before: DrbdState) -> None:
     """Makes this machine the primary one. Where it is alone DRBD asks its handler then, which finds the word."""
     state, is_alone = half.state(), not before.is_connected()
     if (state.is_connected(), state.disk, state.other_role) != (not is_alone, before.disk, before.other_role):
-        raise Refused(f"DRBD said {before}, and says {state} now. Type the same again.")
+        raise StandbyError(f"DRBD said {before}, and says {state} now. Type the same again.")
     try:
         if is_alone:
             give_word()
@@ -146,7 +146,7 @@ def take_over(args: argparse.Namespace) -> int:
     if not is_alone:
         forget_alone()
     if state.is_frozen:
-        raise Refused(f"This machine's writes are frozen ({state}). {FROZEN}")
+        raise StandbyError(f"This machine's writes are frozen ({state}). {FROZEN}")
     if state.role == "Primary":
         return served(half)
     needs.test(half)

@@ -16,7 +16,7 @@ from dataclasses import dataclass
 from datetime import datetime, timedelta, timezone
 from pathlib import Path
 
-from wanekupo.standby.half import Refused, run, tell
+from wanekupo.standby.half import StandbyError, run, tell
 from wanekupo.standby.look import SEAT
 
 # Which seats each station's PC has, by root's own file: docs/reference/files.md, Folders of journals.
@@ -49,11 +49,11 @@ def moments_of(lines: list[str], name: str) -> list[datetime]:
             try:
                 found.append(datetime.fromisoformat(made[1]))
             except ValueError:
-                raise Refused(f"{name} has the line `{line}`, which is no time.") from None
+                raise StandbyError(f"{name} has the line `{line}`, which is no time.") from None
         elif not SEAT.fullmatch(line):
-            raise Refused(f"{name} has the line `{line[:80]}`, which is neither `at TIME` nor `seat NAME NUMBER`.")
+            raise StandbyError(f"{name} has the line `{line[:80]}`, which is neither `at TIME` nor `seat NAME NUMBER`.")
         elif not found:
-            raise Refused(f"{name} has no line as `at 2026-11-29T09:00:00Z` in front, so nobody knows of when it is.")
+            raise StandbyError(f"{name} has no line as `at 2026-11-29T09:00:00Z` in front, so nobody knows of when it is.")
     return found
 
 
@@ -73,14 +73,14 @@ def tested(text: str, name: str, since: datetime | None) -> dict[str, Reply]:
     named = [(SEAT.fullmatch(line), f"{name}, line {number}") for number, line in enumerate(lines, 1)]
     found = highest((seat[1], Reply(int(seat[2]), place)) for seat, place in named if seat)
     if not found:
-        raise Refused(f"{name} has no line as `seat a1 17`.")
+        raise StandbyError(f"{name} has no line as `seat a1 17`.")
     oldest, newest = min(moments), max(moments)
     if since and oldest < since:
         made, told = f"{oldest:%Y-%m-%dT%H:%M:%SZ}", f"the other machine is off since {since:%Y-%m-%dT%H:%M:%SZ}"
-        raise Refused(f"{name} was made at {made}, and {told} by this machine's clock: make it anew.")
+        raise StandbyError(f"{name} was made at {made}, and {told} by this machine's clock: make it anew.")
     if newest > datetime.now(timezone.utc) + AHEAD:
         made = f"{newest:%Y-%m-%dT%H:%M:%SZ}"
-        raise Refused(f"{name} was made at {made}, which is to come by this machine's clock: set both clocks.")
+        raise StandbyError(f"{name} was made at {made}, which is to come by this machine's clock: set both clocks.")
     return found
 
 
@@ -93,23 +93,23 @@ def owners_in(table: Path) -> dict[str, str]:
             raise TypeError
     except FileNotFoundError:
         return {}
-    except (ValueError, KeyError, TypeError, AttributeError):
-        raise Refused(f'{table} has no table [folders] of lines as `pc7 = ["a1", "a2"]`: mend it.') from None
+    except (ValueError, KeyError, TypeError, AttributeError, RecursionError):
+        raise StandbyError(f'{table} has no table [folders] of lines as `pc7 = ["a1", "a2"]`: mend it.') from None
     if found.st_uid != 0 or found.st_mode & 0o022:
-        raise Refused(f"Others than root can write {table}, which says whose a part may be: chown root, chmod go-w.")
+        raise StandbyError(f"Others than root can write {table}, which says whose a part may be: chown root, chmod go-w.")
     return owners
 
 
 def hold(replies: dict[str, Reply], owner: str, owners: dict[str, str], table: Path) -> None:
     """Refuses a line of a seat that isn't its part's: else a PC vouches for another one, whose part was forgotten."""
     if owner and owner not in owners.values():
-        raise Refused(f"{table} has no folder {owner} with a seat: name a part by its PC's folder there.")
+        raise StandbyError(f"{table} has no folder {owner} with a seat: name a part by its PC's folder there.")
     for seat, reply in replies.items():
         theirs = owners.get(seat, "")
         if theirs != owner:
             told = f"{reply.place} is of the seat {seat}, which is {theirs or 'no PC'}'s by {table}"
             name = f"as {theirs}=FILE" if theirs else "without a name"
-            raise Refused(f"{told}: leave it away where it is foreign, and give that seat's own part {name}.")
+            raise StandbyError(f"{told}: leave it away where it is foreign, and give that seat's own part {name}.")
 
 
 def gathered(
@@ -139,7 +139,7 @@ def printed(command: str) -> str:
     ended = run([*BOUNDED, *shlex.split(command)])
     if ended.returncode:
         said = (ended.stderr or ended.stdout).strip()[:400].replace("\n", "; ")
-        raise Refused(f"The witness `{command}` ended with status {ended.returncode}: {said}")
+        raise StandbyError(f"The witness `{command}` ended with status {ended.returncode}: {said}")
     return ended.stdout
 
 
@@ -147,7 +147,7 @@ def read(name: str) -> str:
     try:
         return sys.stdin.read() if name == "-" else Path(name).read_text(encoding="ascii")
     except (OSError, UnicodeDecodeError) as error:
-        raise Refused(f"The witness {name} can't be read: {error}.") from None
+        raise StandbyError(f"The witness {name} can't be read: {error}.") from None
 
 
 def compare(store: dict[str, int], witness: dict[str, Reply]) -> None:
@@ -156,7 +156,7 @@ def compare(store: dict[str, int], witness: dict[str, Reply]) -> None:
     behind = [seat for seat in sorted(witness) if store.get(seat, 0) < witness[seat].number]
     if behind:
         told = ", ".join(f"{seat} has {store.get(seat, 0)} here, and {witness[seat]}" for seat in behind)
-        raise Refused(
+        raise StandbyError(
             f"This half is an older one: {told}. Served, it would issue what was issued since once more. Switch the "
             "other machine on again, which has the newer half. Where it is lost, go on by the page `standby`, `Where "
             "the newer half is lost`. A line of a seat in the part of another seat's PC is none: leave it away."
@@ -165,7 +165,7 @@ def compare(store: dict[str, int], witness: dict[str, Reply]) -> None:
     unseen = [seat for seat in sorted(store) if seat not in witness]
     if unseen:
         told = ", ".join(f"`seat {seat} {store[seat]}`" for seat in unseen)
-        raise Refused(
+        raise StandbyError(
             f"No witness has the seats {', '.join(unseen)}, so nobody knows whether they are behind. Get the witness "
             f"of their stations. {by_hand}{told}."
         )
@@ -174,7 +174,7 @@ def compare(store: dict[str, int], witness: dict[str, Reply]) -> None:
     if short:
         told = ", ".join(f"{seat} has {store[seat]} here, and {witness[seat]}" for seat in short)
         lines = ", ".join(f"`seat {seat} {store[seat]}`" for seat in short)
-        raise Refused(
+        raise StandbyError(
             f"The witness lacks replies: {told}. So these journals aren't all there, or they are copies. Make it on "
             f"the stations' own PCs. {by_hand}{lines}."
         )

@@ -35,6 +35,7 @@ removes FOLDER.
 
 It refuses, with a line and status 1,
 - another user's store, but for root, who becomes that user: what a file brings a program to do is done as that one;
+  and a store of root's in another user's folder of backups;
 - a store whose log STORE-wal is missing or empty: the program always leaves one, of 41 bytes at the least, and STORE
   alone may open and be older; or whose log is on another volume;
 - a store that a server has locked, also where STORE's folder can't be written, as by a bind mount that is read-only;
@@ -61,7 +62,8 @@ from wanekupo.plant.backup.folder import (
     LAST, LOCK, NEW, bytes_of, copy_off, last_snapshot, new_name, note, placed, remove_begun, sole_backup, tidy,
 )  # fmt: skip
 from wanekupo.plant.backup.snapshot import KINDS, SnapshotStaysError, snapshot, volume_of
-from wanekupo.common.store_user import Store, StoreUser, UserError, opened, shown, user_of
+from wanekupo.common.store_user import DAY, MINUTE, StoreFolder, StoreUser, UserError, opened, shown, user_of
+from wanekupo.common.store_words import clean_words
 from wanekupo.common.whole_file import opened_lock
 
 
@@ -108,18 +110,25 @@ def keep(args: argparse.Namespace, name: str) -> None:
 
 def as_owner(folder: Path) -> Callable[[Callable[[], None]], None]:
     """How what is in a folder is read and written: as its owner, in a process of its own where this run is root's."""
-    if folder.stat().st_uid == os.geteuid():
+    if os.geteuid() and folder.stat().st_uid == os.geteuid():
         return lambda call: call()
     with held_open(folder) as handle:
+        if os.fstat(handle).st_uid == os.geteuid():
+            return lambda call: call()
         user = user_of(handle, folder)
     return lambda call: done_as(user, call)
 
 
-def done_as(user: StoreUser, call: Callable[[], None]) -> None:
+def done_as(user: StoreUser, call: Callable[[], None], seconds: float = DAY) -> None:
     try:
-        user.call(call, cause_of)
+        user.call(call, cause_of, seconds)
     except UserError as error:
         raise BackupError(str(error)) from error
+
+
+def with_lock(args: argparse.Namespace) -> None:
+    """Makes the lock's file where there is none: root makes no file there, and a run without root has to open it."""
+    os.close(opened_lock(args.into / LOCK))
 
 
 @contextlib.contextmanager
@@ -129,6 +138,12 @@ def held_open(folder: Path) -> Iterator[int]:
         yield handle
     finally:
         os.close(handle)
+
+
+def owner_of(folder: Path) -> int:
+    """Whose a folder is, in the place of which nobody else can put another one."""
+    with held_open(folder) as handle:
+        return os.fstat(handle).st_uid
 
 
 def note_failure(args: argparse.Namespace, said: str) -> None:
@@ -206,7 +221,7 @@ def remove_left(args: argparse.Namespace, db: Path) -> None:
     args.taken = args.snapshot, args.snapshot_size
 
 
-def tested_user(store: Store, place: Path) -> StoreUser:
+def tested_user(store: StoreFolder, place: Path) -> StoreUser:
     """The store's user, whose the folder of what is made has to be, too."""
     with held_open(place) as handle:
         if os.fstat(handle).st_uid == store.user.number:
@@ -219,7 +234,7 @@ def run_snapshot(args: argparse.Namespace) -> None:
     """Root's part of what is made of a server that runs."""
     if os.geteuid():
         raise BackupError("a snapshot is root's: only it makes and mounts one")
-    store = Store(args.db)
+    store = StoreFolder(args.db)
     if not args.clean:
         store.size()
     args.volume = volume_of(args.snapshot, store.db, args.snapshot_size)
@@ -232,12 +247,13 @@ def run_snapshot(args: argparse.Namespace) -> None:
             with snapshot(args.volume) as found:
                 done_as(user, lambda: copy_for_trial(str(found), args.folder))
             return
-        done_as(user, lambda: os.close(opened_lock(args.into / LOCK)))  # which a run without root has to open
+        done_as(user, lambda: with_lock(args), MINUTE)
         with sole_backup(args.into):
             run_into(args, lambda call: done_as(user, call))
 
 
 def begin_alone(args: argparse.Namespace) -> None:
+    with_lock(args)
     with sole_backup(args.into):
         begin(args)
 
@@ -254,11 +270,13 @@ def run_clean(args: argparse.Namespace) -> None:
 
 def stopped_by(args: argparse.Namespace) -> Callable[[Callable[[], None]], None]:
     """How a store without a server is read and its backup written: root does both as the store's user."""
-    folder = Path(args.db).parent
-    if os.geteuid() == 0 and folder.exists() and folder.stat().st_uid:
-        store = Store(args.db)
+    place = args.into or args.folder.parent
+    if os.geteuid() == 0:
+        if {owner_of(Path(args.db).parent), owner_of(place)} == {0}:
+            return lambda call: call()
+        store = StoreFolder(args.db)
         store.size()
-        user = tested_user(store, args.into or args.folder.parent)
+        user = tested_user(store, place)
         return lambda call: done_as(user, call)
     if args.into and args.into.stat().st_uid != os.geteuid():
         told = f"{args.into} is the folder of {name_of_user(args.into.stat().st_uid)}"
@@ -272,7 +290,7 @@ def run_stopped(args: argparse.Namespace) -> None:
         by(lambda: copy(args, args.db, args.folder))
         out(f"backed up in {args.folder}")
         return
-    by(lambda: os.close(opened_lock(args.into / LOCK)))  # root makes no file there
+    by(lambda: with_lock(args))
     with sole_backup(args.into):
         run_into(args, by)
 
@@ -334,6 +352,7 @@ def make_whole(args: argparse.Namespace, program: str) -> None:
 
 def main() -> int:
     args = checked(words())
+    clean_words()
     args.taken = "", ""  # the kind and the size of a snapshot, once those of earlier runs are gone
     os.umask(0o077)
     for number in (signal.SIGTERM, signal.SIGINT, signal.SIGHUP):

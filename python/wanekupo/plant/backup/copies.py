@@ -108,7 +108,7 @@ def digest_of_file(path: Path) -> str:
 def look_at(store: str) -> Path:
     """The store's file itself, where a backup of it may be made: its log stands beside it, and not beside a link."""
     db = Path(os.path.realpath(store))
-    if not db.exists():
+    if not db.is_file():
         raise BackupError(f"{store}: no store")
     owner, log = db.stat().st_uid, Path(f"{db}-wal")
     if owner != os.geteuid():

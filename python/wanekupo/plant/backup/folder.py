@@ -67,8 +67,9 @@ def remove_begun(folder: Path) -> list[str]:
 
 
 def sole_backup(folder: Path) -> contextlib.AbstractContextManager[None]:
-    """One backup at a time has a folder."""
-    return held(folder / LOCK, BackupError(f"another backup is at work in {folder}"))
+    """One backup at a time has a folder. Root makes no file in another user's."""
+    is_made = bool(os.geteuid()) or not folder.stat().st_uid
+    return held(folder / LOCK, BackupError(f"another backup is at work in {folder}"), is_made=is_made)
 
 
 def new_name(folder: Path) -> str:

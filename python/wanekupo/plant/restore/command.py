@@ -45,12 +45,14 @@ from wanekupo.plant.restore.journals import half_of_memory, sources_of, take_jou
 from wanekupo.plant.restore.lost_store import (
     NEEDED, by_customer, contradictions, last_numbers, lost_copy, missing_rows, number_gaps, steps_of,
 )  # fmt: skip
-from wanekupo.plant.restore.place import Place, check_backup, check_folders, free_name, served
+from wanekupo.plant.restore.place import StorePlace, check_backup, check_folders, free_name, served
 from wanekupo.plant.restore.plan import (
-    Customer, Requests, RestoreError, absolute, asked_of, check_customers, check_left_out, choose_seats, customers_of,
+    CustomerPlan, Requests, RestoreError, absolute, asked_of, check_customers, check_left_out, choose_seats, customers_of,
     named, requests_of_seats, tokens_at, told_of,
 )  # fmt: skip
-from wanekupo.common.store_user import Store, UserError
+from wanekupo.common.store_user import DAY, StoreFolder, UserError
+from wanekupo.common.store_user import shown as shown_lines
+from wanekupo.common.store_words import clean_words
 
 from wanekupo.common.errors import StationError
 from wanekupo.seat.journal import Journal
@@ -91,7 +93,7 @@ def stop(unit: str) -> None:
 
 
 def gather(
-    args: argparse.Namespace, customers: dict[str, Customer], tokens: dict[str, str], folders: Folders
+    args: argparse.Namespace, customers: dict[str, CustomerPlan], tokens: dict[str, str], folders: Folders
 ) -> dict[str, Requests]:
     """Gives the customers their journals and a seat each. What comes back are the requests of each seat."""
     with half_of_memory():
@@ -106,7 +108,7 @@ def gather(
     return requests
 
 
-def copy_in(args: argparse.Namespace, place: Place, about: dict[str, Any]) -> list[str]:
+def copy_in(args: argparse.Namespace, place: StorePlace, about: dict[str, Any]) -> list[str]:
     """The backup under other names, opened by the program under the newest site; its numbers are those of then."""
     place.begin(args.backup)
     if not opened_by(args.program, args.site, place.made):
@@ -122,7 +124,7 @@ def copy_in(args: argparse.Namespace, place: Place, about: dict[str, Any]) -> li
 
 
 def hold_against_lost(
-    args: argparse.Namespace, place: Place, customers: list[Customer], requests: dict[str, Requests], counts: list[str]
+    args: argparse.Namespace, place: StorePlace, customers: list[CustomerPlan], requests: dict[str, Requests], counts: list[str]
 ) -> Path | None:
     """Holds the journals against the lost store, where its files are there. What comes back is a copy of it."""
     if place.state().get("lost"):
@@ -143,7 +145,7 @@ def hold_against_lost(
     return copy
 
 
-def replay(args: argparse.Namespace, place: Place, customers: list[Customer]) -> dict[str, Any]:
+def replay(args: argparse.Namespace, place: StorePlace, customers: list[CustomerPlan]) -> dict[str, Any]:
     """Brings back what the journals have. Gives what became of each customer's devices that aren't as they were."""
     left = {}
     with served(args.program, args.site, place.made) as url:
@@ -165,7 +167,7 @@ def replay(args: argparse.Namespace, place: Place, customers: list[Customer]) ->
     return left
 
 
-def look(args: argparse.Namespace, place: Place, copy: Path | None) -> tuple[list[str], dict[str, Any]]:
+def look(args: argparse.Namespace, place: StorePlace, copy: Path | None) -> tuple[list[str], dict[str, Any]]:
     """What of the lost store is in no journal, where its files are there: what keeps stations, and all lists."""
     if not copy:
         say("nothing was there to compare with: what no journal has isn't known")
@@ -195,7 +197,7 @@ def keeping(args: argparse.Namespace, what: str, name: str, rows: list[str]) -> 
     return ""
 
 
-def listed(place: Place, left: dict[str, Any], rows: dict[str, Any]) -> None:
+def listed(place: StorePlace, left: dict[str, Any], rows: dict[str, Any]) -> None:
     """Writes the lists, and tells how many devices are in which other state."""
     for name, found in (("left.json", left), ("missing.json", rows)):
         (place.work / name).write_text(json.dumps(found, indent=1) + "\n", encoding="utf-8")
@@ -206,7 +208,7 @@ def listed(place: Place, left: dict[str, Any], rows: dict[str, Any]) -> None:
         say("What to do with each: the page back-up-and-restore, Devices after a restore.")
 
 
-def end(args: argparse.Namespace, place: Place, keeps: list[str], requests: dict[str, Requests]) -> int:
+def end(args: argparse.Namespace, place: StorePlace, keeps: list[str], requests: dict[str, Requests]) -> int:
     """Says what keeps stations from going on; else backs the restored store up, and gives it its name."""
     if keeps:
         say("", "Stations may not go on yet. No store was put in place.", *(f"- {it}." for it in keeps))
@@ -232,8 +234,8 @@ def end(args: argparse.Namespace, place: Place, keeps: list[str], requests: dict
 
 def run(args: argparse.Namespace) -> int:
     """Root's part: the tokens, and that no server has the store. The rest is done as the store's user."""
-    store = Store(args.db)
-    place = Place(store)
+    store = StoreFolder(args.db)
+    place = StorePlace(store)
     customers = customers_of(args.site)
     tokens, outers = tokens_at(args.tokens)
     folders = folders_at(args.folders)
@@ -243,11 +245,11 @@ def run(args: argparse.Namespace) -> int:
     if args.stop:
         stop(args.stop)
     place.refuse_server(args.port)
-    return store.user.call(lambda: restored(args, place, customers, tokens, folders), told)
+    return store.user.call(lambda: restored(args, place, customers, tokens, folders), told, DAY)
 
 
 def restored(
-    args: argparse.Namespace, place: Place, customers: dict[str, Customer], tokens: dict[str, str], folders: Folders
+    args: argparse.Namespace, place: StorePlace, customers: dict[str, CustomerPlan], tokens: dict[str, str], folders: Folders
 ) -> int:
     """All of it, from what an earlier run left to the store's name."""
     place.refuse_links()
@@ -303,6 +305,7 @@ def words() -> argparse.ArgumentParser:
 
 def main() -> int:
     args = words().parse_args()
+    clean_words()
     os.umask(0o077)
     for number in (signal.SIGTERM, signal.SIGINT, signal.SIGHUP):
         signal.signal(number, stopped)
@@ -316,7 +319,7 @@ def main() -> int:
         args.program = os.path.abspath(program)
         return run(args)
     except (StationError, RestoreError, BackupError, UserError, OSError) as error:
-        print(f"restore: {told(error)}", file=sys.stderr)
+        print(f"restore: {shown_lines(told(error))}", file=sys.stderr)
     if args.stop:
         print(f"restore: the unit {args.stop} stays stopped, where it was", file=sys.stderr)
     return REFUSED

@@ -22,7 +22,7 @@ from pathlib import Path
 from typing import Any, NoReturn
 
 from wanekupo.common.errors import cause_of
-from wanekupo.plant.restore.plan import Customer, Placed, RestoreError, SeatJournal, error_of
+from wanekupo.plant.restore.plan import CustomerPlan, Placed, RestoreError, SeatJournal, error_of
 from wanekupo.books.steps import digest_fault
 from wanekupo.common.errors import StationError
 from wanekupo.seat.journal import OF_A_DAY, journals_of
@@ -52,7 +52,7 @@ class Source:
 # Where journals are.
 
 
-def sources_of(words: Iterable[str], customers: dict[str, Customer], folders: Folders, at: Path) -> list[Source]:
+def sources_of(words: Iterable[str], customers: dict[str, CustomerPlan], folders: Folders, at: Path) -> list[Source]:
     """What words stand for: the folder of all, or a customer's journals as `acme=PATH`."""
     found: list[Source] = []
     for word in words:
@@ -175,7 +175,7 @@ def _sizes_of(source: Source) -> dict[Path, int]:
 def journals_in(source: Source, sizes: dict[Path, int], wanted: frozenset[str]) -> list[SeatJournal]:
     """The journals of a source, by their seats. A line may be of a seat that nobody wants, and is passed over."""
     found: dict[tuple[int, str], list[Placed]] = {}
-    groups = [(number, file) for number, group in enumerate(journals_of(sizes)) for file in group]
+    groups = [(number, file) for number, group in enumerate(journals_of(sizes, is_shipped=True)) for file in group]
     placed = ((number, file, it) for number, file in groups for it in _placed(file, sizes[file]))
     for count, (number, file, it) in enumerate(placed):
         _bound(source, count < MOST_LINES)
@@ -204,13 +204,13 @@ def half_of_memory() -> Iterator[None]:
         resource.setrlimit(resource.RLIMIT_AS, before)
 
 
-def _error_of(source: Source, owner: dict[str, Customer], told: str) -> RestoreError:
+def _error_of(source: Source, owner: dict[str, CustomerPlan], told: str) -> RestoreError:
     """What is wrong with a source's journals, with the names of the customers whose they may be."""
     names = {source.customer} if source.customer else {owner[it].name for it in source.seats if it in owner}
     return error_of(sorted(names), f"{shown(told)}. Nothing was moved")
 
 
-def take_journals(sources: Iterable[Source], customers: dict[str, Customer], left_out: Iterable[str]) -> None:
+def take_journals(sources: Iterable[Source], customers: dict[str, CustomerPlan], left_out: Iterable[str]) -> None:
     """Gives each customer its journals. Those of one that is left out aren't read, where they have a folder. Where all
     together are too many, the folder that has most is named."""
     owner = {seat: it for name, it in customers.items() if name not in left_out for seat in it.seats}

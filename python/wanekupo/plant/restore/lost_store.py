@@ -10,7 +10,7 @@ from pathlib import Path
 from typing import Any
 
 from wanekupo.plant.backup.copies import FILES, ended, opened_by, safely
-from wanekupo.plant.restore.plan import OWN, Customer, Requests, RestoreError
+from wanekupo.plant.restore.plan import OWN, CustomerPlan, Requests, RestoreError
 from wanekupo.seat.journal import Asked, records_of
 from wanekupo.common.texts import brief, shown
 
@@ -56,7 +56,7 @@ def lost_copy(program: str, site: Path, lost: Path, folder: Path) -> tuple[Path,
 
 
 def contradictions(
-    customers: Collection[Customer], requests: dict[str, Requests], lost: Path, before: dict[str, int]
+    customers: Collection[CustomerPlan], requests: dict[str, Requests], lost: Path, before: dict[str, int]
 ) -> Iterator[tuple[str, str]]:
     """What journals have that the lost store hasn't, or has otherwise, each with the customer whose they are. `before`
     are the last numbers of the backup."""
@@ -86,7 +86,7 @@ def _numbers_otherwise(seat: str, found: Requests, row: dict[str, Any] | None, i
         yield f"{found[ahead[0]][0].place} has number {ahead[0]} of {seat}, and the lost store's last is {last}"
 
 
-def _rows_otherwise(customers: Collection[Customer], lost: Path) -> Iterator[tuple[str, str]]:
+def _rows_otherwise(customers: Collection[CustomerPlan], lost: Path) -> Iterator[tuple[str, str]]:
     """Orders and serial numbers that had a reply, and aren't in the lost store."""
     orders, given = rows_of(lost, TABLES["orders"]), rows_of(lost, TABLES["serial numbers"])
     names = {(row["customer"], row["name"]) for row in orders or []}
@@ -147,7 +147,7 @@ def gaps_of(numbers: Collection[int], last: int) -> str:
 
 
 def number_gaps(
-    customers: Collection[Customer], numbers: dict[str, Requests], before: dict[str, int], without: set[str]
+    customers: Collection[CustomerPlan], numbers: dict[str, Requests], before: dict[str, int], without: set[str]
 ) -> list[str]:
     """What isn't known of seats: those without a journal, and the numbers behind the backup's that no journal has.
     A seat of a customer without an issuer can order nothing. One that is for restores alone has no station: what it

@@ -26,7 +26,7 @@ from typing import Any
 
 from wanekupo.plant.backup.copies import ABOUT, FILES, digest_of_file, size_of
 from wanekupo.plant.restore.plan import RestoreError
-from wanekupo.common.store_user import Store
+from wanekupo.common.store_user import StoreFolder, UserError, read_small
 from wanekupo.common.whole_file import held, put_whole, sync
 
 HOST = "127.0.0.1"
@@ -73,10 +73,10 @@ def free_name(folder: Path, kind: str) -> Path:
     return path
 
 
-class Place:
+class StorePlace:
     """The place of a store, which may have no file."""
 
-    def __init__(self, store: Store):
+    def __init__(self, store: StoreFolder):
         self.db, self.folder = store.db, store.folder
         self.work = self.folder / "restoring"
         self.begun = self.folder / "restoring.json"
@@ -124,10 +124,10 @@ class Place:
 
     def state(self) -> dict[str, Any]:
         try:
-            found = json.loads(self.begun.read_text(encoding="utf-8"))
+            found = json.loads(read_small(self.begun))
         except FileNotFoundError:
             return {}
-        except ValueError:
+        except (ValueError, RecursionError, UserError):
             found = None
         if not isinstance(found, dict) or not isinstance(found.get("lost", ""), str):
             raise RestoreError(f"{self.begun} is damaged: {self._mended()}, and begin again")
@@ -221,10 +221,10 @@ def check_folders(backup: Path, backups: Path) -> None:
 def said_in(backup: Path) -> dict[str, Any]:
     """What a backup says of itself; nothing of one by an earlier program."""
     try:
-        about = json.loads((backup / ABOUT).read_text(encoding="utf-8"))
+        about = json.loads(read_small(backup / ABOUT))
     except FileNotFoundError:
         return {}
-    except ValueError:
+    except (ValueError, RecursionError, UserError):
         about = None
     digests, counts = (about.get(it) for it in ("sha256", "counts")) if isinstance(about, dict) else (None, None)
     if not isinstance(digests, dict) or not set(FILES) <= set(digests) or not isinstance(counts, list):

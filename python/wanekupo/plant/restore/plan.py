@@ -15,7 +15,8 @@ from pathlib import Path
 from typing import Any
 
 from wanekupo.plant.backup.copies import BackupError
-from wanekupo.common.token_file import Outer, TokenError, Tokens, read, tokens_of
+from wanekupo.common.store_user import UserError, read_small
+from wanekupo.common.token_file import Outer, TokenError, Tokens, check_folder, read, tokens_of
 from wanekupo.common.errors import StationError
 from wanekupo.seat.journal import Asked, requests_in, serials_of
 from wanekupo.seat.replays import tested_requests
@@ -61,7 +62,7 @@ class SeatJournal:
 
 
 @dataclass
-class Customer:
+class CustomerPlan:
     """A customer of the site: its seats with the digests of their tokens, its journals, and the requests in them."""
 
     name: str
@@ -73,16 +74,16 @@ class Customer:
     token: str = ""
 
 
-def customers_of(site: Path) -> dict[str, Customer]:
+def customers_of(site: Path) -> dict[str, CustomerPlan]:
     try:
         text = tomllib.loads(site.read_text(encoding="utf-8"))
         return {
-            it["name"]: Customer(
+            it["name"]: CustomerPlan(
                 it["name"], {seat["name"]: seat["token"].lower() for seat in it.get("seat", [])}, bool(it["issuer"])
             )
             for it in text["customer"]
         }
-    except (OSError, ValueError, KeyError, TypeError) as error:
+    except (OSError, ValueError, KeyError, TypeError, AttributeError, RecursionError) as error:
         raise RestoreError(f"{site} is no site file that can be read: {error}") from None
 
 
@@ -90,7 +91,7 @@ def customers_of(site: Path) -> dict[str, Customer]:
 
 
 @dataclass(slots=True)
-class Request:
+class JournalRequest:
     """A request that is done or may be done, by the line that asks for it."""
 
     place: str
@@ -98,7 +99,7 @@ class Request:
     is_done: bool = False
 
 
-Requests = dict[int, list[Request]]
+Requests = dict[int, list[JournalRequest]]
 
 
 def standing(lines: Iterable[Placed]) -> Requests:
@@ -118,7 +119,7 @@ def standing(lines: Iterable[Placed]) -> Requests:
         if "asked" in line:
             digest = line.get("digest", "")  # one that a person wrote may have none
             if not those or those[-1].digest != digest:
-                those.append(Request(f"line {number} of {shown(file)}", digest))
+                those.append(JournalRequest(f"line {number} of {shown(file)}", digest))
         elif line["status"] != 200:
             del those[-1:]
         elif those:
@@ -126,7 +127,7 @@ def standing(lines: Iterable[Placed]) -> Requests:
     return {it: those for it, those in found.items() if those}
 
 
-def requests_of_seats(customers: Iterable[Customer]) -> dict[str, Requests]:
+def requests_of_seats(customers: Iterable[CustomerPlan]) -> dict[str, Requests]:
     """The requests of each seat that has a journal, by their times; those of one journal stay in their order."""
     found: dict[str, list[list[Placed]]] = {}
     for journal in (it for customer in customers for it in customer.journals if it.seat):
@@ -134,7 +135,7 @@ def requests_of_seats(customers: Iterable[Customer]) -> dict[str, Requests]:
     return {seat: standing(heapq.merge(*its, key=lambda placed: placed[2]["at"])) for seat, its in found.items()}
 
 
-def asked_of(customer: Customer) -> list[Asked]:
+def asked_of(customer: CustomerPlan) -> list[Asked]:
     """The requests of a customer's journals by their times, in which each serial number has one record."""
     asked = list(heapq.merge(*(requests_in(it.lines) for it in customer.journals), key=lambda it: it.at))
     tested_requests(asked)
@@ -150,11 +151,12 @@ def tokens_at(path: Path) -> tuple[dict[str, str], list[Outer]]:
     tokens and certificates that haven't ended."""
     try:
         if path.is_dir():
-            return {it.stem: it.read_text(encoding="ascii").strip() for it in sorted(path.glob("*.token"))}, []
+            check_folder(path)
+            return {it.stem: read_small(it).decode("ascii").strip() for it in sorted(path.glob("*.token"))}, []
         text = read(path)
         tokens = tokens_of(text, path) if text else Tokens()
         return {it.seat: it.inner for it in tokens.seats.values()}, tokens.open_ones()
-    except (TokenError, OSError, ValueError) as error:
+    except (TokenError, UserError, OSError, ValueError) as error:
         raise RestoreError(str(error)) from None
 
 
@@ -167,7 +169,7 @@ def check_customers(option: str, names: Iterable[str], customers: Collection[str
             raise RestoreError(f"{option} {name}: the site file has no such customer")
 
 
-def check_left_out(left_out: Iterable[str], customers: dict[str, Customer], outers: Iterable[Outer], at: Path) -> None:
+def check_left_out(left_out: Iterable[str], customers: dict[str, CustomerPlan], outers: Iterable[Outer], at: Path) -> None:
     """Refuses to leave a customer out whose stations could go on: a store that doesn't know what they were given would
     give it once more. They can't without an outer token, which ends by `station-token revoke`."""
     check_customers("--leave-out", left_out, customers)
@@ -180,7 +182,7 @@ def check_left_out(left_out: Iterable[str], customers: dict[str, Customer], oute
             raise RestoreError(f"{told}. First end the tokens of {', '.join(seats)}: station-token revoke {seats[0]}")
 
 
-def choose_seats(customers: dict[str, Customer], tokens: dict[str, str], named: list[str], at: Path) -> list[str]:
+def choose_seats(customers: dict[str, CustomerPlan], tokens: dict[str, str], named: list[str], at: Path) -> list[str]:
     """Gives each customer that has journals a seat by which the server is asked, best one that no station has. What
     comes back are warnings."""
     warnings = []

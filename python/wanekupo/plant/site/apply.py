@@ -16,12 +16,12 @@ from pathlib import Path
 
 from wanekupo.plant.trial_copy import Backup
 from wanekupo.common.process import own_command
-from wanekupo.common.store_user import LONGEST, PLAIN, SMALL, UserError, shown
+from wanekupo.common.store_user import LONGEST, MINUTE, PLAIN, SMALL, UserError, shown
 from wanekupo.common.token_file import HEALTH, PREFIX, TokenError, alone, read, tokens_of
 from wanekupo.common.whole_file import sync
 
 from wanekupo.plant.site.place import Place, text_in
-from wanekupo.plant.site.plan import PLACED, PREPARED, STOPPING, Plan, Wish, drop_plan, keep_plan
+from wanekupo.plant.site.plan import PLACED, PREPARED, STOPPING, GrowthPlan, SeatWish, drop_plan, keep_plan
 from wanekupo.plant.site.trials import tried_over_backup
 
 # The number of restarts from which on a start is held for failed, and how long one answer may take, in seconds.
@@ -43,7 +43,7 @@ def say(text: str) -> None:
     print(text, flush=True)
 
 
-def apply(place: Place, plan: Plan) -> None:
+def apply(place: Place, plan: GrowthPlan) -> None:
     """From wherever a run before this one was cut to the end. Whoever stops it leaves the server started, with the new
     text once that is in place."""
     try:
@@ -64,7 +64,7 @@ def apply(place: Place, plan: Plan) -> None:
     say("done")
 
 
-def noted(place: Place, plan: Plan, stage: str) -> None:
+def noted(place: Place, plan: GrowthPlan, stage: str) -> None:
     plan.stage = stage
     keep_plan(place.plan, plan)
 
@@ -72,7 +72,7 @@ def noted(place: Place, plan: Plan, stage: str) -> None:
 # ---- stop, back up, put in place
 
 
-def stop_and_back_up(place: Place, plan: Plan) -> None:
+def stop_and_back_up(place: Place, plan: GrowthPlan) -> None:
     """The server is stopped and the store backed up; where that fails the server is started with the old text."""
     left, user = plan.backup, place.user
     plan.backup = str(place.backups / f"before-{time.strftime('%Y-%m-%dT%H%M%S')}-{os.getpid()}")
@@ -100,7 +100,7 @@ def stop_and_back_up(place: Place, plan: Plan) -> None:
         raise
 
 
-def put_in_place(place: Place, plan: Plan) -> None:
+def put_in_place(place: Place, plan: GrowthPlan) -> None:
     """The new text takes the site file's name, with the owner and the mode of the old one."""
     before = place.site.stat()
     made = place.site.with_name(place.site.name + ".new")
@@ -121,7 +121,7 @@ def put_in_place(place: Place, plan: Plan) -> None:
 # ---- start and wait
 
 
-def start(place: Place, plan: Plan) -> None:
+def start(place: Place, plan: GrowthPlan) -> None:
     """Starts the server, and waits until it answers."""
     if place.next.exists() and text_in(place.next) != text_in(place.site):  # a run was cut right before that
         place.service(place.args.stop)
@@ -155,12 +155,12 @@ def is_up(place: Place) -> bool:
         return False
 
 
-def tell_failed(place: Place, plan: Plan, said: str) -> None:
+def tell_failed(place: Place, plan: GrowthPlan, said: str) -> None:
     """Which text the store holds by now. The service is started again, as its cause may go away by itself."""
     place.service(place.args.stop)
     old = Path(plan.backup, "site.toml")
     try:
-        text = place.user.run("cat", "--", str(old)).stdout
+        text = place.user.run("cat", "--", str(old), seconds=MINUTE).stdout
         held = place.held_text([place.site, *([old] if text else [])])
         if held == text_in(place.site):
             told = f"The store holds the new text by now: start it with that alone, which is {place.site}."
@@ -207,14 +207,14 @@ def answer_of(who: str, url: str, token: str, certificate: str = "") -> int:
         raise TokenError(5, f"{who} gives no answer: {getattr(error, 'reason', None) or error}") from None
 
 
-def token_within(place: Place, wish: Wish) -> str:
+def token_within(place: Place, wish: SeatWish) -> str:
     seat = tokens_of(read(place.tokens) or "", place.tokens).seats.get(wish.seat)
     if not seat:
         raise TokenError(5, f"the seat {wish.seat} isn't in {place.tokens} any more: station-token seat, by its lines")
     return seat.inner
 
 
-def give_token(place: Place, wish: Wish) -> None:
+def give_token(place: Place, wish: SeatWish) -> None:
     """Asks with a seat's own token, makes its outer one where it has to have one, and asks with that through nginx."""
     answered = answer_of("the server", f"http://127.0.0.1:{place.args.port}{ASKED}", token_within(place, wish))
     if answered not in (200, 404):
@@ -238,7 +238,7 @@ def give_token(place: Place, wish: Wish) -> None:
     say(f"the seat {wish.seat} of {wish.customer} is known, and nginx takes the token in {wish.to}")
 
 
-def outer_token(place: Place, wish: Wish) -> str:
+def outer_token(place: Place, wish: SeatWish) -> str:
     """The seat's outer token out of its file. A file whose token nginx's file doesn't have is what a run left that was
     cut before the token was anybody's: it goes, and another one is made."""
     path = Path(wish.to)
@@ -270,15 +270,21 @@ def own_text(path: Path) -> str | None:
         return file.read(SMALL).strip()
 
 
-def token_run(place: Place, wish: Wish, *words: str) -> None:
+def token_run(place: Place, wish: SeatWish, *words: str) -> None:
     done = place.ran(*place.token_words(), *words)
     if done.returncode:
         raise TokenError(5, f"{wish.seat}: {done.stderr.strip()}")
 
 
-def keep_with_backup(place: Place, plan: Plan) -> None:
+def keep_with_backup(place: Place, plan: GrowthPlan) -> None:
     """The new text opens each backup of before, so it lies with the newest one."""
-    if plan.backup:
-        done = place.user.run("dd", "status=none", f"of={plan.backup}/site.grown.toml", given=text_in(place.site))
-        if done.returncode:
-            say(f"keep a copy of {place.site} with the backup {plan.backup}: {shown(done.stderr).strip()}")
+    if not plan.backup:
+        return
+    words = ("dd", "status=none", f"of={plan.backup}/site.grown.toml")
+    try:
+        done = place.user.run(*words, given=text_in(place.site), seconds=MINUTE)
+        told = shown(done.stderr).strip() if done.returncode else ""
+    except UserError as error:  # a pipe may lie there, which nobody reads
+        told = str(error)
+    if told:
+        say(f"keep a copy of {place.site} with the backup {plan.backup}: {told}")

@@ -37,10 +37,10 @@ from wanekupo.plant.site.difference import given_of
 from wanekupo.plant.site.faults import NAME
 from wanekupo.plant.site.growth import with_customer, with_items
 from wanekupo.plant.site.place import Place, text_in
-from wanekupo.plant.site.plan import PREPARED, Plan, Wish, drop_plan, keep_plan, read_plan
+from wanekupo.plant.site.plan import PREPARED, GrowthPlan, SeatWish, drop_plan, keep_plan, read_plan
 from wanekupo.plant.site.trials import checked, is_map, tested_growth, tested_others, tried_over_copy
 from wanekupo.common.store_user import ROOMS
-from wanekupo.common.token_file import HEALTH, TokenError, Tokens, alone, put, read, tokens_of
+from wanekupo.common.token_file import HEALTH, TokenError, Tokens, alone, check_folder, put, read, tokens_of
 from wanekupo.common.site_file import digest_of
 
 NAMED = "station-site"
@@ -83,7 +83,7 @@ def seat_of(place: Place, customer: str, name: str, is_trial: bool) -> dict[str,
     return {"name": name, "token": digest_of(there.inner)}
 
 
-def add_wishes(args: argparse.Namespace, place: Place, plan: Plan) -> None:
+def add_wishes(args: argparse.Namespace, place: Place, plan: GrowthPlan) -> None:
     """Which of the new seats get an outer token, and where: in a file that isn't there yet."""
     there = given_of(text_in(place.site), str(place.site)).seat_names()
     for seat in (it for it in args.seats if it not in there):
@@ -91,9 +91,11 @@ def add_wishes(args: argparse.Namespace, place: Place, plan: Plan) -> None:
         is_without = args.no_token or seat == HEALTH
         if not is_without and not file.parent.is_dir():
             raise TokenError(1, f"{file.parent} is no folder for the token of {seat}: --to FOLDER")
+        if not is_without:
+            check_folder(file.parent)
         if not is_without and os.path.lexists(file):
             raise TokenError(1, f"{file} is there already, and would be the file of a new token: --to FOLDER")
-        plan.add(Wish(seat, args.customer, "" if is_without else str(file), args.holder))
+        plan.add(SeatWish(seat, args.customer, "" if is_without else str(file), args.holder))
 
 
 def new_ones(text: str, title: str, customer: str, kind: str, items: list[Any]) -> list[Any]:
@@ -136,7 +138,7 @@ def grown_text(args: argparse.Namespace, place: Place, text: str, is_trial: bool
 # ---- commands
 
 
-def tested(place: Place, plan: Plan, text: str) -> list[str]:
+def tested(place: Place, plan: GrowthPlan, text: str) -> list[str]:
     """What a new text adds, once it went through all tests but that over a backup."""
     old = text_in(place.site)
     if not place.has_program():
@@ -167,7 +169,7 @@ def prepare(args: argparse.Namespace, place: Place) -> None:
     tell(place, plan, gains, over)
 
 
-def tell(place: Place, plan: Plan, gains: list[str], over: str) -> None:
+def tell(place: Place, plan: GrowthPlan, gains: list[str], over: str) -> None:
     """What changes, and what was tried."""
     for gain in gains or ["the same site in other words"]:
         say(gain)
@@ -178,7 +180,7 @@ def tell(place: Place, plan: Plan, gains: list[str], over: str) -> None:
         "no other store's site was named (--other-site FILE), so none was looked at")  # fmt: skip
 
 
-def look_again(args: argparse.Namespace, place: Place, plan: Plan) -> None:
+def look_again(args: argparse.Namespace, place: Place, plan: GrowthPlan) -> None:
     """The tests of what was prepared, as somebody may have changed it since. A seat that went is dropped."""
     text = text_in(place.next)
     plan.others = sorted({*plan.others, *(str(Path(it).absolute()) for it in args.other_site)})

@@ -10,7 +10,7 @@ TEXT_LIMIT, BLOCKS, WORDS, FIELDS = 32_768, 4, 8, 128
 
 
 @dataclass
-class Field:
+class WrittenField:
     """A field, with the path of its table."""
 
     name: str
@@ -28,10 +28,10 @@ class Field:
 @dataclass
 class FuseMap:
     words: list[int]
-    fields: list[Field]
+    fields: list[WrittenField]
     roles: dict[str, str]
 
-    def named(self, name: str) -> Field | None:
+    def named(self, name: str) -> WrittenField | None:
         return next((field for field in self.fields if field.name == name), None)
 
     def bits(self, block: int) -> int:
@@ -74,17 +74,17 @@ def tables(reader: Reader, kind: str, limit: int) -> list[Any]:
     return found or []
 
 
-def read_field(reader: Reader, table: Any, path: Path) -> Field:
+def read_field(reader: Reader, table: Any, path: Path) -> WrittenField:
     if not isinstance(table, dict):
         reader.tell(2, path, f"{shown(table)} stands where a field has to: a table")
-        return Field("", 0, 0, 1, {}, False, path)
+        return WrittenField("", 0, 0, 1, {}, False, path)
     name = reader.name(table, (*path, "name")) or ""
     block = reader.whole(table, (*path, "block"), 0, LARGEST_WHOLE) or 0
     bit = reader.whole(table, (*path, "bit"), 0, LARGEST_WHOLE) or 0
     count = reader.whole(table, (*path, "count"), 1, LARGEST_WHOLE) or 1
     locks = {kind: reader.whole(table, (*path, kind), 0, LARGEST_WHOLE, False) for kind in ("write", "read")}
     is_key = reader.member(table, (*path, "key"), bool, False)
-    return Field(name, block, bit, count, {k: n for k, n in locks.items() if n is not None}, bool(is_key), path)
+    return WrittenField(name, block, bit, count, {k: n for k, n in locks.items() if n is not None}, bool(is_key), path)
 
 
 def judge_names(reader: Reader, found: FuseMap) -> None:
@@ -106,7 +106,7 @@ def judge_places(reader: Reader, found: FuseMap) -> None:
 def judge_overlaps(reader: Reader, found: FuseMap) -> None:
     """Two fields with a bit in common: each with the nearest before it that it meets."""
     ordered = sorted(found.fields, key=lambda field: (field.block, field.bit))
-    longest: Field | None = None
+    longest: WrittenField | None = None
     for field in ordered:
         if longest and longest.block == field.block and field.bit < longest.end():
             later, earlier = (field, longest) if field.path > longest.path else (longest, field)

@@ -17,7 +17,7 @@ from pathlib import Path
 
 from wanekupo.plant.trial_copy import Backup, copy_files, copy_running, newest_backup
 from wanekupo.common.process import own_command
-from wanekupo.common.store_user import Store, StoreUser, room, shown
+from wanekupo.common.store_user import StoreFolder, StoreUser, room, shown
 from wanekupo.common.token_file import TokenError
 
 
@@ -50,9 +50,9 @@ class Place:
         return shutil.which(self.program) is not None
 
     @cached_property
-    def store(self) -> Store:
+    def store(self) -> StoreFolder:
         """The store's folder and its user; the store is there."""
-        found = Store(self.db)
+        found = StoreFolder(self.db)
         found.size()
         return found
 

@@ -17,7 +17,7 @@ PREPARED, STOPPING, PLACED = "prepared", "stopping", "placed"
 
 
 @dataclass
-class Wish:
+class SeatWish:
     """A new seat; the file of its outer token, or nothing where it gets none; and who gets it."""
 
     seat: str
@@ -27,30 +27,30 @@ class Wish:
 
 
 @dataclass
-class Plan:
+class GrowthPlan:
     stage: str = PREPARED
     backup: str = ""
     is_tried: bool = False  # over a copy of the store
     others: list[str] = field(default_factory=list)
-    wishes: list[Wish] = field(default_factory=list)
+    wishes: list[SeatWish] = field(default_factory=list)
 
-    def add(self, wish: Wish) -> None:
+    def add(self, wish: SeatWish) -> None:
         self.wishes = [it for it in self.wishes if it.seat != wish.seat] + [wish]
 
 
-def read_plan(path: Path) -> Plan:
+def read_plan(path: Path) -> GrowthPlan:
     """The plan, or one with nothing in it."""
     try:
         found = json.loads(path.read_text(encoding="utf-8"))
-        wishes = [Wish(**it) for it in found["wishes"]]
-        return Plan(found["stage"], found["backup"], bool(found.get("is_tried")), found["others"], wishes)
+        wishes = [SeatWish(**it) for it in found["wishes"]]
+        return GrowthPlan(found["stage"], found["backup"], bool(found.get("is_tried")), found["others"], wishes)
     except FileNotFoundError:
-        return Plan()
-    except (ValueError, KeyError, TypeError) as error:
+        return GrowthPlan()
+    except (ValueError, KeyError, TypeError, RecursionError) as error:
         raise TokenError(1, f"{path} isn't what this command writes: {error}") from None
 
 
-def keep_plan(path: Path, plan: Plan) -> None:
+def keep_plan(path: Path, plan: GrowthPlan) -> None:
     put(path, json.dumps(asdict(plan), indent=1) + "\n")
 
 

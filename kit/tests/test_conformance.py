@@ -13,14 +13,12 @@ from concurrent.futures import ThreadPoolExecutor
 from pathlib import Path
 from types import SimpleNamespace
 
+from kit import checks, job, protocol
+from kit.findings import Findings
+from kit.syncs import can_trace
+
 HERE = Path(__file__).resolve().parents[1]
-sys.path.insert(0, str(HERE))
-
-from kit import checks, job, protocol  # noqa: E402
-from kit.findings import Findings  # noqa: E402
-from kit.syncs import can_trace  # noqa: E402
-
-ROOT = HERE.parents[1]
+ROOT = HERE.parent
 PROGRAM = os.environ.get("STATION_PROGRAM", str(ROOT / "crates" / "station" / "out" / "station"))
 API = ROOT / "docs" / "reference" / "api.md"
 OWN = HERE / "tests" / "own_station.py"
@@ -47,18 +45,20 @@ FOUND = {
     "ends-early": ("ended", r"it ended with status 0, and 240ac4000001 isn't shipped"),
     "claims-late": ("late", r"it doesn't go on behind a late copy"),
 }
+# Where the station over the client in Python finds it, on a machine without its package.
+PLACES = {**os.environ, "PYTHONPATH": str(ROOT / "python")}
 RIGHT = {"python": [sys.executable, HERE / "stations" / "python.py"], "own": [sys.executable, OWN]}
 NODE = shutil.which("node")
 VERSION = subprocess.run([NODE, "--version"], capture_output=True, text=True).stdout if NODE else "v0"
 if int(re.match(r"v(\d+)", VERSION)[1]) >= 18:
-    RIGHT["javascript"] = [NODE, HERE / "stations" / "javascript.mjs"]
+    RIGHT["javascript"] = [NODE, HERE / "stations" / "seat.mjs"]
 
 
 def ran(*words, options=()):
     """The status of the kit over a station, and what it printed."""
     done = subprocess.run(
-        [str(HERE / "conformance"), "--program", PROGRAM, *options, "--station", *map(str, words)],
-        capture_output=True, text=True, timeout=600,
+        [sys.executable, "-B", "-m", "kit", "--program", PROGRAM, *options, "--station", *map(str, words)],
+        cwd=ROOT, env=PLACES, capture_output=True, text=True, timeout=600,
     )  # fmt: skip
     return done.returncode, done.stdout + done.stderr
 

@@ -1,15 +1,16 @@
 #!/usr/bin/env python3
-"""A station over python for the kit: the chip on the bench, from registered to shipped (../README.md)."""
+"""A station over the package wanekupo for the kit: the chip on the bench, from registered to shipped (../README.md)."""
 
 import json
 import os
 import sys
 from pathlib import Path
 
-sys.path.insert(0, str(Path(__file__).resolve().parents[2] / "python"))
-
-from wanekupo_journal import Journal  # noqa: E402
-from wanekupo_station import Espefuse, KeyFile, Refused, Station, chip_of  # noqa: E402
+from wanekupo.chips.chip import chip_of
+from wanekupo.common.errors import Refused
+from wanekupo.chips.espefuse import Espefuse, KeyFile
+from wanekupo.seat.journal import Journal
+from wanekupo.seat.station import Station
 
 job = json.loads(Path(os.environ["KIT_JOB"]).read_text("utf-8"))
 keys = {field: KeyFile(key["file"], key["burnt_as"]) for field, key in job["keys"].items()}

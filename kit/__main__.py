@@ -1,9 +1,8 @@
-#!/usr/bin/env python3
 """Tests a station, which may be written in any language, against the server, a proxy that fails, and a simulated chip.
 
-    conformance --station COMMAND ..               the rest of the words is the command
-    conformance --chips 20 --seed 7 --station java -jar station.jar
-    conformance --program P --folder F --station ./station
+    python3 -m kit --station COMMAND ..            the rest of the words is the command
+    python3 -m kit --chips 20 --seed 7 --station java -jar station.jar
+    python3 -m kit --program P --folder F --station ./station
 
 The command brings the chip on the bench from registered to shipped, and ends with status 0; README.md has its contract.
 The kit starts it, lets faults befall its requests, kills it and the server, cuts the power of the chip, and looks at
@@ -24,14 +23,10 @@ import sys
 import tempfile
 from pathlib import Path
 
-sys.dont_write_bytecode = True
-HERE = Path(__file__).resolve().parent
-sys.path.insert(0, str(HERE))
+from kit.course import Course, Options
+from kit.server import NoServer
 
-from kit.course import Course, Options  # noqa: E402
-from kit.server import NoServer  # noqa: E402
-
-BUILT = HERE.parents[1] / "crates" / "station" / "out" / "station"
+BUILT = Path(__file__).resolve().parents[1] / "crates" / "station" / "out" / "station"
 
 
 def found_program(given: str | None) -> str | None:
@@ -44,7 +39,7 @@ def found_program(given: str | None) -> str | None:
 
 
 def parser_of() -> argparse.ArgumentParser:
-    parser = argparse.ArgumentParser(description="Tests a station, which may be written in any language.")
+    parser = argparse.ArgumentParser(prog="kit", description="Tests a station, which may be written in any language.")
     parser.add_argument("--program", help="the server's program; else the repository's, or /usr/bin/station")
     parser.add_argument("--seed", type=int, default=1, help="what befalls which request (1)")
     parser.add_argument("--chips", type=int, default=8, help="how many lives have faults (8)")
@@ -101,13 +96,13 @@ def main() -> int:
         if args.folder:
             args.folder.mkdir(mode=0o700)
             return ran(options, args.folder.resolve())
-        with tempfile.TemporaryDirectory(prefix="conformance-") as folder:
+        with tempfile.TemporaryDirectory(prefix="kit-") as folder:
             return ran(options, Path(folder).resolve())
     except (NoServer, OSError) as error:
-        print(f"conformance: {error}", file=sys.stderr)
+        print(f"kit: {error}", file=sys.stderr)
         return 2
     except KeyboardInterrupt:
-        print("conformance: stopped", file=sys.stderr)
+        print("kit: stopped", file=sys.stderr)
         return 130
 
 

@@ -1,0 +1,1 @@
+"""The tests of the kit, over stations that are right and stations that are wrong in one way."""
