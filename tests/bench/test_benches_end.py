@@ -17,7 +17,6 @@ import json
 import sqlite3
 import time
 from collections import Counter
-from datetime import datetime, timezone
 
 import pytest
 
@@ -59,7 +58,7 @@ def plant(program, size, pytestconfig, tmp_path_factory):
     """A plant behind its work, with its benches, and a report of before."""
     option = pytestconfig.option
     plant = Plant(tmp_path_factory.mktemp("plant"), size, option.seed, option.espefuse)
-    plant.before = datetime.now(timezone.utc), plant.office.get("/v1/report")
+    plant.before = plant.office.get("/v1/report")
     plant.benches = []
     try:
         plant.benches += [Hands(plant, seat, family) for seat, family in zip(SEATS, FAMILIES)]

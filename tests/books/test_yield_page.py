@@ -33,7 +33,7 @@ from common.needs import ROOT
 from common.ports import free_ports
 from common.served import Server, station
 from wanekupo.books.yields import LOOKS, SENTENCE
-from wanekupo.common.token_file import PREFIX, Outer, Tokens, TokenSeat, mark_of, now, text_of
+from wanekupo.common.token_file import PREFIX, Outer, TokenSeat, Tokens, mark_of, now, text_of
 
 PAGE, CONF, PICTURE = ROOT / "clients/web/yield.html", ROOT / "deploy/nginx.conf", ROOT / "docs/pictures/yield-open.png"
 HEAD = "order,quantity,registered,planned,settled,identified,shipped,quarantined,scrapped,serials_left\n"

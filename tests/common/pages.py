@@ -1,7 +1,7 @@
 """The commands of a page of docs, run in one bash after another, and their replies beside the page's.
 
 A page's commands stand in blocks of ```console, each behind `$ `, its further lines behind `> `, and its reply below
-it. They run in a new folder in which `crates`, `clients`, `deploy` and `python` are those of the repository and
+it. They run in a new folder in which `crates`, `kit`, `deploy` and `python` are those of the repository and
 `station` is the program.
 """
 
@@ -16,7 +16,7 @@ from pathlib import Path
 
 from common.needs import ROOT
 
-FOLDERS = ["crates", "clients", "python"]
+FOLDERS = ["crates", "kit", "python"]
 PORT, PORTS = 8080, 4
 SECONDS = 600
 BLOCK = re.compile(r"^```console\n(.*?)^```$", re.MULTILINE | re.DOTALL)

@@ -3,7 +3,7 @@
     tests/all pages/test_walk.py --write             puts this run's replies into the pages
     tests/all pages/test_walk.py -k security.md      one page
 
-The commands of a page run in one bash, in a new folder in which `crates`, `clients`, `deploy` and `python` are the
+The commands of a page run in one bash, in a new folder in which `crates`, `kit`, `deploy` and `python` are the
 repository's and `station` is the program. A page whose commands run nginx, age or minisign is skipped where there is
 none. That a page runs sqlite3 in its safe mode alone is looked at in test_crafted.py.
 """

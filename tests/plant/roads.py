@@ -19,8 +19,9 @@ over a half that is mounted; DRBD isn't there. Whoever has the rights of the use
   tools, and has PYTHONPATH and PATH lead there, as behind `su` without a dash.
 
 A road is open where a file of root's is otherwise than before, root runs the program over what that user chose, another
-user's does, root's shell runs the command, a control sequence reaches root's terminal, or a process of that user's has
-the terminal, or a descriptor of a file that it may not read. It says what came of it; the status is 1 where it is open.
+user's does, root runs a command or a module of his, the tool doesn't end, a control sequence reaches root's terminal,
+or a process of that user's has the terminal, or a descriptor of a file that it may not read. It says what came of it;
+the status is 1 where it is open.
 """
 
 import ctypes
@@ -53,7 +54,7 @@ exec /run/bin/program "$@"
 LOOK = """import contextlib, pathlib, sys
 from wanekupo.standby import half, look
 class Half:
-    settings = half.Settings(program="/run/bin/station")
+    settings = half.StandbySettings(program="/run/bin/station")
 @contextlib.contextmanager
 def mounted(_):
     yield pathlib.Path(sys.argv[1])
@@ -61,7 +62,7 @@ look.mounted = mounted
 def main():
     half.tell(str(look.contents(Half()).numbers))
     return 0
-half.ended("look", main)
+sys.exit(half.ended("look", main))
 """
 
 

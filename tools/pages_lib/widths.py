@@ -2,8 +2,8 @@
 
 A line that begins a clause (`requires` or `ensures`) has at most 100 columns, and so has each line of the
 definitions of the machine and its laws; any other line of a .rt or .antt file has 160. A line of a page has 100,
-in bench, kit, python and tests 120. Texts in quotation marks, tables and indented text of pages are as long as
-what they show.
+in bench, kit, python and tests 120. Texts in quotation marks, tables and indented text of pages are as long as what
+they show.
 """
 
 import re

@@ -209,7 +209,8 @@ def test_a_list_that_cant_be_left_is_status_6(tmp_path, monkeypatch):
     monkeypatch.setattr(token, "SETTINGS", tmp_path)
     monkeypatch.setattr(token, "read_settings", lambda: StandbySettings(tokens=str(path)))
     monkeypatch.setattr(token.Half, "is_mounted", lambda self: True)
-    monkeypatch.setattr(token.living, "leave", lambda half, tokens: (_ for _ in ()).throw(token.StandbyError("frozen.")))
+    frozen = token.StandbyError("frozen.")
+    monkeypatch.setattr(token.living, "leave", lambda half, tokens: (_ for _ in ()).throw(frozen))
     with pytest.raises(TokenError, match="the other machine doesn't know it. frozen") as error:
         token.run(args_of("--file", str(path), "--no-reload", "seat", "a1", "--customer", "acme"))
     assert error.value.status == 6 and "a1" in tokens_of(path.read_text(), path).seats
