@@ -14,7 +14,7 @@ from commanding import ran
 from wanekupo.common.errors import NoReply, OtherReports
 from wanekupo.books.lost import given_up, lost_csv
 from wanekupo.common.moments import moment_of
-from wanekupo.books.report_counts import Difference, as_csv, as_text, difference_of
+from wanekupo.books.report_counts import ReportDifference, as_csv, as_text, difference_of
 
 HEAD = "order,quantity,registered,planned,settled,identified,shipped,quarantined,scrapped,serials_left\n"
 SITE = HEAD.replace("order,", "customer,orders,")
@@ -36,7 +36,7 @@ class Subtracted(unittest.TestCase):
     def test_a_shift(self):
         """Of o1 10 were begun, 9 shipped and 3 given up."""
         difference = difference_of(BEFORE, BEHIND)
-        self.assertEqual(difference, Difference("order", {"o1": O1, "o2": O2}))
+        self.assertEqual(difference, ReportDifference("order", {"o1": O1, "o2": O2}))
         told = as_csv(difference).splitlines()
         self.assertEqual(told[0].split(",")[:5], "order begun shipped given_up yield".split())
         self.assertEqual(told[1], "o1,10,9,3,75.0,-2,+1,0,-1,+9,+1,+2")
@@ -47,19 +47,19 @@ class Subtracted(unittest.TestCase):
         self.assertEqual((len(lines), len({len(line) for line in lines})), (4, 1))
 
     def test_nothing_was_done(self):
-        self.assertEqual(difference_of(BEHIND, BEHIND), Difference("order", {}))
+        self.assertEqual(difference_of(BEHIND, BEHIND), ReportDifference("order", {}))
         self.assertEqual(len(as_csv(difference_of(BEHIND, BEHIND)).splitlines()), 1)
 
     def test_a_customer_without_orders(self):
         """Its first orders are counted from nothing."""
         changed = {**O2, "settled": 0, "registered": 2, "shipped": 1}
         found = difference_of(HEAD, report("o1,30,2,0,0,0,1,0,0,27"))
-        self.assertEqual(found, Difference("order", {"o1": changed}))
+        self.assertEqual(found, ReportDifference("order", {"o1": changed}))
 
     def test_the_site(self):
         rows = [report(row, head=SITE) for row in ("acme,1,30,2,0,0,0,1,0,0,27", "acme,2,39,1,0,0,0,4,0,0,34")]
         changed = {**O2, "settled": 0, "registered": -1, "shipped": 3}
-        self.assertEqual(difference_of(*rows), Difference("customer", {"acme": changed}))
+        self.assertEqual(difference_of(*rows), ReportDifference("customer", {"acme": changed}))
 
     def test_what_are_no_two_reports(self):
         """By an order that went, by one of which there is less, and by reports of two kinds."""

@@ -11,7 +11,7 @@ from wanekupo.books.steps import Step
 from wanekupo.seat.rows import rows_of
 
 
-class Given(NamedTuple):
+class GivenNumbers(NamedTuple):
     """A serial number with its key, of a chip or of an import, by its line."""
 
     serial: str
@@ -19,7 +19,7 @@ class Given(NamedTuple):
     chip: Optional[str]
     step: Step
 
-    def differs_from(self, other: Given) -> bool:
+    def differs_from(self, other: GivenNumbers) -> bool:
         """Whether both can't be true: another chip; or, where one is of an import, another key or serial number."""
         if self.chip is not None and other.chip is not None:
             return self.chip != other.chip
@@ -32,7 +32,7 @@ class Given(NamedTuple):
 def given_twice(journals: list[Seated]) -> Iterator[Row]:
     """What lines of two chips have, or of a chip and an import. Not what was given since a copy that a later restore
     made an older one; and of an import not what a restore took away."""
-    first: dict[tuple[str, str, str], Given] = {}
+    first: dict[tuple[str, str, str], GivenNumbers] = {}
     for it, step in ((it, step) for it in journals for step in it.book.steps if step.turn <= 0):
         for issuer, own, mac in _given_by(step):
             named = ("serial", issuer, own.serial), ("key_sha256", issuer, own.key), ("mac", "", mac)
@@ -44,15 +44,15 @@ def given_twice(journals: list[Seated]) -> Iterator[Row]:
     yield from _addresses_twice(journals)
 
 
-def _given_by(step: Step) -> Iterator[tuple[str, Given, str]]:
+def _given_by(step: Step) -> Iterator[tuple[str, GivenNumbers, str]]:
     """What a line gave: the issuer, and the record with its first address."""
     if step.path == "/v1/identity" and step.is_done():
         serial, key, mac = (str(step.reply.get(name)) for name in ("serial", "key_sha256", "mac"))
-        yield str(step.reply.get("issuer")), Given(serial, key, step.chip, step), mac
+        yield str(step.reply.get("issuer")), GivenNumbers(serial, key, step.chip, step), mac
     elif step.path == "/v1/import" and step.is_stored and step.status in (None, 200):
         with contextlib.suppress(ValueError):
             for serial, key in rows_of(str(step.asked.get("csv", ""))):
-                yield str(step.asked.get("issuer")), Given(serial, key.lower(), None, step), "None"
+                yield str(step.asked.get("issuer")), GivenNumbers(serial, key.lower(), None, step), "None"
 
 
 def _addresses_twice(journals: Iterable[Seated]) -> Iterator[Row]:

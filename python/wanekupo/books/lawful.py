@@ -16,7 +16,7 @@ WRONG_KIND, OTHER_KEY, WRITE_PROTECTED, HIDDEN, NO_LOCK = 24, 25, 26, 27, 28
 CODING_SCHEME, BAD_READBACK = 36, 41
 
 
-class Wanted:
+class WantedPlan:
     """What wishes come to, with the refusals that rest on them alone: the bits that are to be 1 and 0, and the digests
     of each key field by its name."""
 
@@ -55,7 +55,7 @@ class Wanted:
 
 def plan_refusal(layout: Layout, wishes: Sequence[Mapping[str, Any]], burnt: Places, known: Keys) -> Optional[int]:
     """The least number by which the server refuses a plan of a chip; None where it takes it."""
-    wanted = Wanted(layout, wishes)
+    wanted = WantedPlan(layout, wishes)
     found = wanted.refused
     coding = places_in(layout.coding)
     missing = wanted.ones - burnt

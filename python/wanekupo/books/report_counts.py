@@ -16,7 +16,7 @@ Counts = Mapping[str, Mapping[str, int]]
 
 
 @dataclass(frozen=True)
-class Difference:
+class ReportDifference:
     """By how much each count of two reports differs. `column` says what the names of the rows are: `order` or
     `customer`. Rows without a difference are left out."""
 
@@ -41,7 +41,7 @@ def counts_of(report: str) -> tuple[str, Counts]:
     return names[0], {row[0]: {name: int(row[place]) for name, place in places.items()} for row in rows}
 
 
-def difference_of(earlier: str, later: str) -> Difference:
+def difference_of(earlier: str, later: str) -> ReportDifference:
     """What was done from one report to the other. An order that wasn't there yet counts from nothing."""
     (column, before), (other, after) = counts_of(earlier), counts_of(later)
     if column != other:
@@ -55,7 +55,7 @@ def difference_of(earlier: str, later: str) -> Difference:
     less = [*(before.keys() - after.keys()), *(name for name, row in rows.items() if min(summed(row).values()) < 0)]
     if less:
         raise OtherReports(f"the later report has less of {shown(min(less))} than the earlier one")
-    return Difference(column, {name: row for name, row in rows.items() if any(row.values())})
+    return ReportDifference(column, {name: row for name, row in rows.items() if any(row.values())})
 
 
 def summed(row: Mapping[str, int]) -> dict[str, int]:
@@ -63,7 +63,7 @@ def summed(row: Mapping[str, int]) -> dict[str, int]:
     return {"begun": sum(row.values()), "shipped": row["shipped"], "given_up": row["quarantined"] + row["scrapped"]}
 
 
-def table(difference: Difference) -> list[list[str]]:
+def table(difference: ReportDifference) -> list[list[str]]:
     """The rows of the yield, with their head and the sum over all."""
     rows = [*difference.rows.items()]
     if rows:
@@ -76,7 +76,7 @@ def table(difference: Difference) -> list[list[str]]:
     return lines
 
 
-def as_text(difference: Difference) -> str:
+def as_text(difference: ReportDifference) -> str:
     """A table for people: the columns under each other."""
     lines = table(difference)
     widths = [max(map(len, column)) for column in zip(*lines)]
@@ -85,11 +85,11 @@ def as_text(difference: Difference) -> str:
     return "".join(" ".join(words) + "\n" for words in told)
 
 
-def as_csv(difference: Difference) -> str:
+def as_csv(difference: ReportDifference) -> str:
     return csv_lines(table(difference))
 
 
-def formulas_of(difference: Difference) -> list[str]:
+def formulas_of(difference: ReportDifference) -> list[str]:
     """What is to be told of names that a spreadsheet would take for formulas."""
     head, *lines = table(difference)
     return list(dict.fromkeys(formulas_in(head, lines)))
