@@ -14,6 +14,7 @@ benches that asked for the last number at one moment.
 import contextlib
 import csv
 import json
+import os
 import sqlite3
 import time
 from collections import Counter
@@ -60,6 +61,7 @@ def plant(program, size, pytestconfig, tmp_path_factory):
     plant = Plant(tmp_path_factory.mktemp("plant"), size, option.seed, option.espefuse)
     plant.before = plant.office.get("/v1/report")
     plant.benches = []
+    mask = os.umask(0o077)  # nobody else reads a station's files
     try:
         plant.benches += [Hands(plant, seat, family) for seat, family in zip(SEATS, FAMILIES)]
         work(plant, plant.benches)
@@ -69,6 +71,7 @@ def plant(program, size, pytestconfig, tmp_path_factory):
         for it in plant.benches:
             it.bench.process.poll() is None and it.bench.kill()
         plant.program.kill()
+        os.umask(mask)
 
 
 # ---- what is compared
