@@ -22,7 +22,7 @@ from pages_lib.markdown import OF_THE_PAST, PROMISES_PAGE, fences_of, page_text,
 from pages_lib.rattle import CRATES, TOP, code_of, crates, declared, sources, text_of, tracked
 
 LIST = r"\(((?:`[\w:]+`(?:,| and)?\s*)+)[^()`]*"
-FOLDERS = ["bench", "clients", "deploy", "kit", "python", "tests", "tools", ".ci", "docs/openapi.yaml"]
+FOLDERS = ["bench", "clients", "debian", "deploy", "kit", "python", "tests", "tools", ".ci", "docs/openapi.yaml"]
 QUOTING = ("docs/explanation/promises.md",)
 OF_TESTS = re.compile(r"test_|\w+_tests$")
 
