@@ -19,7 +19,7 @@ from common.chip import Failed
 from common.commands import command
 from plant.gameday_plant import CUSTOMERS, lines_of
 
-AT = "2026-11-30T00:00:0{}Z"
+AT = "2031-01-01T00:00:0{}Z"
 SEATS = [seat for seats in CUSTOMERS.values() for seat in seats]
 
 
@@ -85,17 +85,17 @@ def test_foreign(bench):
     count = len(own[1].read_bytes().splitlines())
     zeros = [line if "nr" in line else {**line, "digest": "0" * 64} for line in lines]
     cases = (
-        ("b1-2026-11-30.journal", written(lines), 1, "is of the seat b1, and the folder a1 is of a1"),
-        ("a1-2026-11-30.journal", written(lines), 1, "is of the seat b1, and the folder a1 is of a1"),
+        ("b1-2031-01-01.journal", written(lines), 1, "is of the seat b1, and the folder a1 is of a1"),
+        ("a1-2031-01-01.journal", written(lines), 1, "is of the seat b1, and the folder a1 is of a1"),
         (own[1].name, own[1].read_text() + written(lines), count + 1, "is of the seat b1, and the folder a1 is of a1"),
-        ("b1-2026-11-30.journal", written(zeros), 1, "is of the seat b1"),
-        ("a1-2026-11-30.journal", written([zeros[0] | {"seat": "a1"}]), 1,
+        ("b1-2031-01-01.journal", written(zeros), 1, "is of the seat b1"),
+        ("a1-2031-01-01.journal", written([zeros[0] | {"seat": "a1"}]), 1,
          "was changed: its digest isn't that of what it asks"),
-        ("a1-2026-11-30.journal", written([{k: v for k, v in lines[0].items() if k not in ("seat", "digest")}]), 1,
+        ("a1-2031-01-01.journal", written([{k: v for k, v in lines[0].items() if k not in ("seat", "digest")}]), 1,
          "has no digest"),
-        ("a1-2026-11-30.journal", '{"at":"2026', None, ""),
-        ("a1-2026-11-30.journal", "[]\n", 1, "is no line of a journal"),
-        ("a1-2026-11-30.journal", written(nameless), None, "has the order evil of acme, and the lost store"),
+        ("a1-2031-01-01.journal", '{"at":"2026', None, ""),
+        ("a1-2031-01-01.journal", "[]\n", 1, "is no line of a journal"),
+        ("a1-2031-01-01.journal", written(nameless), None, "has the order evil of acme, and the lost store"),
     )  # fmt: skip
     for number, (name, text, line, told) in enumerate(cases):
         journals = bench.copied(f"foreign{number}")
@@ -131,13 +131,13 @@ def test_folders(bench):
     bench.refuses("is in no station's folder", journals=[journals])
     (journals / "x.journal").unlink()
     own = own_folder(journals, "a1")
-    (own / "a1-2026-11-30.journal").symlink_to(own_folder(bench.journals, "b1") / "b1-2026-11-29.journal")
+    (own / "a1-2031-01-01.journal").symlink_to(own_folder(bench.journals, "b1") / "b1-2026-11-29.journal")
     bench.refuses("is a link, and isn't followed", journals=[journals])
-    (own / "a1-2026-11-30.journal").unlink()
-    os.mkfifo(own / "a1-2026-11-30.journal")
+    (own / "a1-2031-01-01.journal").unlink()
+    os.mkfifo(own / "a1-2031-01-01.journal")
     bench.refuses("is no plain file", journals=[journals])
-    (own / "a1-2026-11-30.journal").unlink()
-    with open(own / "a1-2026-11-30.journal", "wb") as large:
+    (own / "a1-2031-01-01.journal").unlink()
+    with open(own / "a1-2031-01-01.journal", "wb") as large:
         large.truncate(3 << 30)
     bench.refuses("has more than 512 MB or 2000000 lines of journals", journals=[journals])
     shutil.move(journals / "a1", bench.folder / "aside")
@@ -172,7 +172,7 @@ def test_lost(bench):
         if changed in lines:  # in the place of the line that there was, as two records would be found anyway
             replace_reply(own, changed, reply)
         else:
-            (own / "a1-2026-11-30.journal").write_text(written(lines))
+            (own / "a1-2031-01-01.journal").write_text(written(lines))
         _, said = bench.refuses(told, journals=[journals])
         if str(own) not in said.stderr:
             raise Failed(f"no file is named: {said}")
@@ -223,7 +223,7 @@ def test_left_out(bench):
     where no token of that customer's lives."""
     chip, last = shipped_before(bench), seat_rows(bench.plant.db)["a2"]
     journals = bench.copied("strange")
-    file = own_folder(journals, "a2") / "a2-2026-11-30.journal"
+    file = own_folder(journals, "a2") / "a2-2031-01-01.journal"
     file.write_text(written(done("a2", last + 1, "/v1/scrap", {"chip": chip}, {"chip": chip, "state": "scrapped"})))
     empty = Path(tempfile.mkdtemp(dir=bench.folder, prefix="empty."))
     told = f"acme: chip {chip}, scrapped in its journal and shipped in the store: refused as 17 wrong_state"
