@@ -1,6 +1,6 @@
 //! The fuse map of the whole ESP32.
 
-/// The text of `maps/esp32.toml`; `tools/pages` looks whether it is.
+/// The text of the family esp32's `map.toml`; `tools/pages` looks whether it is.
 pub const ESP32: &str = r#"# The eFuses of the ESP32, for POST /v1/map (docs/reference/files.md).
 #
 # Source: espefuse 4.7.0, espefuse/efuse_defs/esp32.yaml, VER_NO 369d2d860d34e777c0f7d545a7dfc3c4. Names and positions

@@ -43,7 +43,7 @@ from wanekupo.chips.espefuse import Espefuse
 from wanekupo.seat.replies import Device, Entry, Identity, Imported, Listed, Order, Plan, Verdict, Word, Work
 
 HERE = Path(__file__).resolve().parent
-README = HERE.parent / "README.md"
+README = HERE.parents[1] / "README.md"
 
 
 class Commands(StationCase):
@@ -106,7 +106,7 @@ class Commands(StationCase):
         (self.folder / "esp32.toml").write_text(MAP, encoding="utf-8")
         (self.folder / "public.key").write_bytes(PUBLIC_KEY)
         SimulatedChip(bytes.fromhex(MAC), self.folder / "chip")
-        paths = {**self.espefuse(), "PYTHONPATH": str(HERE.parent)}
+        paths = {**self.espefuse(), "PYTHONPATH": str(HERE.parents[1])}
         words = [sys.executable, "-B", "life.py"]
         for says in ("serial='A998'", ""):
             done = subprocess.run(words, cwd=self.folder, env=paths, capture_output=True, text=True)
