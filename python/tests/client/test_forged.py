@@ -307,7 +307,8 @@ class Rules(unittest.TestCase):
 
     def test_the_tables(self):
         """They are those of the program; a renaming changes nothing of them."""
-        source = (ROOT / "crates" / "office_store" / "src" / "create.rt").read_text("utf-8")
+        sources = (ROOT / "crates" / "office_store" / "src").glob("*.rt")
+        source = "".join(it.read_text("utf-8") for it in sources)
         own = re.findall(r'"(CREATE TABLE .*?)";', source)
         self.assertEqual(sorted(map(plain, own)), sorted(map(plain, statements().values())))
         with contextlib.closing(sqlite3.connect(":memory:")) as base:
