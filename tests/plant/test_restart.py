@@ -71,7 +71,7 @@ def restarted(plant, *words):
 
 
 def given(plant, user):
-    """Gives the store, its backups and the metrics to a user, as a store is never root's for deploy/restart."""
+    """Gives the store, its backups and the metrics to a user, as a store is never root's for `station-restart`."""
     plant.folder.chmod(0o711)
     inside = (*plant.backups.rglob("*"), *plant.text_folder.iterdir(), *plant.small.glob("books.db*"))
     for path in (plant.small, plant.backups, plant.text_folder, *inside):
