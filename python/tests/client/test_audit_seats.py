@@ -83,6 +83,12 @@ class SeatCase(unittest.TestCase):
 
 
 class Turns(SeatCase):
+    def test_a_number_below_one(self):
+        """No request has it: the server expects 1 of a new seat."""
+        for number, count in ((0, 1), (-1, 1), (1, 0)):
+            faults = [it for it in self.book([asked("06:00:00", number, "c1")]).faults if "first one is 1" in it.told]
+            self.assertEqual(len(faults), count, number)
+
     def test_numbers(self):
         """What is told of a seat's numbers: the journals, the last one of the store and its chip, and the words."""
         restored = [*row(1, 5, "05"), goes_on("06:30:00", 4), *done("06:31:00", 4, "n4"), *done("06:32:00", 5, "n5")]

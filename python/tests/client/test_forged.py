@@ -316,6 +316,8 @@ class Rules(unittest.TestCase):
             self.assertEqual((list(others_of(base.execute)), len(list(excluded(base.execute)))), ([], 1))
             base.executescript("ALTER TABLE orders RENAME TO x; ALTER TABLE x RENAME TO orders")
             self.assertEqual(list(others_of(base.execute)), [])
+            base.execute("INSERT INTO seat VALUES ('a9', 'acme', -1, x'', '')")
+            self.assertIn("a seat's last number is below 1", " ".join(excluded(base.execute)))
 
     def test_plans(self):
         """The refusals of the tables of wishes of docs/reference/api.md, each of a chip with these words of block 0."""

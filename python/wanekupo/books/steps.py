@@ -229,6 +229,9 @@ def _take(book: Book, file: str, number: int, line: Members) -> None:
             step = Step(file, number, line["at"], sys.intern(line["path"]), asked, digest, *names)
             step.reason = line.get("reason", "")
             book.steps.append(step)
+            if step.number < 1:
+                told = f"asks with the number {step.number}, and a seat's first one is 1"
+                book.faults.append(JournalFault(file, number, line["at"], told))
         book.is_asked = True
     elif "status" in line:
         told = _answered(last if book.is_asked else None, line)
