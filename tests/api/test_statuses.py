@@ -189,10 +189,10 @@ class TestFiles(ProgramCase):
         text = (self.folder / "site.toml").read_text(encoding="ascii")
         there = self.files()
         for words in (["site.toml"], ["site.toml", "--from", "site.toml"]):
-            self.assertEqual(self.run_it("check-site", *words), (0, b"ok 2\n", b""))
+            assert self.run_it("check-site", *words) == (0, b"ok 2\n", b"")
         self.ends("station: cannot read no.toml", ["check-site", "no.toml"])
         self.ends("station: cannot read no.toml", ["check-site", "site.toml", "--from", "no.toml"])
-        self.assertEqual(self.files(), there)
+        assert self.files() == there
         gone = {
             "station: store fault 1: customer bolt: it is gone, or has changed": text.replace('"bolt"', '"corp"'),
             "station: store fault 1: customer bolt, seat 1: it is gone, or has changed": text.replace('"b1"', '"b2"'),
