@@ -37,6 +37,7 @@ SHOWN = {
     "serve --help": rb"Serves connections .*Usage: station serve .*\n",
     "replay --help": rb"Serves one stream .*Usage: station replay .*\n",
     "check-map --help": rb"Reads a fuse map.*Usage: station check-map .*\n",
+    "check-site --help": rb"Reads a site.*Usage: station check-site .*\n",
     "--version": rb"station 1\.0\.0\n",
     "-V": rb"station 1\.0\.0\n",
 }
@@ -51,6 +52,8 @@ REFUSED = [
     "replay --site site.toml books.db",
     "replay --site site.toml --existing",
     "check-map",
+    "check-site",
+    "check-site site.toml site.toml",
     "serve --site site.toml --port 8080 --connections 7",
     SERVE.replace("8080", "0"),
     SERVE.replace("8080", "65536"),
@@ -164,7 +167,8 @@ class TestWords(ProgramCase):
         assert self.files() == {"site.toml"}
 
     def test_an_output_that_takes_nothing(self):
-        for words in (["--help"], ["check-map", str(MAP)], ["replay", "--site", "site.toml"]):
+        replay = ["replay", "--site", "site.toml"]
+        for words in (["--help"], ["check-map", str(MAP)], ["check-site", "site.toml"], replay):
             with open("/dev/full", "wb") as full:
                 done = subprocess.run(
                     [str(self.program), *words],
@@ -179,6 +183,27 @@ class TestFiles(ProgramCase):
         (self.folder / "none.toml").write_text("{", encoding="ascii")
         self.ends("station: map fault 1", ["check-map", "none.toml"])
         self.ends("station: cannot read no.toml", ["check-map", "no.toml"])
+
+    def test_a_site_that_is_checked(self):
+        """Nothing is made; a site grew from itself, and not from one whose customer, seat or manager it lacks."""
+        text = (self.folder / "site.toml").read_text(encoding="ascii")
+        there = self.files()
+        for words in (["site.toml"], ["site.toml", "--from", "site.toml"]):
+            assert self.run_it("check-site", *words) == (0, b"ok 2\n", b"")
+        self.ends("station: cannot read no.toml", ["check-site", "no.toml"])
+        self.ends("station: cannot read no.toml", ["check-site", "site.toml", "--from", "no.toml"])
+        assert self.files() == there
+        gone = {
+            "station: store fault 1: customer bolt: it is gone, or has changed": text.replace('"bolt"', '"corp"'),
+            "station: store fault 1: customer bolt, seat 1: it is gone, or has changed": text.replace('"b1"', '"b2"'),
+            "station: store fault 1: manager: it is gone, or has changed": text[: text.index("[manager]")],
+            "station: site fault 3: customer bolt, seat 1: the name is there already": text.replace('"b1"', '"a1"'),
+        }
+        for line, new in gone.items():
+            (self.folder / "new.toml").write_text(new, encoding="ascii")
+            self.ends(line, ["check-site", "new.toml", "--from", "site.toml"])
+        (self.folder / "new.toml").write_text("{", encoding="ascii")
+        self.ends("station: site fault 1", ["check-site", "site.toml", "--from", "new.toml"])
 
     def test_a_site_file_that_is_none(self):
         """One that is missing, a folder, one that isn't UTF-8, and one with a fault: no store is made."""

@@ -1,6 +1,6 @@
 -- How a job may end, by what its parts say of their failures.
 use Rattle.std.proofs.Common.{◌≡◌, ◌⊎◌, ◌++◌, ◌∷◌, [], ℕ, List, Bool, true, false, Option, Some, None, Result, Ok, Err, inl, inr, refl, sym, subst, ◌∙◌}
-use Rattle.std.proofs.Common.{IfErr, IfOk, if◌then◌else◌, length, nat_lt}
+use Rattle.std.proofs.Common.{IfErr, IfOk, if◌then◌else◌, length, nat_lt, arith, ◌≤◌}
 use Rattle.std.specs.Prelude.{IsErrAnd, MatchResult, OnOk}
 use Rattle.std.specs.Borrow.{Bor}
 use Rattle.std.specs.Io.KnownBytes.{Appends, Keeps}
@@ -9,15 +9,18 @@ use Rattle.std.specs.declared.io.Error.{Error}
 use Rattle.fusemap_core.specs.Prelude.{Map, map_read, map_text_limit}
 use Rattle.fusemap_core.specs.declared.fault.MapFault.{MapFault}
 use Rattle.http_frames.specs.declared.serving.Served.{Served}
-use Rattle.site_core.specs.Prelude.{site_read, site_text_limit}
+use Rattle.site_core.specs.Prelude.{site_read, site_text_limit, SiteValue}
+use Rattle.site_faults.specs.Prelude.{site_told, too_long}
+use Rattle.site_faults.specs.declared.told.ToldFault.{ToldFault}
 use Rattle.site_core.specs.declared.fault.SiteFault.{SiteFault}
-use Rattle.station_cli.specs.Prelude.{ComesTo, EndsAs, EndsStream, IsAnswered, IsBeforeStream, IsOfFile, IsOfJob, IsOfSite, IsTold, IsUnread}
+use Rattle.station_cli.specs.Prelude.{checked_in, ChecksTo, ComesTo, EndsAs, EndsStream, IsAnswered, IsBeforeStream, IsOfCheck, IsOfFile, IsOfJob}
+use Rattle.station_cli.specs.Prelude.{IsCheckedFrom, IsOfSite, IsTold, IsToldFault, IsUnread, site_line}
 use Rattle.station_cli.specs.Prelude.{map_failure, map_line, map_of_file, Traffic}
 use Rattle.station_cli.specs.Prelude.{or_failure, result_of_ending, site_failure, site_in, status_of, text_of_file}
 use Rattle.station_cli.specs.declared.failure.Failure.{Failure}
 use Rattle.station_cli.specs.declared.failure.Failure.TheVariants.{CannotRead, NoMemory, WriteFailed}
 use Rattle.station_cli.specs.declared.job.Job.{Job}
-use Rattle.station_cli.specs.declared.job.Job.TheVariants.{CheckMap, Replay, Serve}
+use Rattle.station_cli.specs.declared.job.Job.TheVariants.{CheckMap, CheckSite, Replay, Serve}
 use Rattle.station_cli.specs.declared.job.StoreName.{StoreName}
 use Rattle.text_core.specs.Prelude.{result_and_then}
 
@@ -180,16 +183,170 @@ pub memory_before : (site : List ℕ) (store : Option StoreName) → IsBeforeStr
 memory_before site (Some store) = inl (inr (SiteFault.OutOfMemory, refl))
 memory_before site None = inr (SiteFault.OutOfMemory, refl)
 
+-- checking a site may fail for want of memory
+memory_of_check : (site : List ℕ) (old : Option (List ℕ)) → IsOfCheck site old NoMemory
+memory_of_check site (Some old) = inr (inr (SiteFault.OutOfMemory, refl))
+memory_of_check site None = inr refl
+
 memory_of_job : (job : Job) (traffic : Traffic) → IsOfJob job traffic NoMemory
 memory_of_job (Serve site store port connections) traffic = inl (inr (SiteFault.OutOfMemory, refl))
 memory_of_job (Replay site store) traffic = inl (memory_before site store)
 memory_of_job (CheckMap map) traffic = inl (inr (MapFault.OutOfMemory, refl))
+memory_of_job (CheckSite site old) traffic = inl (memory_of_check site old)
 
 pub ends : (job : Job) (traffic : Traffic) (done : Result Unit Failure) (status : ℕ) (old new : Option (List ℕ)) → ComesTo job traffic done
     → status ≡ status_of done → OnOk done (Keeps old new) → IfErr done (λ failure. IsTold failure old new ⊎ IsTold NoMemory old new)
     → EndsAs job traffic status old new
 ends job traffic (Ok done) status old new comes is kept told = inl (is, comes, kept)
 ends job traffic (Err failure) status old new comes is kept told = elim told [
-  | inl line ↦ inr (is, failure, comes, line)
-  | inr line ↦ inr (is, NoMemory, memory_of_job job traffic, line)
+  | inl line ↦ inr (inl (is, failure, comes, line))
+  | inr line ↦ inr (inl (is, NoMemory, memory_of_job job traffic, line))
+]
+
+-- ---- a site that is checked
+
+-- a job's status is 0 or 1, and with 0 nothing is told
+pub low_status : (job : Job) (traffic : Traffic) (status : ℕ) (old new : Option (List ℕ)) → EndsAs job traffic status old new → status ≤ 1
+low_status job traffic status old new ends = elim ends [
+  | inl done ↦ let is = done.0 in omega (arith, is)
+  | inr failed ↦ elim failed [ inl told ↦ let is = told.0 in omega (arith, is) | inr told ↦ let is = told.0 in omega (arith, is) ]
+]
+
+pub quiet : (job : Job) (traffic : Traffic) (status : ℕ) (old new : Option (List ℕ)) → EndsAs job traffic status old new → status ≡ 0 → Keeps old new
+quiet job traffic status old new ends zero = elim ends [
+  | inl done ↦ done.2
+  | inr failed ↦ elim failed [
+    | inl told ↦ let is = told.0 in absurd (omega (arith, is, zero))
+    | inr told ↦ let is = told.0 in absurd (omega (arith, is, zero))
+  ]
+]
+
+-- what is checked, by whether the bytes are over the limit and whether they are UTF-8
+abbrev checked_by : Bor (List ℕ) → List ℕ → Bool → Bool → Result (Result SiteValue ToldFault) Failure
+checked_by name bytes long utf8 = if long then Ok (Err too_long) else if utf8 then Ok (site_told bytes) else Err (CannotRead name)
+
+-- bytes that are checked can fail as no text alone
+checked_fails : (name : Bor (List ℕ)) (bytes : List ℕ) → IfErr (checked_in name bytes) (λ failure. failure ≡ CannotRead name)
+checked_fails name bytes = by (nat_lt site_text_limit (length bytes)) (is_utf8 bytes)
+  where
+    by : (long utf8 : Bool) → IfErr (checked_by name bytes long utf8) (λ failure. failure ≡ CannotRead name)
+    by true utf8 = tt
+    by false true = tt
+    by false false = refl
+
+of_file : (name : Bor (List ℕ)) (failure : Failure) → failure ≡ CannotRead name → IsOfFile name.now failure
+of_file name failure is = (name, refl, is)
+
+-- a check that fails as it would, or not for want of memory
+check_failed : (name : Bor (List ℕ)) (wanted : Result (Result SiteValue ToldFault) Failure) (failure : Failure)
+    → ChecksTo wanted (Err failure) → IfErr wanted (λ f. f ≡ CannotRead name) → IsOfFile name.now failure
+check_failed name (Ok told) failure checks fails = absurd (elim checks [ inl e ↦ cc e | inr e ↦ cc e ])
+check_failed name (Err other) failure checks fails = elim checks [
+  | inl e ↦ let is : failure ≡ other = cc in of_file name failure (is ∙ fails)
+  | inr e ↦ absurd (cc e)
+]
+
+check_fails_so : {B : Type 0} (items : B → List ℕ) (name : Bor (List ℕ)) (file : Result B Error) (result : Result (Result SiteValue ToldFault) Failure)
+    → IfErr file (λ error. IsErrAnd result (IsUnread name error)) → IfOk file (λ bytes. ChecksTo (checked_in name (items bytes)) result)
+    → IfErr result (IsOfCheck name.now None)
+check_fails_so items name file (Ok told) unread read = tt
+check_fails_so items name (Err error) (Err failure) unread read = elim unread [ inl is ↦ inr is.1 | inr is ↦ inl (of_file name failure is.1) ]
+check_fails_so items name (Ok bytes) (Err failure) unread read =
+    inl (check_failed name (checked_in name (items bytes)) failure read (checked_fails name (items bytes)))
+
+from_fails : (site old : List ℕ) (old_read : Result SiteValue Failure) (new_read : Result (Result SiteValue ToldFault) Failure) (failure : Failure)
+    → IfErr new_read (IsOfFile site) → IfErr old_read (IsOfSite old) → IsCheckedFrom old_read new_read (Err failure) → IsOfCheck site (Some old) failure
+from_fails site old old_read (Err other) failure of_new of_old from = let is : other ≡ failure = cc in inl (subst (IsOfFile site) is of_new)
+from_fails site old old_read (Ok (Err fault)) failure of_new of_old from = absurd (cc from)
+from_fails site old (Err other) (Ok (Ok new)) failure of_new of_old from = let is : other ≡ failure = cc in inr (subst (IsOfSite old) is of_old)
+from_fails site old (Ok value) (Ok (Ok new)) failure of_new of_old from = absurd (cc from.2)
+
+of_files : (name : Bor (List ℕ)) (read : Result (Result SiteValue ToldFault) Failure) → IfErr read (λ failure. failure ≡ CannotRead name)
+    → IfErr read (IsOfFile name.now)
+of_files name (Ok told) fails = tt
+of_files name (Err failure) fails = of_file name failure fails
+
+growth_fails_so : {B : Type 0} (items : B → List ℕ) (name old_name : Bor (List ℕ)) (file old_file : Result B Error)
+    (result : Result (Result SiteValue ToldFault) Failure)
+    → IfErr file (λ error. IsErrAnd result (IsUnread name error)) → IfOk file (λ _. IfErr old_file (λ error. IsErrAnd result (IsUnread old_name error)))
+    → IfOk file (λ bytes. IfOk old_file (λ old_bytes. (result ≡ Ok (Err ToldFault.NoMemory)) ⊎ (result ≡ Err NoMemory)
+    ⊎ IsCheckedFrom (site_in old_name (items old_bytes)) (checked_in name (items bytes)) result))
+    → IfErr result (IsOfCheck name.now (Some old_name.now))
+growth_fails_so items name old_name file old_file (Ok told) unread unread_old read = tt
+growth_fails_so items name old_name (Err error) old_file (Err failure) unread unread_old read = elim unread [
+  | inl is ↦ inr (inr (SiteFault.OutOfMemory, is.1))
+  | inr is ↦ inl (of_file name failure is.1)
+]
+growth_fails_so items name old_name (Ok bytes) (Err error) (Err failure) unread unread_old read = elim unread_old [
+  | inl is ↦ inr (inr (SiteFault.OutOfMemory, is.1))
+  | inr is ↦ inr (inl (of_file old_name failure is.1))
+]
+growth_fails_so items name old_name (Ok bytes) (Ok old_bytes) (Err failure) unread unread_old read = elim read [
+  | inl e ↦ absurd (cc e)
+  | inr some ↦ elim some [
+    | inl e ↦ let is : failure ≡ NoMemory = cc in inr (inr (SiteFault.OutOfMemory, is))
+    | inr from ↦ from_fails name.now old_name.now (site_in old_name (items old_bytes)) (checked_in name (items bytes)) failure
+        (of_files name (checked_in name (items bytes)) (checked_fails name (items bytes))) (site_fails old_name (items old_bytes)) from
+  ]
+]
+
+-- a site that is checked alone
+pub check_fails : {B : Type 0} (items : B → List ℕ) (name : Bor (List ℕ)) (site : List ℕ) (file : Result B Error)
+    (result : Result (Result SiteValue ToldFault) Failure) → name.now ≡ site
+    → IfErr file (λ error. IsErrAnd result (IsUnread name error)) → IfOk file (λ bytes. ChecksTo (checked_in name (items bytes)) result)
+    → IfErr result (IsOfCheck site None)
+check_fails items name site file result named unread read =
+    subst (λ (s : List ℕ). IfErr result (IsOfCheck s None)) named (check_fails_so items name file result unread read)
+
+-- a site that is checked from an old one
+pub growth_fails : {B : Type 0} (items : B → List ℕ) (name old_name : Bor (List ℕ)) (site old : List ℕ) (file old_file : Result B Error)
+    (result : Result (Result SiteValue ToldFault) Failure) → name.now ≡ site → old_name.now ≡ old
+    → IfErr file (λ error. IsErrAnd result (IsUnread name error)) → IfOk file (λ _. IfErr old_file (λ error. IsErrAnd result (IsUnread old_name error)))
+    → IfOk file (λ bytes. IfOk old_file (λ old_bytes. (result ≡ Ok (Err ToldFault.NoMemory)) ⊎ (result ≡ Err NoMemory)
+    ⊎ IsCheckedFrom (site_in old_name (items old_bytes)) (checked_in name (items bytes)) result))
+    → IfErr result (IsOfCheck site (Some old))
+growth_fails items name old_name site old file old_file result named old_named unread unread_old read =
+    subst (λ (s : List ℕ). IfErr result (IsOfCheck s (Some old))) named
+    (subst (λ (o : List ℕ). IfErr result (IsOfCheck name.now (Some o))) old_named
+    (growth_fails_so items name old_name file old_file result unread unread_old read))
+
+-- what holds of the value that a result is
+pub value_holds : {A F : Type 0} (result : Result A F) (x : A) (P : A → Type 0) → result ≡ Ok x → P x → IfOk result P
+value_holds result x P is holds = subst (λ r. IfOk r P) (sym is) holds
+
+-- the line of a site that was to be written
+pub line_ended : (done : Result Unit Failure) (status : ℕ) (Written : Type 0) (old new : Option (List ℕ))
+    → MatchResult done (λ _. Written) (λ failure. failure ≡ WriteFailed) → status ≡ status_of done → OnOk done (Keeps old new)
+    → IfErr done (λ failure. IsTold failure old new ⊎ IsTold NoMemory old new)
+    → ((status ≡ 0) × Written × Keeps old new) ⊎ ((status ≡ 1) × (IsTold WriteFailed old new ⊎ IsTold NoMemory old new))
+line_ended (Ok done) status Written old new written is kept told = inl (is, written, kept)
+line_ended (Err failure) status Written old new written is kept told =
+    inr (is, subst (λ (f : Failure). IsTold f old new ⊎ IsTold NoMemory old new) written told)
+
+-- a site that was checked, and what was told of it
+pub checked_ends : (site : List ℕ) (before : Option (List ℕ)) (traffic : Traffic) (checked : Result SiteValue ToldFault) (status : ℕ)
+    (old new : Option (List ℕ))
+    → IfOk checked (λ value. ((status ≡ 0) × Appends traffic.output_old traffic.output_new (site_line value ++ 10 ∷ []) × Keeps old new)
+    ⊎ ((status ≡ 1) × (IsTold WriteFailed old new ⊎ IsTold NoMemory old new)))
+    → IfErr checked (λ fault. (status ≡ 1) × (IsToldFault fault old new ⊎ IsTold NoMemory old new))
+    → EndsAs (CheckSite site before) traffic status old new
+checked_ends site before traffic (Ok value) status old new found fault = elim found [
+  | inl done ↦ inl (done.0, (value, done.1), done.2)
+  | inr failed ↦ elim failed.1 [
+    | inl told ↦ inr (inl (failed.0, WriteFailed, inr refl, told))
+    | inr told ↦ inr (inl (failed.0, NoMemory, inl (memory_of_check site before), told))
+  ]
+]
+checked_ends site before traffic (Err objected) status old new found fault = elim fault.1 [
+  | inl told ↦ inr (inr (fault.0, objected, tt, told))
+  | inr told ↦ inr (inl (fault.0, NoMemory, inl (memory_of_check site before), told))
+]
+
+-- a check that failed
+pub failed_ends : (site : List ℕ) (before : Option (List ℕ)) (traffic : Traffic) (failure : Failure) (status : ℕ) (old new : Option (List ℕ))
+    → status ≡ 1 → IsOfCheck site before failure → IsTold failure old new ⊎ IsTold NoMemory old new
+    → EndsAs (CheckSite site before) traffic status old new
+failed_ends site before traffic failure status old new is fails told = elim told [
+  | inl line ↦ inr (inl (is, failure, inl fails, line))
+  | inr line ↦ inr (inl (is, NoMemory, inl (memory_of_check site before), line))
 ]

@@ -12,7 +12,7 @@ use Rattle.clap.specs.declared.builder.action.ArgAction.TheVariants.{SetTrue}
 use Rattle.std.specs.Option.{option_map_or}
 use Rattle.station_cli.specs.declared.job.Job.{Job}
 use Rattle.station_cli.specs.declared.job.StoreName.{StoreName}
-use Rattle.station_cli.specs.declared.job.Job.TheVariants.{CheckMap, Replay, Serve}
+use Rattle.station_cli.specs.declared.job.Job.TheVariants.{CheckMap, CheckSite, Replay, Serve}
 use Rattle.station_cli.specs.declared.job.WordsFault.{WordsFault}
 use Rattle.station_cli.specs.declared.job.WordsFault.TheVariants.{Help, Refused, NoMemory}
 
@@ -74,15 +74,28 @@ map_rule = record (new_rule (codes "map")) { value_names = 1; required = true }
 abbrev pub check_map_app : App
 check_map_app = with_rule (new_app (codes "check-map")) map_rule
 
+-- `F`, the file of a site, which has to be there
+abbrev pub checked_rule : Rule
+checked_rule = record (new_rule (codes "site")) { value_names = 1; required = true }
+
+-- `--from OLD`, which may be there
+abbrev pub from_rule : Rule
+from_rule = record (new_rule (codes "from")) { long = Some (codes "from"); value_names = 1 }
+
+-- `check-site F [--from OLD]`
+abbrev pub check_site_app : App
+check_site_app = with_rule (with_rule (new_app (codes "check-site")) checked_rule) from_rule
+
 -- `station`, which has a version and asks for a subcommand
 abbrev pub top_app : App
 top_app =
     let app = new_app (codes "station") in record app { top = record app.top { has_version = true; subcommand_required = true } }
 
--- `station serve --site F --db F [--existing] --port N --connections K`, `station replay --site F [--db F [--existing]]` and
--- `station check-map F`
+-- `station serve --site F --db F [--existing] --port N --connections K`, `station replay --site F [--db F [--existing]]`,
+-- `station check-map F` and `station check-site F [--from OLD]`
 abbrev pub station_app : App
-station_app = with_subcommand (with_subcommand (with_subcommand top_app serve_app.top) replay_app.top) check_map_app.top
+station_app =
+    with_subcommand (with_subcommand (with_subcommand (with_subcommand top_app serve_app.top) replay_app.top) check_map_app.top) check_site_app.top
 
 -- the number that a text stands for in decimal digits, behind one `+` or none, if it is one from `least` to `most`
 abbrev pub number_of_digits : ℕ → ℕ → Text → Option ℕ
@@ -122,12 +135,17 @@ replay_of options =
 abbrev pub check_map_of : List Row → Option Job
 check_map_of options = option_map CheckMap (first_of (codes "map") options)
 
+-- the job of `check-site`, by its options
+abbrev pub check_site_of : List Row → Option Job
+check_site_of options = option_map (λ site. CheckSite site (first_of (codes "from") options)) (first_of (codes "site") options)
+
 -- the job of a subcommand, by its name and its options
 abbrev pub job_by : Text × List Row → Option Job
 job_by entered =
     if bytes_eq entered.0 (codes "serve") then serve_of entered.1
     else if bytes_eq entered.0 (codes "replay") then replay_of entered.1
     else if bytes_eq entered.0 (codes "check-map") then check_map_of entered.1
+    else if bytes_eq entered.0 (codes "check-site") then check_site_of entered.1
     else None
 
 -- the job of the subcommand that the words enter, as `clap` reads them for this command line

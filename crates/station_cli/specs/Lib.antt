@@ -8,6 +8,7 @@ pub mod MapFile
 pub mod Outcomes
 pub mod Patience
 pub mod Replaying
+pub mod SiteCheck
 pub mod SiteFile
 pub mod Statuses
 pub mod Storing

@@ -3,6 +3,8 @@ use Rattle.std.specs.Prelude.{ℕ, ◌≡◌, ◌≤◌, ◌++◌, List, codes, 
 use Rattle.std.specs.Io.KnownBytes.{Appends, Keeps}
 use Rattle.http_frames.specs.declared.serving.Served.{Served}
 use Rattle.http_frames.specs.declared.serving.Served.TheVariants.{Ended, Closed, Cut, ReadFault, WriteFault}
+use Rattle.site_faults.specs.Prelude.{fault_words}
+use Rattle.site_faults.specs.declared.told.ToldFault.{ToldFault}
 use Rattle.station_cli.specs.declared.failure.Failure.{Failure}
 use Rattle.station_cli.specs.declared.failure.Failure.TheVariants.{CannotRead, SiteFault, StoreFault, MapFault, ListenFailed, AcceptFailed}
 use Rattle.station_cli.specs.declared.failure.Failure.TheVariants.{ReadFailed, WriteFailed, TurnLimit}
@@ -35,6 +37,10 @@ line_of ReadFailed = codes "station: read failed"
 line_of WriteFailed = codes "station: write failed"
 line_of TurnLimit = codes "station: turn limit"
 line_of Failure.NoMemory = codes "station: no memory"
+
+-- the line that says why a site isn't accepted, without its line feed
+abbrev pub fault_line : ToldFault → List ℕ
+fault_line fault = codes "station: " ++ fault_words fault
 
 -- what the end of a stream says of a failure. A stream that is cut is none
 abbrev pub result_of_ending : Served → Result Unit Failure

@@ -2,8 +2,8 @@
 ghost use Rattle.std.specs.Prelude.{◌≡◌, ◌⊎◌, false, Some, None, ◌≤◌, IfOk, IfErr, IfSome, option_and_then};
 ghost use Rattle.clap.specs.Words.{app_of, fault_of, first_of, found_of, kind_of, rows_of, rule_of, subcommand_rows_of};
 ghost use Rattle.clap.specs.declared.builder.command.Command.TheViews.{out-Command as fields_of};
-ghost use Rattle.station_cli.specs.Prelude.{CanGive, IsFaultOfKind, RefusesWith, ShowsVersion, books_app, check_map_app, check_map_of};
-ghost use Rattle.station_cli.specs.Prelude.{connections_rule, db_rule};
+ghost use Rattle.station_cli.specs.Prelude.{CanGive, IsFaultOfKind, RefusesWith, ShowsVersion, books_app, check_map_app, check_map_of, check_site_app};
+ghost use Rattle.station_cli.specs.Prelude.{check_site_of, checked_rule, connections_rule, db_rule, from_rule};
 ghost use Rattle.station_cli.specs.Prelude.{existing_rule, has_flag, job_by, job_read, number_of_digits, number_of_option, port_rule, replay_app, replay_of};
 ghost use Rattle.station_cli.specs.Prelude.{required_db_rule, serve_app, serve_of, site_rule, station_app, store_of, texts, top_app};
 ghost use Rattle.station_cli.specs.declared.job.WordsFault.TheVariants.{NoMemory};
@@ -67,6 +67,13 @@ pub enum Job {
     CheckMap {
         /// The name of the map's file, as it was given.
         map: Text,
+    },
+    /// Reads one site, and tells how many customers it has, or its fault with the place.
+    CheckSite {
+        /// The name of the site's file, as it was given.
+        site: Text,
+        /// The name of the file of the site that it is to be a growth of, if one was given.
+        old: Option<Text>,
     },
 }
 
@@ -167,10 +174,12 @@ fn station_command<'a>(alloc: Global) -> Result<Command<'a>, AllocError>
     let serve = serve_command(alloc)?;
     let replay = replay_command(alloc)?;
     let check_map = check_map_command(alloc)?;
+    let check_site = check_site_command(alloc)?;
     top_command(alloc)
         .subcommand(serve)?
         .subcommand(replay)?
-        .subcommand(check_map)
+        .subcommand(check_map)?
+        .subcommand(check_site)
 }
 
 /// The program's command line without its subcommands.
@@ -302,6 +311,39 @@ fn check_map_command<'a>(alloc: Global) -> Result<Command<'a>, AllocError>
         .arg(map)
 }
 
+/// The file `F` of a site that is checked.
+fn checked_file<'a>(alloc: Global) -> Arg<'a>
+    ensures rule { rule_of result ≡ checked_rule }
+    ensures local { result.global ≡ false }
+{
+    Arg::new(alloc, "site")
+        .required(true)
+        .value_name("F")
+        .help("The file of the site that is checked")
+}
+
+/// The option `--from OLD`.
+fn from_option<'a>(alloc: Global) -> Arg<'a>
+    ensures rule { rule_of result ≡ from_rule }
+    ensures local { result.global ≡ false }
+{
+    Arg::new(alloc, "from")
+        .long("from")
+        .value_name("OLD")
+        .help("The file of the site that it is to be a growth of")
+}
+
+/// The subcommand `check-site F [--from OLD]`.
+fn check_site_command<'a>(alloc: Global) -> Result<Command<'a>, AllocError>
+    ensures shape { IfOk result (λ command. app_of command ≡ check_site_app) }
+    ensures local { IfOk result (λ command. (fields_of command).has_globals ≡ false) }
+{
+    Command::new(alloc, "check-site")
+        .about("Reads a site, and tells how many customers it has, or its fault with the place")
+        .arg(checked_file(alloc))?
+        .arg(from_option(alloc))
+}
+
 /// The fault that an error of `clap` stands for.
 fn words_fault(alloc: Global, error: &Error) -> WordsFault
     ensures { IsFaultOfKind VERSION.now (kind_of error.now) result }
@@ -351,6 +393,7 @@ fn job_by(alloc: Global, name: &str, options: &ArgMatches<'_>) -> Result<Option<
         "serve" => serve_job(alloc, options),
         "replay" => replay_job(alloc, options),
         "check-map" => check_map_job(alloc, options),
+        "check-site" => check_site_job(alloc, options),
         _ => Ok(None),
     }
 }
@@ -414,6 +457,17 @@ fn check_map_job(alloc: Global, options: &ArgMatches<'_>) -> Result<Option<Job>,
         Some(map) => Ok(Some(Job::CheckMap { map })),
         None => Ok(None),
     }
+}
+
+/// The job of `check-site` with these options.
+fn check_site_job(alloc: Global, options: &ArgMatches<'_>) -> Result<Option<Job>, AllocError>
+    ensures { IfOk result (λ job. job ≡ check_site_of (rows_of (found_of options.now))) }
+{
+    let Some(site) = option_text(alloc, options, "site")? else {
+        return Ok(None);
+    };
+    let old = option_text(alloc, options, "from")?;
+    Ok(Some(Job::CheckSite { site, old }))
 }
 
 /// Whether a flag is among the options.

@@ -10,7 +10,9 @@
 //! (`site_text_of_bytes`), and each failure has its line (`Failure`) and status 1. A file that
 //! describes no site is the failure whatever the store and the stream are (`replay`, `replay_stored`,
 //! `serve_site`). `check-map` prints the name of the map in a file, and how many blocks and fields it
-//! has. `report` has help and the version on the output alone, and nothing else there.
+//! has. `check-site` prints how many customers the site in a file has, or why it isn't accepted, with
+//! the place (`check_file`, `check_files`). `report` has help and the version on the output alone,
+//! and nothing else there.
 //!
 //! `replay` serves a stream over a keeper without rows. It does what `serve_stream` says of the bytes
 //! and the tables (`served`), and answers how the stream ended. It stays within the stream's calls,
@@ -81,6 +83,7 @@ mod private;
 mod reporting;
 mod running;
 mod serving;
+mod site_check;
 mod site_file;
 mod stored;
 mod telling;

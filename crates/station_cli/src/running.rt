@@ -1,20 +1,25 @@
 //! Does the jobs of the command line.
-ghost use Rattle.std.specs.Prelude.{◌≡◌, ◌≢◌, ◌≤◌, ◌⊎◌, ◌++◌, ◌∷◌, [], IfOk, IfErr, IsErrAnd, MatchResult, OnOk};
+ghost use Rattle.std.specs.Prelude.{◌≡◌, ◌≢◌, ◌≤◌, ◌⊎◌, ◌++◌, ◌∷◌, [], ℕ, List, Option, IfOk, IfErr, IsErrAnd, MatchResult, OnOk};
 ghost use Rattle.std.specs.Io.KnownBytes.{Appends, Keeps};
 ghost use Rattle.http_frames.specs.Prelude.{HasCallsLeft, StaysWithinCalls};
 ghost use Rattle.office_tables.specs.Prelude.{no_rows};
-ghost use Rattle.station_cli.specs.Prelude.{ComesTo, EndsAs, IsAnswered, IsBeforeStream, IsTold, IsUnread, map_line, map_of_file, Replays};
-ghost use Rattle.station_cli.specs.Prelude.{result_of_ending, site_in, status_of};
+ghost use Rattle.station_cli.specs.Prelude.{ComesTo, EndsAs, IsAnswered, IsBeforeStream, IsCheck};
+ghost use Rattle.station_cli.specs.Prelude.{IsOfCheck, IsTold, IsToldFault, IsUnread, map_line, map_of_file};
+ghost use Rattle.station_cli.specs.Prelude.{Replays, result_of_ending, site_in, site_line, status_of};
+ghost use Rattle.station_cli.specs.declared.job.Job.TheVariants.{CheckSite};
 ghost use Rattle.text_core.specs.Prelude.{result_and_then};
 
 use crate::failure::Failure;
 use crate::job::{Job, StoreName};
 use crate::map_file::{map_of_file, read_map_file, write_map_line};
 use crate::serving::{Door, serve_site};
+use crate::site_check::{check_file, check_files, write_site_line};
 use crate::site_file::{read_site_file, site_of_file};
 use crate::stored::{Done, StoreFile, put_away, replay_stored};
-use crate::telling::tell;
+use crate::telling::{tell, tell_fault};
 use office_core::MemKeep;
+use site_core::Site;
+use site_faults::ToldFault;
 use sqlite_disk::{Disk, Start};
 use station_api::{Counted, Drain, Served, Source, serve_stream};
 use std::alloc::Global;
@@ -59,11 +64,24 @@ pub fn run<R: Read + Drop, W: Write + Drop, E: Write, S: Start>(
       output_new = W.contents result.output;
     }) result.status (E.contents err.old) (E.contents err.new) }
 {
-    let done = outcome(rt, alloc, job, input, output, start);
-    Finished {
-        status: finish(alloc, done.result, err),
-        input: done.input,
-        output: done.output,
+    match job {
+        Job::CheckSite { site, old } => {
+            let mut output = output;
+            let status = check_site(rt, alloc, site, old, &mut output, err);
+            Finished {
+                status,
+                input,
+                output,
+            }
+        }
+        _ => {
+            let done = outcome(rt, alloc, job, input, output, start);
+            Finished {
+                status: finish(alloc, done.result, err),
+                input: done.input,
+                output: done.output,
+            }
+        }
     }
 }
 
@@ -75,7 +93,7 @@ struct JobResult<'a, R: Drop, W: Drop> {
     output: W,
 }
 
-/// Does a job.
+/// Does a job other than the check of a site.
 fn outcome<'a, R: Read + Drop, W: Write + Drop, S: Start>(
     rt: &HostRuntime,
     alloc: Global,
@@ -84,6 +102,7 @@ fn outcome<'a, R: Read + Drop, W: Write + Drop, S: Start>(
     mut output: W,
     start: S,
 ) -> JobResult<'a, R, W>
+    requires { ¬ IsCheck job.now }
     ensures { ComesTo job.now (record {
       input_old = R.remaining input;
       input_new = R.remaining result.input;
@@ -131,6 +150,7 @@ fn outcome<'a, R: Read + Drop, W: Write + Drop, S: Start>(
                 output,
             }
         }
+        Job::CheckSite { .. } => unreachable!(),
     }
 }
 
@@ -256,6 +276,90 @@ fn check_map<'a, W: Write>(
     match write_map_line(&map, output) {
         Ok(()) => Ok(()),
         Err(_) => Err(Failure::WriteFailed),
+    }
+}
+
+/// Checks the site in a file, from the one in an old file where one is named, and writes its line, or
+/// why it isn't accepted. Answers the status of the job.
+fn check_site<W: Write, E: Write>(
+    rt: &HostRuntime,
+    alloc: Global,
+    site: &Text,
+    old: &Option<Text>,
+    output: &mut W,
+    err: &mut E,
+) -> u8
+    ensures { (bytes : Option (List ℕ)) → EndsAs (CheckSite site.now old.now) (record {
+      input_old = bytes;
+      input_new = bytes;
+      output_old = W.contents output.old;
+      output_new = W.contents output.new;
+    }) result (E.contents err.old) (E.contents err.new) }
+{
+    match checked_site(rt, alloc, site, old) {
+        Ok(checked) => tell_checked(alloc, checked, output, err),
+        Err(failure) => finish(alloc, Err(failure), err),
+    }
+}
+
+/// What the site in a file comes to, from the one in an old file where one is named.
+fn checked_site<'a>(
+    rt: &HostRuntime,
+    alloc: Global,
+    site: &'a Text,
+    old: &'a Option<Text>,
+) -> Result<Result<Site, ToldFault>, Failure<'a>>
+    ensures { IfErr result (IsOfCheck site.now old.now) }
+{
+    let name = site.as_str();
+    let file = read_site_file(rt, alloc, name);
+    match old {
+        Some(old) => {
+            let old_name = old.as_str();
+            let old_file = read_site_file(rt, alloc, old_name);
+            check_files(alloc, name, file, old_name, old_file)
+        }
+        None => check_file(alloc, name, file),
+    }
+}
+
+/// Writes the line of a site, or why it isn't accepted. Answers the status of the job.
+fn tell_checked<W: Write, E: Write>(
+    alloc: Global,
+    checked: Result<Site, ToldFault>,
+    output: &mut W,
+    err: &mut E,
+) -> u8
+    // The line of a site is written, unless that fails.
+    ensures site { IfOk checked (λ site. ((result ≡ 0)
+        × Appends (W.contents output.old) (W.contents output.new) (site_line site ++ 10 ∷ [])
+        × Keeps (E.contents err.old) (E.contents err.new))
+        ⊎ ((result ≡ 1) × (IsTold Failure.WriteFailed (E.contents err.old) (E.contents err.new)
+        ⊎ IsTold Failure.NoMemory (E.contents err.old) (E.contents err.new)))) }
+
+    // A fault is told, and nothing is written then.
+    ensures fault { IfErr checked (λ fault. (result ≡ 1)
+        × (IsToldFault fault (E.contents err.old) (E.contents err.new)
+        ⊎ IsTold Failure.NoMemory (E.contents err.old) (E.contents err.new))) }
+    ensures prints_nothing { IfErr checked (λ _.
+        Keeps (W.contents output.old) (W.contents output.new)) }
+{
+    match checked {
+        Ok(site) => finish(alloc, line_written(&site, output), err),
+        Err(fault) => tell_fault(alloc, &fault, err),
+    }
+}
+
+/// Writes the line of a site.
+fn line_written<W: Write>(site: &Site, output: &mut W) -> Result<(), Failure<'static>>
+    ensures { MatchResult result
+        (λ _. Appends (W.contents output.old) (W.contents output.new)
+        (site_line site.now ++ 10 ∷ []))
+        (λ failure. failure ≡ Failure.WriteFailed) }
+{
+    match write_site_line(site, output) {
+        Ok(()) => Ok(()),
+        Err(_error) => Err(Failure::WriteFailed),
     }
 }
 

@@ -1,9 +1,10 @@
 //! The line of a failure on the standard error.
 ghost use Rattle.std.specs.Prelude.{◌≡◌, ◌⊎◌, ◌≤◌, IfOk, IfSome, ◌++◌, ◌∷◌, [], length, string_bytes, take, unwrap_or};
 ghost use Rattle.std.specs.Io.KnownBytes.{Appends};
-ghost use Rattle.station_cli.specs.Prelude.{AppendsFront, IsTold, line_of};
+ghost use Rattle.station_cli.specs.Prelude.{AppendsFront, IsTold, IsToldFault, fault_line, line_of};
 
 use crate::failure::Failure;
+use site_faults::ToldFault;
 use std::alloc::{AllocError, Global};
 use std::io::{ErrorKind, Write};
 
@@ -27,6 +28,27 @@ fn line_of_failure(alloc: Global, failure: Failure<'_>) -> Result<String, AllocE
     ensures { IfOk result (λ line. string_bytes line ≡ line_of failure.entry ++ 10 ∷ []) }
 {
     format!(in alloc; "{failure}\n")
+}
+
+/// Writes why a site isn't accepted, or where memory is wanting for it the line of that, as far as the
+/// writer takes it. Answers the status of a job that ended so.
+pub fn tell_fault<W: Write>(alloc: Global, fault: &ToldFault, err: &mut W) -> u8
+    ensures status { result ≡ 1 }
+    ensures told { IsToldFault fault.now (W.contents err.old) (W.contents err.new)
+        ⊎ IsTold Failure.NoMemory (W.contents err.old) (W.contents err.new) }
+{
+    match line_of_fault(alloc, fault) {
+        Ok(line) => write_front(line.as_bytes(), err),
+        Err(_) => write_front(NO_MEMORY.as_bytes(), err),
+    }
+    1
+}
+
+/// The line that says why a site isn't accepted.
+fn line_of_fault(alloc: Global, fault: &ToldFault) -> Result<String, AllocError>
+    ensures { IfOk result (λ line. string_bytes line ≡ fault_line fault.now ++ 10 ∷ []) }
+{
+    format!(in alloc; "station: {fault}\n")
 }
 
 /// Writes bytes up to where the writer fails or takes none. An interrupted call is made again.

@@ -44,6 +44,13 @@ pub const LINES: &[(&str, &str)] = &[
     ("station check-map map.toml", "check-map map.toml"),
     ("station check-map ../a/map.toml", "check-map ../a/map.toml"),
     ("station check-map -- --help", "check-map --help"),
+    ("station check-site site.toml", "check-site site.toml"),
+    (
+        "station check-site new.toml --from old.toml",
+        "check-site new.toml from old.toml",
+    ),
+    ("station check-site --from=a b", "check-site b from a"),
+    ("station check-site --help", "help"),
     ("station --help", "help"),
     ("station replay --help", "help"),
     ("station replay --site site.toml --help", "help"),
@@ -97,6 +104,12 @@ pub const LINES: &[(&str, &str)] = &[
     ("station check-map a --db b", "refused"),
     ("station check-map --db b", "refused"),
     ("station replay check-map a", "refused"),
+    ("station check-site", "refused"),
+    ("station check-site a b", "refused"),
+    ("station check-site --from a", "refused"),
+    ("station check-site a --from", "refused"),
+    ("station check-site a --from b --from c", "refused"),
+    ("station check-map a --from b", "refused"),
     (
         "station serve --site a --db x --port 0 --connections 1",
         "refused",
@@ -161,6 +174,11 @@ fn job_told(alloc: Global, job: &Job) -> Result<String, AllocError> {
         }
         Job::Replay { site, store: None } => format!(in alloc; "replay {}", site.as_str()),
         Job::CheckMap { map } => format!(in alloc; "check-map {}", map.as_str()),
+        Job::CheckSite { site, old: None } => format!(in alloc; "check-site {}", site.as_str()),
+        Job::CheckSite {
+            site,
+            old: Some(old),
+        } => format!(in alloc; "check-site {} from {}", site.as_str(), old.as_str()),
     }
 }
 
@@ -235,6 +253,62 @@ const FILES: &[(&str, &str, &str)] = &[
         "station: map fault 5\n",
     ),
     ("check-map", "$MAP[[field]]\n", "station: map fault 2\n"),
+    ("check-site", "$SITE", "ok 2\n"),
+    (
+        "check-site",
+        "customer",
+        "station: site fault 1: the text is no TOML document\n",
+    ),
+    (
+        "check-site",
+        "",
+        "station: site fault 2: customer: it has to be an array of tables\n",
+    ),
+    (
+        "check-site",
+        "$SITE[[customer]]\nissuer = []\n",
+        "station: site fault 2: customer 3: a name has to be 1 to 32 of A-Z a-z 0-9 . _ -\n",
+    ),
+    (
+        "check-site",
+        "[[customer]]\nname = \"acme\"\nissuer = [\"a\", \"b c\"]\n",
+        "station: site fault 2: customer acme, issuer 2: a name has to be 1 to 32 of A-Z a-z 0-9 . _ -\n",
+    ),
+    (
+        "check-site",
+        "[[customer]]\nname = \"acme\"\nissuer = []\nseat = 7\n",
+        "station: site fault 2: customer acme: seat has to be an array\n",
+    ),
+    (
+        "check-site",
+        "[[customer]]\nname = \"acme\"\nissuer = []\npool = [{ first = \"020000000010\", count = 0 }]\n",
+        "station: site fault 2: customer acme, pool 1: count has to be 1 to 16777216\n",
+    ),
+    (
+        "check-site",
+        "$SITE[manager2]\n[[customer]]\nname = \"corp\"\nissuer = [\"acme-ca\"]\n",
+        "station: site fault 3: customer corp, issuer 1: the name is there already\n",
+    ),
+    (
+        "check-site",
+        "[[customer]]\nname = \"acme\"\nissuer = []\n[[customer]]\nname = \"acme\"\nissuer = []\n",
+        "station: site fault 3: customer acme: the name is there already\n",
+    ),
+    (
+        "check-site",
+        "[[customer]]\nname = \"acme\"\nissuer = []\npool = [{ first = \"020000000010\", count = 4 }, { first = \"020000000013\", count = 1 }]\n",
+        "station: site fault 4: customer acme, pool 2: an address lies in a pool before it too\n",
+    ),
+    (
+        "check-site",
+        "[[customer]]\nname = \"acme\"\nissuer = []\npool = [{ first = \"020000000000\", count = 1 }, { first = \"010000000000\", count = 1 }]\n",
+        "station: site fault 5: customer acme, pool 2: an address is a group address, or has more than 48 bits\n",
+    ),
+    (
+        "check-site",
+        "[[customer]]\nname = \"acme\"\nissuer = [\"1\", \"2\", \"3\", \"4\", \"5\", \"6\", \"7\", \"8\", \"9\"]\n",
+        "station: site fault 6: customer acme: it has more than 8 of issuer\n",
+    ),
     ("replay", "$SITE", ""),
     ("replay", "customer", "station: site fault 1\n"),
     ("replay", "", "station: site fault 2\n"),
@@ -270,6 +344,9 @@ const UNREAD: &[(&str, &str, &[u8])] = &[
     ("check-map", "latin.toml", b"# \xe4\n"),
     ("check-map", "latin.toml", b"\xff"),
     ("check-map", "latin.toml", b"customer = []\n# \xc3"),
+    ("check-site", "none.toml", b""),
+    ("check-site", "folder", b""),
+    ("check-site", "latin.toml", b"# \xe4\n"),
     ("replay", "none.toml", b""),
     ("replay", "no/such file", b""),
     ("replay", "", b""),
@@ -288,6 +365,13 @@ const LONG_FILES: &[(&str, &str, usize, &str, &str)] = &[
         32_767,
         "ok esp32-sample 4 7\n",
         "station: map fault 2\n",
+    ),
+    (
+        "check-site",
+        SITE,
+        1_048_575,
+        "ok 2\n",
+        "station: site fault 6: the text has more than 1048576 bytes\n",
     ),
     ("replay", SITE, 1_048_575, "", "station: site fault 6\n"),
 ];
@@ -312,6 +396,23 @@ const ENDS: &[(&str, u8, &str)] = &[
         "station: cannot read none.toml\n",
     ),
     ("station check-map ends.toml", 1, "station: map fault 2\n"),
+    ("station check-site ends.toml", 0, ""),
+    ("station check-site ends.toml --from ends.toml", 0, ""),
+    (
+        "station check-site none.toml --from ends.toml",
+        1,
+        "station: cannot read none.toml\n",
+    ),
+    (
+        "station check-site ends.toml --from none.toml",
+        1,
+        "station: cannot read none.toml\n",
+    ),
+    (
+        "station check-site ends.toml --from ends_map.toml",
+        1,
+        "station: site fault 2\n",
+    ),
     ("station replay --site ends.toml", 0, ""),
     (
         "station replay --site none.toml",
@@ -386,6 +487,12 @@ fn job(alloc: Global, kind: &str, name: &str) -> Result<Job, Fail> {
         return Ok(Job::Replay {
             site: name,
             store: None,
+        });
+    }
+    if kind == "check-site" {
+        return Ok(Job::CheckSite {
+            site: name,
+            old: None,
         });
     }
     Ok(Job::CheckMap { map: name })

@@ -1,0 +1,4 @@
+-- The lemmas of this crate.
+pub mod Again
+pub mod Lost
+pub mod Telling

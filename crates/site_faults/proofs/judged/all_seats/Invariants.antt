@@ -1,0 +1,5 @@
+use Rattle.std.proofs.Common.{◌≡◌, take, flat_map}
+use Rattle.site_faults.proofs.judged.all_seats.Given as goal
+
+abbrev pub invariant-loop-customer : goal.invariant-loop-customer
+invariant-loop-customer l = l.seats.items ≡ flat_map (λ s. s.seats) (take l.customer-index l.customers)
