@@ -253,8 +253,8 @@ def root(tmp_path, monkeypatch, calls):
     monkeypatch.setattr(backup, "sole_backup", held)
     monkeypatch.setattr(backup, "snapshot", snapshot)
     monkeypatch.setattr(backup, "copy_for_trial", calls.noted("trial"))
-    monkeypatch.setattr(backup, "opened_lock", lambda path: calls.append(("opened", path.name)) or os.open(tmp_path,
-        os.O_RDONLY))
+    opened = calls.noted("opened")
+    monkeypatch.setattr(backup, "opened_shared_lock", lambda path: opened(path.name) or os.open(tmp_path, os.O_RDONLY))
     monkeypatch.setattr(backup, "run_into", lambda args, by: by(lambda: calls.append(("run_into",))))
     volumes(monkeypatch, calls)
     return store

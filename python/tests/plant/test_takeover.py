@@ -321,12 +321,12 @@ def left(monkeypatch, tmp_path, now, error=None):
         handle=handle)}[db])
     monkeypatch.setattr(living, "living", lambda tokens: ["a", "b"])
 
-    def put_whole(path, text):
+    def replace_file(path, text):
         calls.append((path, text))
         if error:
             raise error
 
-    monkeypatch.setattr(living, "put_whole", put_whole)
+    monkeypatch.setattr(living, "replace_file", replace_file)
     try:
         living.leave(own, "TOKENS")
     finally:

@@ -7,7 +7,6 @@ each command that may take minutes, as another chip may be there.
 
 from __future__ import annotations
 
-import os
 from pathlib import Path
 from typing import Any, Callable, Mapping, Optional, Protocol, Sequence, TypeVar
 
@@ -18,6 +17,7 @@ from wanekupo.chips.espefuse import KeyFile, wishes_of
 from wanekupo.chips.families import Blocks, Told, family_of
 from wanekupo.bench.hooks import HookResult, run_hook
 from wanekupo.bench.bench_files import BenchFiles, synced_files
+from wanekupo.common.files import PRIVATE, place_file
 from wanekupo.seat.keys import keep_csr, public_key_of
 from wanekupo.seat.records import addresses_of
 from wanekupo.bench.parts import Part
@@ -301,8 +301,7 @@ class Life:
         self._run(command, {"KEY_FILE": str(new)})
         if not new.is_file() or new.stat().st_size != 32:
             raise Ended("no_key", detail=f"{command.name} left no file of 32 bytes at KEY_FILE")
-        os.chmod(new, 0o600)
-        os.replace(new, file)
+        place_file(new, file, PRIVATE)
         synced_files(file.parent)
 
     # The identity.

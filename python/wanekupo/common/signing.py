@@ -20,7 +20,7 @@ from pathlib import Path
 from typing import Optional, Sequence
 
 from wanekupo.common.errors import BadSettings, StationError
-from wanekupo.common.files import replace_bytes, synced_folder
+from wanekupo.common.files import place_file, replace_bytes
 
 DIGEST, MINISIG, CMS = ".sha256", ".minisig", ".p7s"
 READABLE = 0o644
@@ -71,9 +71,7 @@ class Signer:
         except BaseException:
             new.unlink(missing_ok=True)
             raise
-        _synced(new, stat.S_IMODE(file.stat().st_mode))
-        os.replace(new, made)
-        synced_folder(made.parent)
+        place_file(new, made, stat.S_IMODE(file.stat().st_mode))
         return made
 
 
@@ -168,15 +166,6 @@ def digest_file(file: Path) -> Path:
     made = beside(file, DIGEST)
     replace_bytes(made, os.fsencode(f"{digest_of_file(file)}  {file.name}\n"), READABLE)
     return made
-
-
-def _synced(file: Path, mode: int) -> None:
-    opened = os.open(file, os.O_RDONLY)
-    try:
-        os.fchmod(opened, mode)
-        os.fsync(opened)
-    finally:
-        os.close(opened)
 
 
 def _ran(words: Sequence[object], happened: str, advice: str) -> None:

@@ -18,7 +18,7 @@ from typing import Optional
 
 from wanekupo.common.errors import PlantError
 from wanekupo.common.store_user import UserError, opened
-from wanekupo.common.whole_file import held, put_whole, sync
+from wanekupo.common.files import hold_lock, replace_file, sync
 
 HEAD = """# The outer tokens, the inner ones behind them, and what nginx makes of both. It has the tokens: root's alone.
 # station-token(8) writes this file, and takes none that was changed by hand.
@@ -203,7 +203,7 @@ def put(path: Path, text: Optional[str]) -> None:
         path.unlink()
         sync(path.parent)
     else:
-        put_whole(path, text)
+        replace_file(path, text)
 
 
 def check_folder(folder: Path) -> None:
@@ -228,7 +228,7 @@ def alone(path: Path, patience: float) -> Iterator[None]:
     _check_owner(path.parent)
     check_folder(path.parent)
     lock = path.with_name(path.name + ".lock")
-    with held(lock, TokenError(3, f"another run has {lock}: nothing was changed"), patience):
+    with hold_lock(lock, TokenError(3, f"another run has {lock}: nothing was changed"), patience):
         yield
 
 

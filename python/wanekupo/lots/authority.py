@@ -22,7 +22,7 @@ from typing import Any, Iterator, Mapping, Optional, Sequence
 from urllib.parse import unquote
 
 from wanekupo.common.errors import PAGES, BadKey, BadSettings, StationError
-from wanekupo.common.files import IS_POSIX, locked, opened_lock, replace_bytes, synced_folder, tested_folder
+from wanekupo.common.files import IS_POSIX, locked, opened_lock, replace_bytes, sync, tested_folder
 from wanekupo.lots.idevid import TIME, chain_fault, faults_of, late_fault, now
 from wanekupo.lots.spools import CertificateRequest, certificates_of, der_of, pem_of
 
@@ -275,7 +275,7 @@ class Authority:
             certificate = certificates_of(file.read_bytes(), file)[0]
         except BadKey:
             file.rename(file.with_suffix(".cut"))
-            synced_folder(file.parent)
+            sync(file.parent)
             return
         if not list(chain_fault(certificate, [], self.trusted)):
             self._ran([*self._openssl(), "-valid", str(file.absolute())], file.stem)

@@ -22,7 +22,7 @@ from wanekupo.lots import sheets
 from wanekupo.seat.command import Command
 from wanekupo.seat.settings import Settings, looking_station_of, token_of
 from wanekupo.common.errors import BadKey, BadSettings, StationError
-from wanekupo.common.files import locked, opened_own, replace_bytes, synced_folder
+from wanekupo.common.files import locked, opened_own, replace_bytes, sync
 from wanekupo.lots.idevid import REVOKED, chain_fault
 from wanekupo.seat.records import COLUMNS, Lot, Row, fields_of, is_row, lot_of, rows_of
 from wanekupo.common.printing import Progress, say, say_json, table_lines, warn
@@ -184,7 +184,7 @@ def _put_in_place(file: Path, room: Path) -> None:
         beside(file, ending).unlink(missing_ok=True)
     for made in (room / file.name, *sorted(it for it in room.iterdir() if it.name != file.name)):
         os.replace(made, file.with_name(made.name))
-    synced_folder(file.parent)
+    sync(file.parent)
 
 
 def _spooled(spool: Path, row: Row) -> dict[str, Optional[str]]:

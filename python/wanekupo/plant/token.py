@@ -48,7 +48,7 @@ from wanekupo.common.token_file import (
     mark_of, now, put, read, text_of, tokens_of,
 )  # fmt: skip
 from wanekupo.common.site_file import digest_of, digests_of, grown, is_in, lines_of
-from wanekupo.common.whole_file import make_file, put_whole
+from wanekupo.common.files import make_file, replace_file
 
 NAMED = "station-token"
 
@@ -174,7 +174,7 @@ def put_site(args: argparse.Namespace, done: Outcome) -> Optional[TokenError]:
     """A site file's new text, where a command has one."""
     try:
         if done.site:
-            put_whole(Path(args.into).resolve(), done.site, os.stat(args.into))
+            replace_file(Path(args.into).resolve(), done.site, like=os.stat(args.into))
         return None
     except OSError as error:
         told = f"`{NAMED} seat {args.seat}` prints the lines that it lacks"

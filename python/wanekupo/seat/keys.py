@@ -6,16 +6,14 @@ the kinds of signatures are no work for a client of our own. It is imported wher
 
 from __future__ import annotations
 
-import contextlib
 import hashlib
 import importlib
-import os
 import warnings
 from pathlib import Path
 from typing import Any, Optional
 
 from wanekupo.common.errors import BadKey
-from wanekupo.common.files import NOFOLLOW, synced_folder
+from wanekupo.common.files import replace_bytes
 
 READABLE = 0o644
 
@@ -108,14 +106,5 @@ def keep_csr(spool: Path, issuer: str, serial: str, csr: bytes) -> Path:
         raise BadKey(f"{file} has another request of the serial number {serial}", told)
     except FileNotFoundError:
         pass
-    new = file.with_name(f".{serial}.{os.getpid()}.new")
-    with contextlib.suppress(FileNotFoundError):
-        new.unlink()
-    with open(os.open(new, os.O_WRONLY | os.O_CREAT | os.O_EXCL | NOFOLLOW, READABLE), "wb") as out:
-        os.fchmod(out.fileno(), READABLE)
-        out.write(csr)
-        out.flush()
-        os.fsync(out.fileno())
-    os.rename(new, file)
-    synced_folder(file.parent)
+    replace_bytes(file, csr, READABLE, is_exact=True)
     return file

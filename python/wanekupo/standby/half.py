@@ -8,7 +8,6 @@ alone.
 from __future__ import annotations
 
 import contextlib
-import fcntl
 import os
 import re
 import shlex
@@ -17,7 +16,7 @@ import subprocess
 import sys
 import time
 import tomllib
-from collections.abc import Callable, Iterator
+from collections.abc import Callable
 from dataclasses import dataclass, fields
 from datetime import datetime, timedelta, timezone
 from pathlib import Path
@@ -26,7 +25,7 @@ from typing import Any, TextIO
 from wanekupo.common.errors import PlantError
 from wanekupo.common.store_user import UserError, shown
 from wanekupo.common.store_words import clean_words
-from wanekupo.common.whole_file import put_whole
+from wanekupo.common.files import hold_lock, replace_file
 
 SETTINGS = Path("/etc/station/standby.toml")
 # What this machine says of itself until it is switched off. Nobody but root writes there.
@@ -153,16 +152,10 @@ def ended(name: str, call: Callable[[], int], *, alone: bool = False) -> int:
     return 1
 
 
-@contextlib.contextmanager
-def alone_at_work() -> Iterator[None]:
+def alone_at_work() -> contextlib.AbstractContextManager[None]:
     """Keeps a second `takeover` or `stepdown` of this machine out."""
-    with open(run_file("lock"), "w", encoding="ascii") as lock:
-        try:
-            fcntl.flock(lock, fcntl.LOCK_EX | fcntl.LOCK_NB)
-        except BlockingIOError:
-            message = "Another `takeover` or `stepdown` is at work on this machine: wait until it ends."
-            raise StandbyError(message) from None
-        yield
+    message = "Another `takeover` or `stepdown` is at work on this machine: wait until it ends."
+    return hold_lock(run_file("lock"), StandbyError(message))
 
 
 @dataclass(frozen=True)
@@ -278,7 +271,7 @@ def alone_since(received: str) -> datetime:
         since = datetime.fromisoformat(moment)
         if then == received and timedelta(0) <= now - since < GATHERED:
             return since
-    put_whole(file, f"{now.isoformat()} {received}")
+    replace_file(file, f"{now.isoformat()} {received}")
     return now
 
 
@@ -287,7 +280,7 @@ def forget_alone() -> None:
 
 
 def give_word() -> None:
-    put_whole(word_file(), "off\n")
+    replace_file(word_file(), "off\n")
 
 
 def take_word() -> bool:

@@ -14,7 +14,7 @@ from pathlib import Path
 from wanekupo.standby.half import Half, StandbyError, tell
 from wanekupo.common.store_user import MINUTE, StoreFolder, UserError, read_small
 from wanekupo.common.token_file import Tokens, TokenError, is_past, living, read, tokens_of
-from wanekupo.common.whole_file import put_whole
+from wanekupo.common.files import replace_file
 
 NOTE = "tokens.living"
 TOKEN = re.compile(r"(@?[A-Za-z0-9._-]{1,32}:\d{1,9}) [0-9a-f]{12} (?:all|look) (-|\d{4}-\d\d-\d\dT\d\d:\d\d)")
@@ -56,7 +56,7 @@ def leave(half: Half, tokens: Tokens) -> None:
     try:
         store = StoreFolder(half.folder / "books.db")
         try:
-            store.user.call(lambda: put_whole(half.folder / NOTE, text), seconds=MINUTE)
+            store.user.call(lambda: replace_file(half.folder / NOTE, text), seconds=MINUTE)
         finally:
             os.close(store.handle)
     except (UserError, OSError) as error:

@@ -64,7 +64,7 @@ from wanekupo.plant.backup.folder import (
 from wanekupo.plant.backup.snapshot import KINDS, SnapshotStaysError, snapshot, volume_of
 from wanekupo.common.store_user import DAY, MINUTE, StoreFolder, StoreUser, UserError, opened, shown, user_of
 from wanekupo.common.store_words import clean_words
-from wanekupo.common.whole_file import opened_lock
+from wanekupo.common.files import opened_shared_lock
 
 
 def tell(*lines: str) -> None:
@@ -128,7 +128,7 @@ def done_as(user: StoreUser, call: Callable[[], None], seconds: float = DAY) -> 
 
 def with_lock(args: argparse.Namespace) -> None:
     """Makes the lock's file where there is none: root makes no file there, and a run without root has to open it."""
-    os.close(opened_lock(args.into / LOCK))
+    os.close(opened_shared_lock(args.into / LOCK))
 
 
 @contextlib.contextmanager

@@ -17,7 +17,7 @@ from collections.abc import Iterator
 from pathlib import Path
 
 from wanekupo.common.errors import PlantError, cause_of
-from wanekupo.common.whole_file import put_whole, sync
+from wanekupo.common.files import replace_file, sync
 
 FILES = ("books.db", "books.db-wal")
 ABOUT = "about.json"
@@ -195,7 +195,7 @@ def copy_store(program: str, site: str, store: str, folder: Path, taken: str = "
             shutil.copyfile(source, folder / name)
             sync(folder / name)
         counts = _tried(program, site, folder, store)
-        put_whole(folder / ABOUT, about_of(program, folder, counts, taken))
+        replace_file(folder / ABOUT, about_of(program, folder, counts, taken))
         for name in FILES:
             if digest_of_file(Path(f"{db}{name[len(FILES[0]):]}")) != digest_of_file(folder / name):
                 raise BackupError(f"{store}{name[len(FILES[0]):]} isn't as it was copied any more: stop its server")

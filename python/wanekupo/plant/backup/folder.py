@@ -27,7 +27,7 @@ from typing import Any
 from wanekupo.plant.backup.copies import BackupError, now, size_of, told_if_full
 from wanekupo.plant.backup.snapshot import KINDS
 from wanekupo.common.store_user import UserError, read_small
-from wanekupo.common.whole_file import held, put_whole, sync
+from wanekupo.common.files import hold_lock, replace_file, sync
 
 NAME = re.compile(r"(\d{4}-\d\d-\d\dT\d{6}Z)(?:\.tar\.age)?")
 FORM = "%Y-%m-%dT%H%M%SZ"
@@ -69,7 +69,7 @@ def remove_begun(folder: Path) -> list[str]:
 def sole_backup(folder: Path) -> contextlib.AbstractContextManager[None]:
     """One backup at a time has a folder. Root makes no file in another user's."""
     is_made = bool(os.geteuid()) or not folder.stat().st_uid
-    return held(folder / LOCK, BackupError(f"another backup is at work in {folder}"), is_made=is_made)
+    return hold_lock(folder / LOCK, BackupError(f"another backup is at work in {folder}"), is_made=is_made)
 
 
 def new_name(folder: Path) -> str:
@@ -166,4 +166,4 @@ def note(folder: Path, ok: bool, size: int, said: str, taken: tuple[str, str]) -
     one's that had one."""
     kind, room = taken if taken[0] else last_snapshot(folder)
     told = {"at": now(), "ok": ok, "bytes": size, "said": said, "snapshot": kind, "snapshot_size": room}
-    put_whole(folder / LAST, json.dumps(told) + "\n")
+    replace_file(folder / LAST, json.dumps(told) + "\n")

@@ -55,6 +55,7 @@ from wanekupo.common.store_user import shown as shown_lines
 from wanekupo.common.store_words import clean_words
 
 from wanekupo.common.errors import StationError
+from wanekupo.common.files import replace_file
 from wanekupo.seat.journal import Journal
 from wanekupo.seat.journal_lines import Folders, folders_at
 from wanekupo.common.printing import Progress
@@ -201,7 +202,7 @@ def keeping(args: argparse.Namespace, what: str, name: str, rows: list[str]) -> 
 def listed(place: StorePlace, left: dict[str, Any], rows: dict[str, Any]) -> None:
     """Writes the lists, and tells how many devices are in which other state."""
     for name, found in (("left.json", left), ("missing.json", rows)):
-        (place.work / name).write_text(json.dumps(found, indent=1) + "\n", encoding="utf-8")
+        replace_file(place.work / name, json.dumps(found, indent=1) + "\n")
     kinds = Counter((was, is_now or "not there") for devices in left.values() for was, is_now in devices.values())
     for (was, is_now), number in sorted(kinds.items()):
         say(f"devices that were {was} and are {is_now}: {number}")

@@ -27,7 +27,7 @@ from typing import Any
 from wanekupo.plant.backup.copies import ABOUT, FILES, digest_of_file, size_of
 from wanekupo.plant.restore.plan import RestoreError
 from wanekupo.common.store_user import StoreFolder, UserError, read_small
-from wanekupo.common.whole_file import held, put_whole, sync
+from wanekupo.common.files import hold_lock, replace_file, sync
 
 HOST = "127.0.0.1"
 FORM = "%Y-%m-%dT%H%M%SZ"
@@ -118,7 +118,7 @@ class StorePlace:
 
     def sole_restore(self) -> contextlib.AbstractContextManager[None]:
         """One restore at a time."""
-        return held(self.folder / "restore.lock", RestoreError(f"another restore is at work in {self.folder}"))
+        return hold_lock(self.folder / "restore.lock", RestoreError(f"another restore is at work in {self.folder}"))
 
     # What a run leaves to the next.
 
@@ -140,7 +140,7 @@ class StorePlace:
         return f"write {json.dumps({'lost': max(names)})} into it" if names else "remove it"
 
     def keep(self, **changes: Any) -> None:
-        put_whole(self.begun, json.dumps({**self.state(), **changes}) + "\n")
+        replace_file(self.begun, json.dumps({**self.state(), **changes}) + "\n")
 
     # The files.
 

@@ -18,7 +18,7 @@ from wanekupo.plant.trial_copy import Backup
 from wanekupo.common.process import own_command
 from wanekupo.common.store_user import LONGEST, MINUTE, PLAIN, SMALL, UserError, shown
 from wanekupo.common.token_file import HEALTH, PREFIX, TokenError, alone, read, tokens_of
-from wanekupo.common.whole_file import sync
+from wanekupo.common.files import sync
 
 from wanekupo.plant.site.place import Place, text_in
 from wanekupo.plant.site.plan import PLACED, PREPARED, STOPPING, GrowthPlan, SeatWish, drop_plan, keep_plan
