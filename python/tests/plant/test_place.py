@@ -210,7 +210,7 @@ def test_copy_files(fails):
 ])  # fmt: skip
 def test_copy_running(monkeypatch, capsys, status, err, kind, told):
     calls = []
-    monkeypatch.setattr(store_copy.subprocess, "run", lambda words, **more: calls.append(words) or
+    monkeypatch.setattr(subprocess, "run", lambda words, **more: calls.append(words) or
                         subprocess.CompletedProcess(words, status, "", err))  # fmt: skip
     words = (Path("/d/books.db"), Path("/b"), kind, Path("/room/store"))
     if told:

@@ -154,10 +154,10 @@ def test_a_pipe_in_the_place_of_what_is_written_is_waited_for_by_nobody(tmp_path
     assert (tmp_path / "restart.prom").read_bytes() == b"text" and len(list(tmp_path.iterdir())) == 1
 
 
-@pytest.mark.parametrize("out, is_healthy", [(b"200", True), (b"503", False), (b"", False), (b"2000", False)])
+@pytest.mark.parametrize("out, is_healthy", [("200", True), ("503", False), ("", False), ("2000", False)])
 def test_is_healthy(monkeypatch, out, is_healthy):
     calls = []
-    monkeypatch.setattr(restart.subprocess, "run", lambda words,
+    monkeypatch.setattr(subprocess, "run", lambda words,
         **more: calls.append(words) or SimpleNamespace(stdout=out))
     assert restart.is_healthy(args_of(health="https://h/health")) is is_healthy
     ((*words,),) = calls
@@ -186,7 +186,7 @@ def test_restart(monkeypatch):
 @pytest.mark.parametrize("status", [0, 3])
 def test_service(monkeypatch, status):
     calls = []
-    monkeypatch.setattr(restart.subprocess, "run", lambda words,
+    monkeypatch.setattr(subprocess, "run", lambda words,
         **more: calls.append(words) or SimpleNamespace(returncode=status))
     assert restart.service("is-active", "--quiet", "station") is (status == 0)
     assert calls == [["systemctl", "is-active", "--quiet", "station"]]

@@ -79,7 +79,7 @@ def place(tmp_path):
 @pytest.mark.parametrize("status", [0, 1])
 def test_stop(monkeypatch, status):
     calls = []
-    monkeypatch.setattr(restore.subprocess, "run", lambda words,
+    monkeypatch.setattr(subprocess, "run", lambda words,
         **more: calls.append(words) or subprocess.CompletedProcess(
         words, status, "", "not loaded\n"))  # fmt: skip
     if status:

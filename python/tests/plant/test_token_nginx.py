@@ -20,7 +20,7 @@ def test_ran(monkeypatch, command, is_fine, told):
             raise FileNotFoundError(2, "No such file", "gone")
         return subprocess.CompletedProcess(words, int(not is_fine), "", f"{told}\n")
 
-    monkeypatch.setattr(token.subprocess, "run", run)
+    monkeypatch.setattr(subprocess, "run", run)
     found, said = token.ran(f"{command} -a 'b c'")
     assert (found, told in said) == (is_fine, True) and calls == [([command, "-a", "b c"], subprocess.DEVNULL)]
 
@@ -29,7 +29,7 @@ def test_a_warning_is_no_reason(monkeypatch):
     """What nginx 1.26 says of `listen .. http2`, and takes."""
     warning = 'nginx: [warn] the "listen ... http2" directive is deprecated, use the "http2" directive instead in x:158'
     done = subprocess.CompletedProcess(["nginx"], 1, "", f"{warning}\nnginx: [emerg] bind() failed\n")
-    monkeypatch.setattr(token.subprocess, "run", lambda *words, **more: done)
+    monkeypatch.setattr(subprocess, "run", lambda *words, **more: done)
     assert token.ran("nginx -t") == (False, "nginx: [emerg] bind() failed")
 
 

@@ -21,6 +21,7 @@ from pathlib import Path
 from typing import Any, Iterator, Mapping, Optional, Protocol, Sequence
 
 from wanekupo.common.errors import StationError
+from wanekupo.common.process import run_command
 from wanekupo.chips.families import VERSION, Blocks, Dump, Family, Told, bytes_of, dump_of, family_of, reversed_names
 from wanekupo.chips.work import Work
 from wanekupo.common.texts import shown, without_secrets
@@ -158,9 +159,8 @@ def _major(version: str) -> int:
 
 def _ran(words: Sequence[str], files: Sequence[int] = ()) -> str:
     """What espefuse prints. Nobody is asked anything, and no error has its output, in which a key may be."""
-    options = {"stdin": subprocess.DEVNULL, "capture_output": True, "text": True, "errors": "replace"}
     try:
-        done = subprocess.run(list(words), pass_fds=files, timeout=LONGEST, **options)  # type: ignore[call-overload]
+        done = run_command(words, LONGEST, handles=files)
     except subprocess.TimeoutExpired as late:
         said = b"".join(it if isinstance(it, bytes) else b"" for it in (late.stdout, late.stderr))
         failed = EspefuseFailed(f"espefuse took more than {LONGEST} seconds", LOOK)

@@ -8,13 +8,13 @@ from __future__ import annotations
 import contextlib
 import hashlib
 import re
-import subprocess
 import tempfile
 from datetime import datetime, timezone
 from pathlib import Path
 from typing import Any, Callable, Iterator, Mapping, Optional, Sequence
 
 from wanekupo.common.errors import BadKey, BadSettings
+from wanekupo.common.process import run_command
 from wanekupo.seat.keys import library
 from wanekupo.lots.spools import certificates_of, der_of, key_of_certificate, pem_of
 
@@ -224,7 +224,7 @@ def _errors_of(certificate: Any, others: Sequence[Any], trusted: Path, *more: st
             file.write_text("".join(pem_of("CERTIFICATE", der_of(it)) for it in its), encoding="ascii")
             words += ["-untrusted", str(file)] if name == "others" and its else []
         try:
-            done = subprocess.run([*words, str(file)], capture_output=True, text=True, check=False)
+            done = run_command([*words, str(file)])
         except FileNotFoundError:
             raise BadSettings("there is no command openssl", "Install Debian's openssl.") from None
     found = [(int(it[1]), it[2]) for it in ERROR.finditer(done.stderr)]

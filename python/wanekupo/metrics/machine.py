@@ -17,6 +17,7 @@ from typing import Any, Optional
 from wanekupo.common.errors import StationError
 from wanekupo.metrics.exposition import Samples
 from wanekupo.common.moments import moment_of
+from wanekupo.common.process import run_command
 
 # What a start takes beside the bytes of the file, by the size of its pages (docs/reference/program.md).
 SMALL_PAGES, LARGE_PAGES = (1.0, 6_000_000), (1.1, 11_000_000)
@@ -36,7 +37,8 @@ def properties_of(unit: str, *names: str) -> dict[str, str]:
     """What systemd says of a unit; of a moment the seconds since 1970 behind an @."""
     words = ["systemctl", "show", unit, "--timestamp=unix", f"--property={','.join(names)}"]
     try:
-        done = subprocess.run(words, capture_output=True, text=True, check=True, timeout=LONGEST)
+        done = run_command(words, LONGEST)
+        done.check_returncode()
     except (OSError, subprocess.SubprocessError) as error:
         raise StationError(f"systemctl doesn't show the unit {unit}", "Look whether systemd runs here.") from error
     return dict(line.split("=", 1) for line in done.stdout.splitlines() if "=" in line)

@@ -29,14 +29,13 @@ import argparse
 import math
 import os
 import signal
-import subprocess
 import sys
 import time
 from dataclasses import dataclass
 from pathlib import Path
 
 
-from wanekupo.common.process import end_tool
+from wanekupo.common.process import end_tool, run_command, succeeds
 from wanekupo.common.errors import PlantError
 from wanekupo.plant.trial_copy import Backup, copy_files, copy_running, newest_backup
 from wanekupo.common.store_user import (
@@ -181,13 +180,12 @@ def planned_until(args: argparse.Namespace, store: StoreFolder, moment: float) -
 
 
 def service(*words: str) -> bool:
-    return subprocess.run(["systemctl", *words], stdin=subprocess.DEVNULL, check=False).returncode == 0
+    return succeeds("systemctl", *words)
 
 
 def is_healthy(args: argparse.Namespace) -> bool:
     words = ["curl", "-s", "-m", "5", "-o", "/dev/null", "-w", "%{http_code}", "--cacert", str(args.ca), args.health]
-    done = subprocess.run(words, stdin=subprocess.DEVNULL, stdout=subprocess.PIPE, check=False)
-    return done.stdout == b"200"
+    return run_command(words).stdout == "200"
 
 
 def restart(args: argparse.Namespace, store: StoreFolder, wait: int) -> float:

@@ -32,7 +32,6 @@ import os
 import re
 import secrets
 import shlex
-import subprocess
 import sys
 import time
 from dataclasses import dataclass, replace
@@ -40,7 +39,7 @@ from pathlib import Path
 from typing import Optional
 
 
-from wanekupo.common.process import end_tool
+from wanekupo.common.process import end_tool, run_command
 from wanekupo.standby import living
 from wanekupo.standby.half import SETTINGS, Half, StandbyError, read_settings
 from wanekupo.common.token_file import (
@@ -106,10 +105,7 @@ def minute_after(grace: str) -> str:
 def ran(command: str) -> tuple[bool, str]:
     """Whether a command did it, and what it said."""
     try:
-        done = subprocess.run(
-            shlex.split(command), stdin=subprocess.DEVNULL, capture_output=True, text=True, errors="replace",
-            check=False,
-        )  # fmt: skip
+        done = run_command(shlex.split(command))
     except FileNotFoundError as error:
         return False, f"there is no {error.filename}: install it, or say --no-reload where another proxy reads the file"
     except (OSError, ValueError) as error:

@@ -20,12 +20,13 @@ from collections.abc import Callable
 from dataclasses import dataclass, fields
 from datetime import datetime, timedelta, timezone
 from pathlib import Path
-from typing import Any, TextIO
+from typing import TextIO
 
 from wanekupo.common.errors import PlantError
 from wanekupo.common.store_user import UserError, shown
 from wanekupo.common.store_words import clean_words
 from wanekupo.common.files import hold_lock, replace_file
+from wanekupo.common.process import run_command
 
 SETTINGS = Path("/etc/station/standby.toml")
 # What this machine says of itself until it is switched off. Nobody but root writes there.
@@ -107,12 +108,11 @@ def read_settings(file: Path = SETTINGS) -> StandbySettings:
     return StandbySettings(**values)
 
 
-def run(words: list[str], seconds: float = COMMAND_SECONDS, **more: Any) -> subprocess.CompletedProcess[str]:
+def run(words: list[str], seconds: float = COMMAND_SECONDS) -> subprocess.CompletedProcess[str]:
     """A command with what it prints. Where it takes too long it is a failure as any other. It has no terminal of
     root's: what is at the other end of a witness's `ssh` asks nobody for a password."""
     try:
-        form = {"encoding": "utf-8", "errors": "replace", "stdin": subprocess.DEVNULL, "start_new_session": True}
-        return subprocess.run(words, capture_output=True, timeout=seconds, **form, **more)
+        return run_command(words, seconds, is_apart=True)
     except (subprocess.TimeoutExpired, OSError, LookupError) as error:
         return subprocess.CompletedProcess(words, 1, "", str(error))
 

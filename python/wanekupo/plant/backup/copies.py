@@ -18,6 +18,7 @@ from pathlib import Path
 
 from wanekupo.common.errors import PlantError, cause_of
 from wanekupo.common.files import replace_file, sync
+from wanekupo.common.process import succeeds
 
 FILES = ("books.db", "books.db-wal")
 ABOUT = "about.json"
@@ -124,7 +125,7 @@ def look_at(store: str) -> Path:
 def opened_by(program: str, site: str | Path, db: Path) -> bool:
     """Whether the program opens a copy, as which it joins its two files."""
     words = [program, "replay", "--site", str(site), "--db", str(db), "--existing"]
-    return subprocess.run(words, stdin=subprocess.DEVNULL, check=False).returncode == 0
+    return succeeds(*words)
 
 
 def _tried(program: str, site: str, folder: Path, store: str) -> list[str]:

@@ -28,6 +28,7 @@ from wanekupo.plant.backup.copies import BackupError, now, size_of, told_if_full
 from wanekupo.plant.backup.snapshot import KINDS
 from wanekupo.common.store_user import UserError, read_small
 from wanekupo.common.files import hold_lock, replace_file, sync
+from wanekupo.common.process import run_command
 
 NAME = re.compile(r"(\d{4}-\d\d-\d\dT\d{6}Z)(?:\.tar\.age)?")
 FORM = "%Y-%m-%dT%H%M%SZ"
@@ -124,9 +125,7 @@ def copy_off(command: str, path: Path) -> None:
     words = [word.replace("{}", str(path)) for word in shlex.split(command)]
     words += [] if "{}" in command else [str(path)]
     try:
-        done = subprocess.run(
-            words, stdin=subprocess.DEVNULL, capture_output=True, text=True, errors="replace", check=False
-        )  # fmt: skip
+        done = run_command(words)
     except OSError as error:
         raise BackupError(f"{path} is here, and wasn't copied off: {words[0]}: {error.strerror}") from error
     if done.returncode:

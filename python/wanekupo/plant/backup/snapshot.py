@@ -17,6 +17,7 @@ from collections.abc import Callable, Iterator
 from pathlib import Path
 
 from wanekupo.plant.backup.copies import BackupError
+from wanekupo.common.process import run_command
 from wanekupo.common.store_user import STOPS, opened
 
 NAME = "station_backup"
@@ -45,10 +46,7 @@ def called(*words: str) -> subprocess.CompletedProcess[str]:
     quiet = {**os.environ, "LVM_SUPPRESS_FD_WARNINGS": "1", "LC_ALL": "C.UTF-8"}
     try:
         with whole():
-            return subprocess.run(
-                words, stdin=subprocess.DEVNULL, capture_output=True, text=True, errors="replace", check=False,
-                env=quiet,
-            )  # fmt: skip
+            return run_command(words, environment=quiet)
     except OSError as error:
         raise BackupError(f"{words[0]}: {error.strerror}") from error
 

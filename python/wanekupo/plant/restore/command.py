@@ -31,7 +31,6 @@ import json
 import os
 import shutil
 import signal
-import subprocess
 import sys
 from collections import Counter
 from collections.abc import Iterable
@@ -59,6 +58,7 @@ from wanekupo.common.files import replace_file
 from wanekupo.seat.journal import Journal
 from wanekupo.seat.journal_lines import Folders, folders_at
 from wanekupo.common.printing import Progress
+from wanekupo.common.process import run_command
 from wanekupo.seat.replays import restore_requests
 from wanekupo.seat.station import Station
 from wanekupo.common.texts import shown
@@ -85,7 +85,7 @@ def stopped(number: int, _: object) -> None:
 
 
 def stop(unit: str) -> None:
-    done = subprocess.run(["systemctl", "stop", unit], capture_output=True, text=True, check=False)
+    done = run_command(["systemctl", "stop", unit])
     if done.returncode:
         raise RestoreError(f"systemd doesn't stop {unit}: {done.stderr.strip()}")
 
