@@ -21,7 +21,7 @@ from commanding import ran
 
 from wanekupo.cli.main import COMMANDS
 from wanekupo.metrics.exposition import METRICS, Samples
-from wanekupo.metrics.hours import shift_of
+from wanekupo.metrics.hours import shift_hours
 
 DEPLOYED = ROOT / "deploy" / "prometheus"
 LOST_MAC = "240ac4000002"
@@ -262,7 +262,7 @@ class Journals(StationCase):
         self.journals = self.folder / "journals"
         (self.journals / "acme").mkdir(parents=True)
         self.file = self.journals / "acme" / "a1-2026-11-29.journal"
-        now = mock.patch("wanekupo.metrics.journal_counts.now", return_value="2026-12-01T00:00:00Z")
+        now = mock.patch("wanekupo.metrics.journal_counts.now_text", return_value="2026-12-01T00:00:00Z")
         now.start()
         self.addCleanup(now.stop)
 
@@ -346,7 +346,7 @@ class Journals(StationCase):
         """A line of a time to come doesn't keep the later ones from counting."""
         self.add({**ASKED, "at": "2036-01-01T00:00:00Z"}, {**DONE, "at": "2036-01-01T00:00:01Z"})
         self.assertEqual(self.metrics(), ([0, 0, None], ""))
-        with mock.patch("wanekupo.metrics.journal_counts.now", return_value="2036-01-02T00:00:00Z"):
+        with mock.patch("wanekupo.metrics.journal_counts.now_text", return_value="2036-01-02T00:00:00Z"):
             self.add(*({**line, "at": "2036-01-01T12:00:00Z"} for line in (ASKED, STOPPED)))
             self.assertEqual(self.metrics(), ([0, 1, None], ""))
 
@@ -483,7 +483,7 @@ class Form(unittest.TestCase):
             ("Fri 22:00-06:00", "2026-11-27T05:59", False),
             ("Sun 22:00-06:00", "2026-11-30T03:00", True),
         ):
-            self.assertEqual(shift_of(hours).has(datetime.fromisoformat(moment)), is_in, (hours, moment))
+            self.assertEqual(shift_hours(hours).has(datetime.fromisoformat(moment)), is_in, (hours, moment))
         for hours in ("Fri 6-14", "Foo 06:00-14:00", "Mon-Fri 06:00-24:30", "", "Mon,Tue 06:00-14:00"):
             status, _, told = ran("metrics", "--shift", hours)
             self.assertEqual(status, 2)

@@ -13,7 +13,7 @@ from wanekupo.plant.site import apply as applying
 from wanekupo.plant.site.apply import Stopped, apply
 from wanekupo.plant.site.plan import PLACED, PREPARED, STOPPING, GrowthPlan, SeatWish, keep_plan, read_plan
 from wanekupo.common.store_user import UserError
-from wanekupo.common.token_file import Outer, TokenSeat, TokenError, Tokens, put, text_of
+from wanekupo.common.token_file import Outer, TokenSeat, TokenError, Tokens, put, tokens_text
 
 OLD, NEW = "customer = [] # old\r\n", "customer = [] # new\r\n"
 PREFIX = "wanekupo_"
@@ -294,7 +294,7 @@ TEXT = PREFIX + "22" * 32
 
 
 def with_tokens(place, *outers, seats=(WITHIN, TokenSeat("health", "acme", "33" * 32))):
-    put(place.tokens, text_of(Tokens({it.seat: it for it in seats}, list(outers))))
+    put(place.tokens, tokens_text(Tokens({it.seat: it for it in seats}, list(outers))))
 
 
 def outer(text=TEXT, **more):

@@ -67,7 +67,7 @@ def kept(monkeypatch, calls, **fails):
     monkeypatch.setattr(backup, "tidy", calls.noted("tidy", ["old"]))
     monkeypatch.setattr(backup, "copy_off", calls.noted("copy_off"))
     monkeypatch.setattr(backup, "note", calls.noted("note"))
-    monkeypatch.setattr(backup, "bytes_of", lambda path: 10)
+    monkeypatch.setattr(backup, "backup_bytes", lambda path: 10)
 
 
 def test_keep(tmp_path, monkeypatch, calls, capsys):
@@ -114,7 +114,7 @@ def run_into(tmp_path, monkeypatch, calls, stays=None, **more):
             raise stays
 
     monkeypatch.setattr(backup, "new_name", lambda folder: NAME)
-    monkeypatch.setattr(backup, "snapshot", snapshot)
+    monkeypatch.setattr(backup, "hold_snapshot", snapshot)
     monkeypatch.setattr(backup, "copy", lambda args, db, folder: calls.noted("copy")(db, folder))
     monkeypatch.setattr(backup, "keep", lambda args, name: calls.noted("keep")(name))
     monkeypatch.setattr(backup, "remove_begun", lambda folder: calls.noted("remove", [])(folder) or [])
@@ -160,7 +160,7 @@ def test_what_was_left_is_told(tmp_path, monkeypatch, capsys):
     told = "backup: an earlier run left .new-1, which is removed now\n"
     assert os.listdir(tmp_path) == [] and capsys.readouterr().err == told
     (tmp_path / ".new-2").mkdir()
-    backup.clear(args_of(tmp_path))
+    backup.clear_begun(args_of(tmp_path))
     assert os.listdir(tmp_path) == []
 
 
@@ -251,7 +251,7 @@ def root(tmp_path, monkeypatch, calls):
     monkeypatch.setattr(backup, "StoreFolder", lambda db: {"/db/books.db": store}[db])
     monkeypatch.setattr(backup, "tested_user", lambda it, place: calls.append(("tested", str(place))) or user)
     monkeypatch.setattr(backup, "sole_backup", held)
-    monkeypatch.setattr(backup, "snapshot", snapshot)
+    monkeypatch.setattr(backup, "hold_snapshot", snapshot)
     monkeypatch.setattr(backup, "copy_for_trial", calls.noted("trial"))
     opened = calls.noted("opened")
     monkeypatch.setattr(backup, "opened_shared_lock", lambda path: opened(path.name) or os.open(tmp_path, os.O_RDONLY))
@@ -319,7 +319,7 @@ def ran(monkeypatch, calls, args):
     for name in ("run_snapshot", "copy"):
         monkeypatch.setattr(backup, name, calls.noted(name))
     monkeypatch.setattr(backup, "run_into", lambda args, by: by(lambda: calls.append(("run_into",))))
-    backup.run(args)
+    backup.make_backup(args)
     return heads(calls)
 
 
@@ -462,7 +462,7 @@ def test_a_reader_who_has_enough_is_no_fault(monkeypatch):
 
 def test_a_signal_is_an_error():
     with pytest.raises(BackupError, match="stopped by signal 15"):
-        backup.ended(15, None)
+        backup.stop_run(15, None)
 
 
 # ---- words
@@ -470,7 +470,7 @@ def test_a_signal_is_an_error():
 
 def parsed(monkeypatch, text):
     monkeypatch.setattr(sys, "argv", ["backup", *text.split()])
-    return backup.checked(backup.words())
+    return backup.checked_words(backup.backup_parser())
 
 
 @pytest.mark.parametrize("text", [
@@ -525,13 +525,13 @@ def test_main(monkeypatch, calls, capsys, text, missing, error, status, is_noted
     masks, signals = [], {}
     calls.fails = {"run": error} if error else {}
     monkeypatch.setattr(sys, "argv", ["backup", *text.split()])
-    monkeypatch.setattr(backup, "run", calls.noted("run"))
+    monkeypatch.setattr(backup, "make_backup", calls.noted("run"))
     monkeypatch.setattr(backup, "note_failure", calls.noted("noted"))
     monkeypatch.setattr(backup.shutil, "which", lambda name: None if name == missing else f"/bin/{name}")
     monkeypatch.setattr(backup.os, "umask", masks.append)
     monkeypatch.setattr(backup.signal, "signal", lambda number, handler: signals.update({number: handler}))
     assert backup.main() == status and masks == [0o077]
-    assert signals == {number: backup.ended for number in (signal.SIGTERM, signal.SIGINT, signal.SIGHUP)}
+    assert signals == {number: backup.stop_run for number in (signal.SIGTERM, signal.SIGINT, signal.SIGHUP)}
     assert ("noted" in heads(calls)) == is_noted and (status == 0 or "backup: " in capsys.readouterr().err)
     assert ("run" in heads(calls)) == (not missing or "--clean" in text)
 

@@ -238,8 +238,8 @@ def test_the_room_of_an_encryption_is_told(tmp_path, age, monkeypatch):
 
 
 def test_bytes_of(tmp_path):
-    assert backup_kept.bytes_of(backup(tmp_path, NAME)) == 10
-    assert backup_kept.bytes_of(put(tmp_path / "x.tar.age", "12345")) == 5
+    assert backup_kept.backup_bytes(backup(tmp_path, NAME)) == 10
+    assert backup_kept.backup_bytes(put(tmp_path / "x.tar.age", "12345")) == 5
 
 
 # ---- the way off
@@ -291,7 +291,7 @@ def noted(folder):
 
 
 def test_note(tmp_path, monkeypatch):
-    monkeypatch.setattr(backup_kept, "now", lambda: "2026-01-02T03:04:05Z")
+    monkeypatch.setattr(backup_kept, "now_text", lambda: "2026-01-02T03:04:05Z")
     note(tmp_path, True, 10, "made", ("lvm", "2G"))
     assert noted(tmp_path) == {"at": "2026-01-02T03:04:05Z", "ok": True, "bytes": 10, "said": "made", "snapshot": "lvm",
                                "snapshot_size": "2G"}  # fmt: skip

@@ -27,7 +27,7 @@ def text_of(**changes):
 
 
 def args_of(**more):
-    return argparse.Namespace(**{**vars(restart.words().parse_args([])), **more})
+    return argparse.Namespace(**{**vars(restart.restart_parser().parse_args([])), **more})
 
 
 def test_no_metrics(tmp_path, monkeypatch):
@@ -203,7 +203,7 @@ def ran(monkeypatch, is_active=True, reasons=("why",), needs=1, **more):
     monkeypatch.setattr(restart, "planned_until", lambda args, store, moment: calls.append(("until", moment)))
     monkeypatch.setattr(restart, "restart", lambda args, store, wait: calls.append(("restart", wait)) or 11.6)
     monkeypatch.setattr(restart.time, "time", lambda: NOW)
-    restart.run(args_of(**more))
+    restart.run_restart(args_of(**more))
     return calls
 
 
@@ -239,7 +239,7 @@ def test_main(monkeypatch, capsys, error, status):
         if error:
             raise error
 
-    monkeypatch.setattr(restart, "run", run)
+    monkeypatch.setattr(restart, "run_restart", run)
     monkeypatch.setattr(restart.os, "umask", lambda mask: None)
     monkeypatch.setattr(restart.signal, "signal", lambda *_: None)
     monkeypatch.setattr(sys, "argv", ["restart", "--check"])
@@ -249,10 +249,10 @@ def test_main(monkeypatch, capsys, error, status):
 @pytest.mark.parametrize("text", ["--check --now", "--log x", "--chec", "x"])
 def test_wrong_words(capsys, text):
     with pytest.raises(SystemExit) as error:
-        restart.words().parse_args(text.split())
+        restart.restart_parser().parse_args(text.split())
     assert error.value.code == 2
 
 
 def test_a_signal_is_an_error():
     with pytest.raises(restart.NoRestartError, match="stopped by a signal"):
-        restart.stopped(15, None)
+        restart.stop_restart(15, None)

@@ -8,7 +8,7 @@ import pytest
 from scripts import script
 from wanekupo.plant.site.apply import Stopped
 from wanekupo.plant.site.plan import PLACED, PREPARED, GrowthPlan, SeatWish, keep_plan, read_plan
-from wanekupo.common.token_file import TokenSeat, TokenError, Tokens, put, text_of
+from wanekupo.common.token_file import TokenSeat, TokenError, Tokens, put, tokens_text
 
 site = script("site")
 ONE, TWO = "%064x" % 1, "%064x" % 2
@@ -45,7 +45,7 @@ class FakePlace:
         if "seat" in words and "x9" not in words:
             seats = dict(site.known_seats(self).seats)
             seats[words[3]] = TokenSeat(words[3], words[5], "hello")
-            put(self.tokens, text_of(Tokens(seats)))
+            put(self.tokens, tokens_text(Tokens(seats)))
         return subprocess.CompletedProcess(words, int("x9" in words), "", "why\n")
 
 
@@ -101,7 +101,7 @@ def test_pool_of(first, count, is_one):
 
 def test_known_seats(place):
     assert site.known_seats(place).seats == {}
-    put(place.tokens, text_of(Tokens({"a1": TokenSeat("a1", "acme", "hello")})))
+    put(place.tokens, tokens_text(Tokens({"a1": TokenSeat("a1", "acme", "hello")})))
     assert site.known_seats(place).seats == {"a1": TokenSeat("a1", "acme", "hello")}
 
 
@@ -118,7 +118,7 @@ def test_for_a_trial_no_token_is_made(place):
 
 
 def test_a_seat_of_another_customer_or_that_is_refused(place):
-    put(place.tokens, text_of(Tokens({"a2": TokenSeat("a2", "bolt", "hello")})))
+    put(place.tokens, tokens_text(Tokens({"a2": TokenSeat("a2", "bolt", "hello")})))
     for is_trial in (True, False):
         with pytest.raises(TokenError, match="the seat a2 is bolt's"):
             site.seat_of(place, "acme", "a2", is_trial)

@@ -165,7 +165,7 @@ def test_the_handler_itself_does_not_wait(monkeypatch):
 
 def say(monkeypatch, own, name="there", **more):
     put_in(monkeypatch, other, own, **more)
-    return other.say(name)
+    return other.give_operators_word(name)
 
 
 @pytest.mark.parametrize("now, name, told", [
@@ -204,7 +204,7 @@ def test_an_interrupted_word_is_taken_back(monkeypatch):
     put_in(monkeypatch, other, own)
     monkeypatch.setattr(other, "waited_for", lambda *_: (_ for _ in ()).throw(KeyboardInterrupt))
     with pytest.raises(KeyboardInterrupt):
-        other.say("there")
+        other.give_operators_word("there")
     assert own.calls == ["give_word", "take_word"]
 
 
@@ -310,13 +310,13 @@ def test_a_command_that_there_is_not(monkeypatch, capsys):
 def test_the_address_is_taken_again_where_two_took_it_at_once(monkeypatch):
     own = FakeHalf(PRIMARY)
     put_in(monkeypatch, other, own)
-    monkeypatch.setattr(other, "run", lambda words: half.subprocess.CompletedProcess(words, 1, "", ""))
-    assert other.say("there") == 0 and own.calls[-2] == "take_address"
+    monkeypatch.setattr(other, "run_bounded", lambda words: half.subprocess.CompletedProcess(words, 1, "", ""))
+    assert other.give_operators_word("there") == 0 and own.calls[-2] == "take_address"
 
 
 def test_the_name_is_the_words(monkeypatch):
     monkeypatch.setattr(half.os, "geteuid", lambda: 0)
-    monkeypatch.setattr(other, "say", lambda name: 7 if name == "there" else 0)
+    monkeypatch.setattr(other, "give_operators_word", lambda name: 7 if name == "there" else 0)
     assert other.main(["there"]) == 7
     with pytest.raises(SystemExit):
         other.main([])

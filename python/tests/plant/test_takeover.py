@@ -68,7 +68,7 @@ def put_in(monkeypatch):
         monkeypatch.setattr(takeover, "Half", own)
         monkeypatch.setattr(takeover, "read_settings", lambda: own.settings)
         monkeypatch.setattr(takeover, "done", lambda words: own.calls.append(" ".join(words)) or noted(words[1])())
-        monkeypatch.setattr(takeover, "tell", lambda *words: None)
+        monkeypatch.setattr(takeover, "print_told", lambda *words: None)
         monkeypatch.setattr(takeover, "alone_since", lambda received: own.calls.append(("since", received)) or SINCE)
         for name in ("forget_alone", "give_word", "take_word"):
             monkeypatch.setattr(takeover, name, noted(name))
@@ -229,7 +229,7 @@ def test_what_has_changed_meanwhile_is_looked_at_anew(put_in, before, after):
 def test_served(put_in, is_there):
     """The volume, then the server, then the address: nobody asks for the store before it is there."""
     own = put_in(FakeHalf(BOTH, is_there=is_there))
-    assert takeover.served(own) == 0
+    assert takeover.serve_here(own) == 0
     assert own.calls == [*([] if is_there else ["mount"]), ("start", 900), ("take_address", 60), "here", "leave"]
 
 

@@ -10,7 +10,7 @@ import pytest
 from wanekupo.common import token_file
 from wanekupo.standby.half import StandbySettings
 from scripts import script
-from wanekupo.common.token_file import Outer, TokenSeat, TokenError, Tokens, put, read, text_of, tokens_of
+from wanekupo.common.token_file import Outer, TokenSeat, TokenError, Tokens, put, read, tokens_text, tokens_of
 
 token = script("token")
 NOW = "2026-06-15T12:00"
@@ -48,13 +48,13 @@ def file(tmp_path):
 
 
 def words(file, *text):
-    return token.parser().parse_args(["--file", str(file), "--no-reload", *text])
+    return token.token_parser().parse_args(["--file", str(file), "--no-reload", *text])
 
 
 def done(file, *text):
     """What a command makes of the file, and what it prints."""
     args = words(file, *text)
-    token.run(args)
+    token.run_token(args)
     return tokens_of(read(file), file)
 
 
@@ -85,9 +85,9 @@ def test_forms(form, text, is_one):
 def test_where_nginx_refuses_the_file_of_before_is_back(file, monkeypatch, before):
     if before:
         put(file, before)
-    monkeypatch.setattr(token, "ran", lambda command: (False, "emerg"))
-    monkeypatch.setattr(token, "told", lambda *_: pytest.fail("what fails its test isn't read"))
-    args = token.parser().parse_args(["--file", str(file), "list"])
+    monkeypatch.setattr(token, "test_nginx", lambda command: (False, "emerg"))
+    monkeypatch.setattr(token, "reload_nginx", lambda *_: pytest.fail("what fails its test isn't read"))
+    args = token.token_parser().parse_args(["--file", str(file), "list"])
     with pytest.raises(TokenError, match="nothing was changed:\nemerg") as error:
         token.commit(args, seats(), before)
     assert error.value.status == 4 and (file.read_text() if before else os.listdir(file.parent)) == (before or [])
@@ -96,10 +96,10 @@ def test_where_nginx_refuses_the_file_of_before_is_back(file, monkeypatch, befor
 @pytest.mark.parametrize("wrong, status", [("", None), ("no worker", 5)])
 def test_commit(file, monkeypatch, wrong, status):
     calls = []
-    monkeypatch.setattr(token, "ran", lambda command: calls.append((command, file.exists())) or (True, ""))
-    monkeypatch.setattr(token, "told", lambda command, pid: calls.append((command, pid)) or wrong)
-    late = token.commit(token.parser().parse_args(["--file", str(file), "list"]), seats(), None)
-    assert (late and late.status) == status and read(file) == text_of(seats())
+    monkeypatch.setattr(token, "test_nginx", lambda command: calls.append((command, file.exists())) or (True, ""))
+    monkeypatch.setattr(token, "reload_nginx", lambda command, pid: calls.append((command, pid)) or wrong)
+    late = token.commit(token.token_parser().parse_args(["--file", str(file), "list"]), seats(), None)
+    assert (late and late.status) == status and read(file) == tokens_text(seats())
     assert calls == [("nginx -t -q", True), ("nginx -s reload", "/run/nginx.pid")]
     assert token.commit(words(file, "list"), seats(), None) is None and len(calls) == 2, "--no-reload"
 
@@ -113,44 +113,44 @@ def test_whatever_fails_behind_the_write_is_no_refusal(file, monkeypatch, fails,
     def fail(*_):
         raise error
 
-    monkeypatch.setattr(token, "ran", lambda command: (fails != "put", "emerg"))
-    monkeypatch.setattr(token, "told", lambda *_: "")
+    monkeypatch.setattr(token, "test_nginx", lambda command: (fails != "put", "emerg"))
+    monkeypatch.setattr(token, "reload_nginx", lambda *_: "")
     real, calls = token.put, []
     monkeypatch.setattr(token, "put", lambda *it: fail() if fails == "put" and calls else calls.append(real(*it)))
     if fails != "put":
         monkeypatch.setattr(token, fails, fail)
-    late = token.commit(token.parser().parse_args(["--file", str(file), "list"]), seats(), "old")
-    assert late.status == 5 and "why" in str(late) and read(file) == text_of(seats())
+    late = token.commit(token.token_parser().parse_args(["--file", str(file), "list"]), seats(), "old")
+    assert late.status == 5 and "why" in str(late) and read(file) == tokens_text(seats())
 
 
 @pytest.mark.parametrize("command", ["nginx 'x", "/nowhere/nginx -t"])
 def test_a_command_that_can_not_be_begun(command):
-    assert token.ran(command)[0] is False
+    assert token.test_nginx(command)[0] is False
 
 
 def test_a_second_revoke_has_nginx_read_the_file_again(file, monkeypatch, capsys):
     with_outers(file, outer(1, text="", ended=NOW), outer(2, text="", ended=NOW))
     calls = []
-    monkeypatch.setattr(token, "ran", lambda command: calls.append(command) or (True, ""))
-    monkeypatch.setattr(token, "told", lambda command, pid: calls.append(command) or "")
+    monkeypatch.setattr(token, "test_nginx", lambda command: calls.append(command) or (True, ""))
+    monkeypatch.setattr(token, "reload_nginx", lambda command, pid: calls.append(command) or "")
     for name in ("a1:1", "a1"):
-        token.run(token.parser().parse_args(["--file", str(file), "revoke", name]))
+        token.run_token(token.token_parser().parse_args(["--file", str(file), "revoke", name]))
         assert calls[-2:] == ["nginx -t -q", "nginx -s reload"] and "had ended before" in capsys.readouterr().err
     with pytest.raises(TokenError, match="no outer token"):
-        token.run(words(file, "revoke", "a1:3"))
+        token.run_token(words(file, "revoke", "a1:3"))
 
 
 def test_where_nothing_is_printed_a_change_is_none_that_was_refused(file, monkeypatch):
     def fail(*_, **__):
         raise OSError(32, "nobody reads")
 
-    put(file, text_of(seats()))
+    put(file, tokens_text(seats()))
     monkeypatch.setattr("builtins.print", fail)
     with pytest.raises(TokenError, match="nobody reads") as error:
-        token.run(words(file, "add", "a1"))
+        token.run_token(words(file, "add", "a1"))
     assert error.value.status == 7
     with pytest.raises(OSError, match="nobody reads"):
-        token.run(words(file, "list"))
+        token.run_token(words(file, "list"))
 
 
 # ---- seats
@@ -183,12 +183,12 @@ def test_two_seats_have_two_tokens(file):
 ])  # fmt: skip
 def test_refused_words_change_nothing(file, text):
     with pytest.raises(TokenError) as error:
-        token.run(words(file, *text))
+        token.run_token(words(file, *text))
     assert error.value.status == 1 and not file.exists()
 
 
 def test_another_server(file, capsys):
-    put(file, text_of(seats()))
+    put(file, tokens_text(seats()))
     assert done(file, "seat", "a1", "--server", "127.0.0.1:881").seats["a1"] == TokenSeat("a1", "acme", "abc",
         "127.0.0.1:881")
 
@@ -266,7 +266,7 @@ def test_titles():
     (["--look", "--certificate", "CN=pc7"], {"looks": True, "subject": "CN=pc7", "text": ""}),
 ])  # fmt: skip
 def test_add(file, capsys, more, changes):
-    put(file, text_of(seats()))
+    put(file, tokens_text(seats()))
     found = done(file, "add", "a1", *more)
     (made,) = found.outers
     out, err = capsys.readouterr()
@@ -285,16 +285,16 @@ def test_add(file, capsys, more, changes):
     ["--holder", "é"],
 ])  # fmt: skip
 def test_add_refuses(file, more):
-    put(file, text_of(seats()))
+    put(file, tokens_text(seats()))
     with pytest.raises(TokenError):
         done(file, "add", "a1", *more)
-    assert read(file) == text_of(seats())
+    assert read(file) == tokens_text(seats())
 
 
 def test_a_certificate_has_one_seat(file):
     tokens = seats()
     tokens.outers = [outer(1, text="", subject="CN=pc7")]
-    put(file, text_of(tokens))
+    put(file, tokens_text(tokens))
     with pytest.raises(TokenError, match="has a seat already"):
         done(file, "add", "b1", "--certificate", "CN=pc7")
     assert done(file, "add", "b1", "--certificate", "CN=pc").outers[1].subject == "CN=pc"
@@ -303,7 +303,7 @@ def test_a_certificate_has_one_seat(file):
 
 
 def test_a_number_and_a_name_are_never_given_again(file):
-    put(file, text_of(seats()))
+    put(file, tokens_text(seats()))
     for text in (["add", "a1"], ["add", "b1"], ["add", "a1"], ["revoke", "a1"], ["add", "a1"]):
         found = done(file, *text)
     assert [(it.token, it.number) for it in found.outers] == [("a1:1", 1), ("b1:1", 2), ("a1:2", 3), ("a1:3", 4)]
@@ -314,7 +314,7 @@ def with_outers(file, *outers):
     a1, b1 = TokenSeat("a1", "acme", "abc", given=9), TokenSeat("b1", "bolt", "hello", given=9)
     tokens = seats(a1, TokenSeat("a", "acme", "x"), b1)
     tokens.outers = list(outers)
-    put(file, text_of(tokens))
+    put(file, tokens_text(tokens))
 
 
 @pytest.mark.parametrize("name, ended", [("a1", [1, 2]), ("a1:1", [1]), ("a1:2", [2]), ("b1", [4])])
@@ -356,13 +356,13 @@ def test_list(file, capsys):
 
 
 def test_the_seat_of_health_needs_no_outer_token(file, capsys):
-    put(file, text_of(seats(TokenSeat("health", "acme", "x"))))
+    put(file, tokens_text(seats(TokenSeat("health", "acme", "x"))))
     done(file, "list")
     assert capsys.readouterr().err == ""
 
 
 def test_inner(file, tmp_path, capsys):
-    put(file, text_of(seats()))
+    put(file, tokens_text(seats()))
     done(file, "inner", "a1", "--to", str(tmp_path / "a1.token"))
     made = tmp_path / "a1.token"
     assert made.read_text() == "abc\n" and stat.S_IMODE(made.stat().st_mode) == 0o600
@@ -385,7 +385,7 @@ def test_inner(file, tmp_path, capsys):
 ])  # fmt: skip
 def test_check(file, tmp_path, capsys, made, told):
     (tmp_path / "site.toml").write_text(SITE)
-    put(file, text_of(seats(*made)))
+    put(file, tokens_text(seats(*made)))
     if told:
         with pytest.raises(TokenError, match=told) as error:
             done(file, "check", "--site", str(tmp_path / "site.toml"))
@@ -396,10 +396,10 @@ def test_check(file, tmp_path, capsys, made, told):
 
 
 def test_write_makes_a_changed_file_anew(file):
-    put(file, text_of(seats()) + "# mine\n")
+    put(file, tokens_text(seats()) + "# mine\n")
     for text in (["list"], ["add", "a1"]):
         with pytest.raises(TokenError, match="changed by hand"):
-            token.run(words(file, *text))
+            token.run_token(words(file, *text))
     assert done(file, "write") == seats()
 
 
@@ -407,7 +407,7 @@ def test_write_makes_a_changed_file_anew(file):
 
 
 def test_a_token_is_in_its_file_and_on_no_screen(file, tmp_path, capsys):
-    put(file, text_of(seats()))
+    put(file, tokens_text(seats()))
     made = done(file, "add", "a1", "--to", str(tmp_path / "a1.token")).outers[0]
     out, err = capsys.readouterr()
     assert (tmp_path / "a1.token").read_text() == made.text + "\n" and made.text not in out + err
@@ -415,44 +415,45 @@ def test_a_token_is_in_its_file_and_on_no_screen(file, tmp_path, capsys):
 
 
 def test_a_token_that_nginx_refuses_is_in_no_file(file, tmp_path, monkeypatch, capsys):
-    put(file, text_of(seats()))
-    monkeypatch.setattr(token, "ran", lambda command: (False, "emerg"))
-    args = token.parser().parse_args(["--file", str(file), "add", "a1", "--to", str(tmp_path / "a1.token")])
+    put(file, tokens_text(seats()))
+    monkeypatch.setattr(token, "test_nginx", lambda command: (False, "emerg"))
+    args = token.token_parser().parse_args(["--file", str(file), "add", "a1", "--to", str(tmp_path / "a1.token")])
     with pytest.raises(TokenError) as error:
-        token.run(args)
-    assert error.value.status == 4 and not (tmp_path / "a1.token").exists() and read(file) == text_of(seats())
+        token.run_token(args)
+    assert error.value.status == 4 and not (tmp_path / "a1.token").exists() and read(file) == tokens_text(seats())
     assert capsys.readouterr().out == ""
 
 
 def test_a_token_stays_where_nginx_may_go_on_as_before(file, tmp_path, monkeypatch, capsys):
-    put(file, text_of(seats()))
-    monkeypatch.setattr(token, "ran", lambda command: (True, ""))
-    monkeypatch.setattr(token, "told", lambda *_: "no worker")
-    args = token.parser().parse_args(["--file", str(file), "add", "a1", "--to", str(tmp_path / "a1.token")])
+    put(file, tokens_text(seats()))
+    monkeypatch.setattr(token, "test_nginx", lambda command: (True, ""))
+    monkeypatch.setattr(token, "reload_nginx", lambda *_: "no worker")
+    args = token.token_parser().parse_args(["--file", str(file), "add", "a1", "--to", str(tmp_path / "a1.token")])
     with pytest.raises(TokenError) as error:
-        token.run(args)
+        token.run_token(args)
     assert error.value.status == 5 and (tmp_path / "a1.token").exists() and len(tokens_of(read(file), file).outers) == 1
 
 
 def test_where_a_token_can_have_no_file_none_is_made(file, tmp_path):
-    put(file, text_of(seats()))
+    put(file, tokens_text(seats()))
     (tmp_path / "a1.token").write_text("mine")
     with pytest.raises(FileExistsError):
         done(file, "add", "a1", "--to", str(tmp_path / "a1.token"))
-    assert (tmp_path / "a1.token").read_text() == "mine" and read(file) == text_of(seats())
+    assert (tmp_path / "a1.token").read_text() == "mine" and read(file) == tokens_text(seats())
 
 
 def test_one_run_at_a_time(file):
-    put(file, text_of(seats()))
+    put(file, tokens_text(seats()))
     with token.alone(file, 0), pytest.raises(TokenError) as error:
-        token.run(token.parser().parse_args(["--file", str(file), "--no-reload", "--wait", "0", "add", "a1"]))
-    assert error.value.status == 3 and read(file) == text_of(seats())
+        words = ["--file", str(file), "--no-reload", "--wait", "0", "add", "a1"]
+        token.run_token(token.token_parser().parse_args(words))
+    assert error.value.status == 3 and read(file) == tokens_text(seats())
 
 
 def test_a_look_changes_no_file(file, monkeypatch):
-    put(file, text_of(seats()))
+    put(file, tokens_text(seats()))
     monkeypatch.setattr(token, "commit", lambda *_: pytest.fail("nothing is changed"))
-    token.run(words(file, "list"))
+    token.run_token(words(file, "list"))
 
 
 @pytest.mark.parametrize("error, status, told", [
@@ -466,7 +467,7 @@ def test_main(monkeypatch, capsys, error, status, told):
         if error:
             raise error
 
-    monkeypatch.setattr(token, "run", run)
+    monkeypatch.setattr(token, "run_token", run)
     monkeypatch.setattr(sys, "argv", ["token", "list"])
     assert token.main() == status and told in capsys.readouterr().err
 
@@ -475,7 +476,7 @@ def test_main(monkeypatch, capsys, error, status, told):
     "add a1 --untill 2026-12-24"])
 def test_wrong_words(text, capsys):
     with pytest.raises(SystemExit) as error:
-        token.parser().parse_args(text.split())
+        token.token_parser().parse_args(text.split())
     assert error.value.code == 2
 
 
@@ -495,10 +496,10 @@ def test_one_of_two_machines(file, tmp_path, monkeypatch, capsys, is_mounted, le
     monkeypatch.setattr(token.living, "leave", leave)
     missed = token.left_to_the_other(file, seats())
     assert (missed and missed.status) == status and told in capsys.readouterr().err
-    put(file, text_of(seats()))
+    put(file, tokens_text(seats()))
     monkeypatch.setattr(token, "commit", lambda *_: TokenError(5, "no worker"))
     with pytest.raises(TokenError, match="no worker" + ("\n.*frozen" if left else "")) as error:
-        token.run(words(file, "add", "a1"))
+        token.run_token(words(file, "add", "a1"))
     assert error.value.status == 5
 
 

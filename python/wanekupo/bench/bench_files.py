@@ -24,6 +24,7 @@ from typing import Any, Iterator, Mapping, Optional
 from wanekupo.bench.board import FAILED, PASSED, Before, Failure, ShiftCounts, Socket, state_of
 from wanekupo.bench.endings import ENDINGS, NO_LABEL, Ended
 from wanekupo.common.errors import BadStateFile
+from wanekupo.common.moments import now_text
 from wanekupo.common.files import locked, opened_lock, opened_own, removed_folder
 from wanekupo.common.files import replace_file, sync, tested_folder
 from wanekupo.common.texts import compact_json
@@ -34,10 +35,6 @@ CHIP = re.compile("[0-9a-f]{12}")
 
 # Why a chip isn't at its first stay that another bench began; and how many that failed are known, the last ones.
 ELSEWHERE, MOST_BEFORE = "elsewhere", 1000
-
-
-def now_text() -> str:
-    return time.strftime("%Y-%m-%dT%H:%M:%SZ", time.gmtime())
 
 
 class BenchFiles:

@@ -10,7 +10,7 @@ from __future__ import annotations
 from pathlib import Path
 from typing import Any, Callable, Mapping, Optional, Protocol, Sequence, TypeVar
 
-from wanekupo.chips.chip import shows
+from wanekupo.chips.chip import shows_work
 from wanekupo.bench.endings import REFUSALS, Ended, ended_by
 from wanekupo.common.errors import Refused, StationError
 from wanekupo.chips.espefuse import KeyFile, wishes_of
@@ -54,7 +54,7 @@ def _shown(names: Sequence[str]) -> str:
     return ", ".join(names[:SHOWN_NAMES]) + (" .." if len(names) > SHOWN_NAMES else "")
 
 
-def steps_of(recipe: Recipe) -> list[str]:
+def life_steps(recipe: Recipe) -> list[str]:
     """The steps of a chip's life in their order, of which a chip may pass over those that it doesn't need."""
     keys = [it.command.name for it in recipe.wishes if it.command]
     burning = [f"{it} {batch}" for batch in (1, 2) for it in ("burn", "read back")] if recipe.wishes else []
@@ -245,7 +245,7 @@ class Life:
             blocks = self.part.read()
             if blocks.chip != self.chip:
                 raise Ended("other_chip")
-            if shows(blocks, work):
+            if shows_work(blocks, work):
                 break
         verdict = self._ask(Station.read_back, blocks)
         if verdict.outcome not in (*OUTCOMES, "match"):

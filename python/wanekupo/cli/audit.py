@@ -20,7 +20,7 @@ from wanekupo.seat.settings import Settings
 from wanekupo.common.errors import BadSettings, NoPeriod
 from wanekupo.seat.journal_lines import add_folders, named_folders
 from wanekupo.common.moments import tested_period, text_of
-from wanekupo.common.printing import Formulas, say
+from wanekupo.common.printing import Formulas, print_shown
 from wanekupo.cli.shift import add_period
 from wanekupo.common.signing import add_signer, digest_of_file, signer_of
 
@@ -91,8 +91,8 @@ def _audit(_: Settings, args: argparse.Namespace) -> int:
         table = found_table(audit)
         Formulas().warn_of(table.columns, table.texts())
         write(Path(args.csv), table.as_csv())
-    say(as_text(audit))
-    say(behind)
+    print_shown(as_text(audit))
+    print_shown(behind)
     if not audit.found and not audit.entries and not audit.held_lines:
         raise NoPeriod(*_nothing_of(period, journals))
     return FOUND if audit.found else DONE

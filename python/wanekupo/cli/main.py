@@ -79,7 +79,7 @@ EXAMPLES = {
 }
 
 COMMANDS = [
-    Command("run", "run a recipe: chip after chip, green or red", bench.add_arguments, bench.main),
+    Command("run", "run a recipe: chip after chip, green or red", bench.add_bench_words, bench.main),
     *looking.COMMANDS,
     *asking.COMMANDS,
     *reports.COMMANDS,
@@ -122,7 +122,7 @@ def _common(is_told: bool) -> argparse.ArgumentParser:
     return common
 
 
-def parser() -> argparse.ArgumentParser:
+def client_parser() -> argparse.ArgumentParser:
     made = argparse.ArgumentParser(
         prog="wanekupo", description=SAID, epilog=ENDS, parents=[_common(True)], allow_abbrev=False
     )
@@ -143,7 +143,7 @@ def _epilog(name: str) -> str:
     return f"Example: wanekupo {EXAMPLES[name]}. The settings, as --url and --token, are those of: wanekupo --help."
 
 
-def status_of(error: BaseException) -> int:
+def exit_status(error: BaseException) -> int:
     if isinstance(error, OutOfStep):
         return STOPPED
     if isinstance(error, Refused):
@@ -154,7 +154,7 @@ def status_of(error: BaseException) -> int:
 def main(words: Optional[Sequence[str]] = None) -> int:
     if isinstance(sys.stdout, io.TextIOWrapper):
         sys.stdout.reconfigure(errors="backslashreplace")  # a name with letters that the terminal hasn't is no fault
-    args = parser().parse_args(words)
+    args = client_parser().parse_args(words)
     if args.command is None:
         names = ", ".join(row.name for row in COMMANDS)
         warn(f"No command is named. There are {names}: wanekupo --help says what each does.")
@@ -173,4 +173,4 @@ def main(words: Optional[Sequence[str]] = None) -> int:
         return INTERRUPTED
     except Exception as error:
         warn(sentence_of(error))
-        return status_of(error)
+        return exit_status(error)

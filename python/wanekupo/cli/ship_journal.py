@@ -14,7 +14,7 @@ import secrets
 import subprocess
 from pathlib import Path
 
-from wanekupo.seat.command import Command, words
+from wanekupo.seat.command import Command, required_words
 from wanekupo.seat.settings import Settings
 from wanekupo.common.errors import BadSettings, StationError
 from wanekupo.common.files import opened_own, replace_file, tested_folder
@@ -88,7 +88,7 @@ COMMANDS = [
     Command(
         "ship-journal",
         "bring the journals to another machine, by rsync",
-        words("to"),
+        required_words("to"),
         _ship,
         ". TO is a folder, or HOST:FOLDER. They get a folder of their own in it. Again, it brings what is new.",
     ),

@@ -99,7 +99,7 @@ class Tokens:
         self.outers[self.outers.index(outer)] = replace(outer, **members)
 
 
-def now() -> str:
+def current_minute() -> str:
     return time.strftime(MINUTE)
 
 
@@ -110,7 +110,7 @@ def mark_of(text: str) -> str:
 
 def is_past(until: str) -> bool:
     """Whether a token's last minute, where it has one, is past."""
-    return "" < until < now()
+    return "" < until < current_minute()
 
 
 def living(tokens: Tokens) -> list[str]:
@@ -119,7 +119,7 @@ def living(tokens: Tokens) -> list[str]:
     return sorted(f"{it.token} {it.mark} {'look' if it.looks else 'all'} {it.until or '-'}" for it in rows)
 
 
-def later_than(minute: str) -> str:
+def later_minute(minute: str) -> str:
     """A regular expression for what begins with a later minute: at some digit a greater one, and before it the same."""
     places = [place for place, char in enumerate(minute) if char.isdigit() and char != "9"]
     return "^(?:" + "|".join(f"{minute[:place]}[{int(minute[place]) + 1}-9]" for place in places) + ")"
@@ -135,7 +135,7 @@ def _by_number(name: str, rows: list[tuple[int, str]]) -> str:
     return _map("$caller", name, [f'{number} "{text}"' for number, text in rows if text])
 
 
-def text_of(tokens: Tokens) -> str:
+def tokens_text(tokens: Tokens) -> str:
     """The file."""
     records = [asdict(it) for it in tokens.seats.values()] + [asdict(it) for it in tokens.outers]
     lines = "".join("#: " + json.dumps(record, separators=(",", ":")) + "\n" for record in records)
@@ -144,7 +144,7 @@ def text_of(tokens: Tokens) -> str:
     ends = sorted({it.until for it in outers if it.until})
     health = tokens.seats.get(HEALTH)
     variable = {until: "$open_until_" + re.sub(r"\D", "", until) for until in ends}
-    parts = [_map("$time_iso8601", variable[it], [f'"~{later_than(it)}" ""'], "1") for it in ends]
+    parts = [_map("$time_iso8601", variable[it], [f'"~{later_minute(it)}" ""'], "1") for it in ends]
     parts += [
         _map("$shown", "$number_by_token", [f'"{it.text}" {it.number}' for it in outers if it.text]),
         _map('"$ssl_client_verify $ssl_client_s_dn"', "$number_by_certificate",
@@ -170,7 +170,7 @@ def tokens_of(text: str, path: Path, is_anew: bool = False) -> Tokens:
                 tokens.outers.append(Outer(**record))
             else:
                 tokens.seats[record["seat"]] = TokenSeat(**record)
-        same = text_of(tokens) == text
+        same = tokens_text(tokens) == text
     except (ValueError, TypeError, KeyError, AttributeError, RecursionError) as error:
         raise TokenError(1, f"{path} isn't what token writes: {error}") from None
     if not same and not is_anew:

@@ -56,7 +56,7 @@ BACKDATED = 86_400
 Record = Mapping[str, Any]
 
 
-def now() -> datetime:
+def moment_now() -> datetime:
     return datetime.now(timezone.utc).replace(microsecond=0)
 
 
@@ -68,7 +68,7 @@ def validity_of(certificate: Any) -> tuple[datetime, datetime]:
     return begins, ends
 
 
-def faults_of(certificate: Any, record: Record) -> Iterator[str]:
+def certificate_faults(certificate: Any, record: Record) -> Iterator[str]:
     """What of a certificate isn't as its record wants it, each in words: what is there, and what is wanted."""
     library("x509")
     for part, look in PARTS.items():
@@ -130,7 +130,7 @@ def _time_faults(certificate: Any, record: Record) -> Iterator[str]:
     begins, ends = (it.strftime(TIME).rjust(15, "0") for it in validity_of(certificate))
     if record["not_before"] not in (None, begins):
         yield f"it begins at {begins}, and the record at {record['not_before']}"
-    if record["not_before"] is None and begins > now().strftime(TIME):
+    if record["not_before"] is None and begins > moment_now().strftime(TIME):
         yield f"it begins at {begins}, which is to come, and its record has no beginning"
     if ends != record["not_after"]:
         yield f"it ends at {ends}, and the record at {record['not_after']}"
@@ -180,7 +180,7 @@ PARTS: Mapping[str, Callable[[Any, Record], Iterator[str]]] = {
 
 def is_early(record: Record) -> bool:
     """Whether a record's certificate holds later alone. It is issued before, and nobody else takes it until then."""
-    return record["not_before"] is not None and record["not_before"] > now().strftime(TIME)
+    return record["not_before"] is not None and record["not_before"] > moment_now().strftime(TIME)
 
 
 def late_fault(certificate: Any, record: Record, asked: datetime) -> Iterator[str]:
@@ -203,7 +203,7 @@ def chain_fault(
     listed = _errors_of(certificate, others, trusted, "-crl_check", "-CRLfile", str(crl)) if crl else []
     if crl and not listed:
         return
-    at = max(now(), validity_of(certificate)[0])
+    at = max(moment_now(), validity_of(certificate)[0])
     broken = _errors_of(certificate, others, trusted, "-attime", str(int(at.timestamp())))
     unknown = [told for number, told in listed if number != EARLY]
     if broken:

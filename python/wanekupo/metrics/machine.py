@@ -114,7 +114,7 @@ def add_store(samples: Samples, store: Path) -> None:
 # nginx.
 
 
-def requests_of(url: str, context: Optional[ssl.SSLContext]) -> int:
+def nginx_requests(url: str, context: Optional[ssl.SSLContext]) -> int:
     """How many requests nginx has had since its start, by the page of its module stub_status."""
     if not url.startswith(("http://", "https://")):
         raise ValueError(f"{url} is no address of a page")
@@ -158,7 +158,7 @@ def add_requests(
     connections: int,
 ) -> None:
     counted = requests_since(kept, start, passed_by(passed))
-    samples.add("wanekupo_http_requests_total", requests_of(url, context))
+    samples.add("wanekupo_http_requests_total", nginx_requests(url, context))
     samples.add("wanekupo_server_requests_total", counted)
     samples.add("wanekupo_connections_left", max(0, connections - counted))
 

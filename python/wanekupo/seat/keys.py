@@ -88,7 +88,7 @@ def _key_of_request(csr: bytes) -> bytes:
     return found
 
 
-def digest_of(public_key: bytes) -> str:
+def key_digest(public_key: bytes) -> str:
     """What a record has of a key: `key_sha256`."""
     return hashlib.sha256(public_key).hexdigest()
 

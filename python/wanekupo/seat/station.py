@@ -15,7 +15,7 @@ import threading
 from typing import Any, Callable, Iterable, Iterator, Mapping, NoReturn, Optional, Sequence, TypeVar
 from urllib.parse import quote
 
-from wanekupo.chips.chip import checked, shows
+from wanekupo.chips.chip import checked_blocks, shows_work
 from wanekupo.seat.connection import Server
 from wanekupo.common.errors import BadStateFile, NotTheServer, OutOfStep, Refused, UnderWay
 from wanekupo.chips.espefuse import Burner
@@ -40,7 +40,7 @@ from wanekupo.seat.replies import (
     order_of,
     work_of,
 )
-from wanekupo.seat.rows import LONGEST_BODY, Rows, csv_of, parts_of
+from wanekupo.seat.rows import LONGEST_BODY, Rows, csv_of, import_parts
 from wanekupo.seat.state_file import StateFile, members_of
 
 Self = TypeVar("Self", bound="Seat")
@@ -337,7 +337,7 @@ class Station(Seat):
         return str(self.post("/v1/map", {"text": text})["map"])
 
     def register(self, chip: str, order: str, map: str, blocks: Blocks) -> Device:
-        shown = {"map": map, "blocks": checked(chip, blocks)}
+        shown = {"map": map, "blocks": checked_blocks(chip, blocks)}
         return device_of(self.post("/v1/device", {"chip": chip, "order": order, **shown}))
 
     def plan(self, chip: str, wishes: Sequence[Mapping[str, Any]]) -> Plan:
@@ -345,7 +345,7 @@ class Station(Seat):
         return Plan(data["state"], work_of(data["batch1"]), work_of(data["batch2"]))
 
     def read_back(self, chip: str, blocks: Blocks) -> Verdict:
-        data = self.post("/v1/readback", {"chip": chip, "blocks": checked(chip, blocks)})
+        data = self.post("/v1/readback", {"chip": chip, "blocks": checked_blocks(chip, blocks)})
         return Verdict(data["outcome"], data["state"], work_of(data["rest"]))
 
     def identify(self, chip: str, public_key: bytes) -> Identity:
@@ -368,7 +368,7 @@ class Station(Seat):
         """Any number of such rows, in parts, and how many of the first ones an earlier call had sent. It may be stopped
         anywhere and called again with the same rows: the part under way, or the one behind the last, is gone on with.
         `told` gets how many rows are done, of how many."""
-        parts = list(parts_of(rows))
+        parts = list(import_parts(rows))
         of, done, added, present = sum(map(len, parts)), 0, 0, 0
         begin = self._part_to_begin(issuer, parts)
         before = sum(map(len, parts[:begin]))
@@ -446,11 +446,11 @@ class Station(Seat):
             if device.state not in ("awaiting1", "awaiting2"):
                 return device
             work = device.batch1 if device.state == "awaiting1" else device.batch2
-            checked(chip, chip_io.read())
+            checked_blocks(chip, chip_io.read())
             for _ in range(tries):
                 chip_io.burn(work)
                 blocks = chip_io.read()
-                if shows(blocks, work):
+                if shows_work(blocks, work):
                     break
             if self.read_back(chip, blocks).outcome == "short":
                 return self.device(chip)

@@ -108,7 +108,7 @@ def read_settings(file: Path = SETTINGS) -> StandbySettings:
     return StandbySettings(**values)
 
 
-def run(words: list[str], seconds: float = COMMAND_SECONDS) -> subprocess.CompletedProcess[str]:
+def run_bounded(words: list[str], seconds: float = COMMAND_SECONDS) -> subprocess.CompletedProcess[str]:
     """A command with what it prints. Where it takes too long it is a failure as any other. It has no terminal of
     root's: what is at the other end of a witness's `ssh` asks nobody for a password."""
     try:
@@ -119,20 +119,20 @@ def run(words: list[str], seconds: float = COMMAND_SECONDS) -> subprocess.Comple
 
 def done(words: list[str], seconds: float = COMMAND_SECONDS) -> str:
     """What a command prints that has to do what it says."""
-    ended = run(words, seconds)
+    ended = run_bounded(words, seconds)
     if ended.returncode:
         said = (ended.stderr or ended.stdout).strip().replace("\n", "; ")
         raise StandbyError(f"`{shlex.join(words)}` ended with status {ended.returncode}: {said}")
     return ended.stdout.strip()
 
 
-def tell(line: str, out: TextIO | None = None) -> None:
+def print_told(line: str, out: TextIO | None = None) -> None:
     """Prints a line for the person who typed the script. Where nobody reads it any more the work goes on."""
     with contextlib.suppress(OSError):
         print(shown(line.replace("\n", "; ")), file=out or sys.stdout, flush=True)
 
 
-def ended(name: str, call: Callable[[], int], *, alone: bool = False) -> int:
+def end_script(name: str, call: Callable[[], int], *, alone: bool = False) -> int:
     """The status of a command's call, with sentences where it is refused or stopped. With `alone` a second one that has
     it too is kept out."""
     clean_words()
@@ -144,11 +144,11 @@ def ended(name: str, call: Callable[[], int], *, alone: bool = False) -> int:
         with alone_at_work() if alone else contextlib.nullcontext():
             return call()
     except (StandbyError, UserError) as refused:
-        tell(f"{name}: refused: {refused}", sys.stderr)
+        print_told(f"{name}: refused: {refused}", sys.stderr)
     except OSError as error:
-        tell(f"{name}: It failed: {error}. Mend that, and type the same again.", sys.stderr)
+        print_told(f"{name}: It failed: {error}. Mend that, and type the same again.", sys.stderr)
     except KeyboardInterrupt:
-        tell(f"{name}: It was stopped. Type the same again, and it goes on.", sys.stderr)
+        print_told(f"{name}: It was stopped. Type the same again, and it goes on.", sys.stderr)
     return 1
 
 
@@ -295,7 +295,7 @@ def take_word() -> bool:
 
 def fenced_by_command(settings: StandbySettings) -> bool:
     """Whether the plant's own command has switched the other machine off."""
-    return bool(settings.fence) and run(shlex.split(settings.fence)).returncode == 0
+    return bool(settings.fence) and run_bounded(shlex.split(settings.fence)).returncode == 0
 
 
 def waited_for(is_there: Callable[[], bool], seconds: float) -> bool:

@@ -24,10 +24,11 @@ from collections.abc import Iterable
 from pathlib import Path
 from typing import Any
 
-from wanekupo.plant.backup.copies import BackupError, now, size_of, told_if_full
+from wanekupo.plant.backup.copies import BackupError, size_of, told_if_full
 from wanekupo.plant.backup.snapshot import KINDS
 from wanekupo.common.store_user import UserError, read_small
 from wanekupo.common.files import hold_lock, replace_file, sync
+from wanekupo.common.moments import now_text
 from wanekupo.common.process import run_command
 
 NAME = re.compile(r"(\d{4}-\d\d-\d\dT\d{6}Z)(?:\.tar\.age)?")
@@ -106,7 +107,7 @@ def placed(begun: Path, folder: Path, name: str, recipients: list[str]) -> Path:
     """The backup under its name. Of one that is encrypted nothing stays in plain."""
     ready = begun
     if recipients:
-        with told_if_full(folder, bytes_of(begun), "its encryption"):
+        with told_if_full(folder, backup_bytes(begun), "its encryption"):
             ready = encrypted(begun, name, recipients)
     path = folder / (f"{name}.tar.age" if recipients else name)
     os.rename(ready, path)
@@ -116,7 +117,7 @@ def placed(begun: Path, folder: Path, name: str, recipients: list[str]) -> Path:
     return path
 
 
-def bytes_of(path: Path) -> int:
+def backup_bytes(path: Path) -> int:
     return size_of(*path.iterdir()) if path.is_dir() else path.stat().st_size
 
 
@@ -164,5 +165,5 @@ def note(folder: Path, ok: bool, size: int, said: str, taken: tuple[str, str]) -
     """Says how the last backup went, in the folder of all, and the kind and the size of its snapshot, or of the last
     one's that had one."""
     kind, room = taken if taken[0] else last_snapshot(folder)
-    told = {"at": now(), "ok": ok, "bytes": size, "said": said, "snapshot": kind, "snapshot_size": room}
+    told = {"at": now_text(), "ok": ok, "bytes": size, "said": said, "snapshot": kind, "snapshot_size": room}
     replace_file(folder / LAST, json.dumps(told) + "\n")

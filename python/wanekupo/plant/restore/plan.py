@@ -36,14 +36,14 @@ def error_of(names: list[str], told: str) -> RestoreError:
 
 
 @contextlib.contextmanager
-def named(customer: str) -> Iterator[None]:
+def name_customer(customer: str) -> Iterator[None]:
     """Says whose the line is that an error of the client's names, and for whose journals no memory is left."""
     try:
         yield
     except MemoryError:
         raise error_of([customer], "no memory is left for its journals: move old days away") from None
     except StationError as error:
-        raise error_of([customer], told_of(error)) from error
+        raise error_of([customer], station_error_sentence(error)) from error
     except (ArithmeticError, AttributeError, LookupError, RecursionError, TypeError, ValueError) as error:
         told = f"its journals have what no station writes ({type(error).__name__}: {shown(brief(error))})"
         raise error_of([customer], told) from error
@@ -215,6 +215,6 @@ def absolute(words: Iterable[str]) -> list[str]:
     return found
 
 
-def told_of(error: StationError) -> str:
+def station_error_sentence(error: StationError) -> str:
     """An error of the client's in a sentence."""
     return " ".join(it for it in (f"{error}.", error.advice) if it)
