@@ -65,8 +65,8 @@ SPANS = {"m": "minutes", "h": "hours", "d": "days"}
 class Outcome:
     """What a command came to: what it prints, what it tells, a secret, and another text of a site file."""
 
-    shown_until: str = ""
-    reload_nginx: str = ""
+    shown: str = ""
+    told: str = ""
     secret: str = ""
     site: str = ""
     is_change: bool = True
