@@ -28,6 +28,13 @@ DONE, QUARANTINED = 0, 4
 Asked = Callable[[Station, argparse.Namespace], Any]
 
 
+def _last_reply(station: Station) -> dict[str, Any]:
+    """What the request before was answered."""
+    last = station.finish()
+    assert last, "a request was made"
+    return last.reply
+
+
 def asks(ask: Asked) -> Callable[[Settings, argparse.Namespace], int]:
     """A command that asks as a seat. What it answers nothing to has its reply printed."""
 
@@ -39,7 +46,7 @@ def asks(ask: Asked) -> Callable[[Settings, argparse.Namespace], int]:
         with station_of(settings, **options) as station:
             answer = ask(station, args)
             if answer is None:
-                answer = station.finish().reply  # type: ignore[union-attr]
+                answer = _last_reply(station)
         if isinstance(answer, str):
             print_shown(answer)
             return DONE
@@ -228,11 +235,11 @@ def identified(station: Station, chip: str, public_key: bytes) -> dict[str, Any]
     """The record of a device with this key: given now, or by an earlier call that was stopped behind it."""
     try:
         station.identify(chip, public_key)
-        return station.finish().reply  # type: ignore[union-attr]
+        return _last_reply(station)
     except Refused as refused:
         if refused.no != WRONG_STATE:
             raise
-        found = station.get("/v1/identity", chip=chip)
+        found: dict[str, Any] = station.get("/v1/identity", chip=chip)
         if identity_of(found).key_sha256 != key_digest(public_key):
             raise
         return found

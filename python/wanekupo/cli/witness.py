@@ -14,7 +14,8 @@ from wanekupo.seat.command import Command
 from wanekupo.seat.settings import Settings
 from wanekupo.common.errors import BadJournal
 from wanekupo.common.moments import now_text
-from wanekupo.seat.journal import OF_A_DAY, Name, journals_of, placed_lines_of
+from wanekupo.seat.journal import OF_A_DAY, journals_of, placed_lines_of
+from wanekupo.seat.journal_lines import Name
 from wanekupo.common.printing import print_shown
 from wanekupo.common.texts import shown
 

@@ -30,7 +30,7 @@ import subprocess
 import sys
 import tempfile
 import time
-from collections.abc import Callable, Iterator, Sequence
+from collections.abc import Callable, Collection, Iterator, Sequence
 from dataclasses import dataclass
 from pathlib import Path
 from typing import NoReturn
@@ -103,15 +103,17 @@ def opened(folder: Path) -> int:
     place."""
     path = Path(os.path.abspath(folder))
     steps = [*reversed(path.parents), path]
-    with contextlib.ExitStack() as stack:
-        handles: list[int] = []
+    handles: list[int] = []
+    try:
         for step in steps:
             handles.append(_opened_step(step, handles[-1] if handles else None))
-            stack.callback(os.close, handles[-1])
         found = [os.fstat(it) for it in handles]
         for step, above, below in zip(steps[1:], found, found[1:]) if os.geteuid() == 0 else ():
             _held(step, above, below, {0, found[-1].st_uid})
         return os.dup(handles[-1])
+    finally:
+        for handle in handles:
+            os.close(handle)
 
 
 def read_small(path: Path, handle: int | None = None, most: int = SMALL) -> bytes:
@@ -240,14 +242,14 @@ class StoreUser:
                 raise
         return subprocess.CompletedProcess(list(words), status, *(it.decode(errors="replace") for it in printed))
 
-    def call(self, function: Callable[[], object], told: Callable[[BaseException], str] = str,
+    def call(self, function: Callable[[], int | None], told: Callable[[BaseException], str] = str,
              seconds: float = LONGEST) -> int:  # fmt: skip
         """Has a function done as the user, in a process of its own that begins in /, so its paths are whole ones. What
         it prints is printed here. Gives the number that it gives; its error comes back as a UserError of what `told`
         makes of it. A signal that ends this run ends it first, as it would end a run of its own. Who takes longer is
         ended: an error."""
         if self.is_own():
-            return int(function() or 0)  # type: ignore[call-overload]
+            return function() or 0
         pipes = [os.pipe() for _ in range(3)]
         sys.stdout.flush()
         sys.stderr.flush()
@@ -265,8 +267,8 @@ class StoreUser:
             raise UserError(said or "the process that works as the store's user was killed")
         return os.WEXITSTATUS(status)
 
-    def _called(self, function: Callable[[], object], told: Callable[[BaseException], str], ends: list[int],
-                parent: int, mask: set[signal.Signals]) -> NoReturn:  # fmt: skip
+    def _called(self, function: Callable[[], int | None], told: Callable[[BaseException], str], ends: list[int],
+                parent: int, mask: Collection[int]) -> NoReturn:  # fmt: skip
         """The child's part. It ends here, whatever comes: a signal waits since before the fork until its error is
         met."""
         status = 1
@@ -275,7 +277,7 @@ class StoreUser:
             try:
                 self._become(parent)
                 signal.pthread_sigmask(signal.SIG_SETMASK, mask)
-                status = int(function() or 0)  # type: ignore[call-overload]
+                status = function() or 0
             except BaseException as error:
                 os.write(said, (told(error) or type(error).__name__).encode(errors="replace")[:SAID])
             sys.stdout.flush()
@@ -394,7 +396,7 @@ def _relayed(reads: list[int], child: int, end: float = math.inf) -> str:
     return said.decode(errors="replace")
 
 
-def _waited(child: int, pipes: list[tuple[int, int]], mask: set[signal.Signals], until: float) -> tuple[str, int]:
+def _waited(child: int, pipes: list[tuple[int, int]], mask: Collection[int], until: float) -> tuple[str, int]:
     """The words of a child's error, and its status. Where a signal ends this run the child is asked to end, too; one
     that doesn't, as the user may stop it, is killed with those that it began."""
     for _, write in pipes:

@@ -30,8 +30,8 @@ EXTENSIONS = {
     "authorityKeyIdentifier": False,
 }
 BESIDES = ("authorityInfoAccess", "cRLDistributionPoints")
-USAGES = ("digital_signature", "content_commitment", "key_encipherment", "data_encipherment", "key_agreement")
-USAGES += ("key_cert_sign", "crl_sign")
+USAGES = "digital_signature content_commitment key_encipherment data_encipherment key_agreement".split()
+USAGES += ["key_cert_sign", "crl_sign"]
 
 # The keys that a device may have, and how its certificate may be signed.
 CURVES = ("secp256r1", "secp384r1", "secp521r1")

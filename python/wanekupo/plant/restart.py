@@ -217,8 +217,8 @@ def run_restart(args: argparse.Namespace) -> None:
         return
     why = "; ".join(reasons) or ("it was asked for by --now" if args.now else "nothing asks for it")
     if metrics.needs > metrics.may_have:
-        told = f"a start needs {megabytes(metrics.needs)} MB, and the server may have {megabytes(metrics.may_have)}"
-        raise NoRestartError(f"no restart: {told}: raise MemoryMax= first")
+        needs = f"a start needs {megabytes(metrics.needs)} MB, and the server may have {megabytes(metrics.may_have)}"
+        raise NoRestartError(f"no restart: {needs}: raise MemoryMax= first")
     told, by = seconds_away(args, store, metrics)
     if args.check:
         tell_restart(f"{why}; it would be away for {told} s, {by}; nothing was done")

@@ -12,7 +12,8 @@ import io
 import json
 import os
 import threading
-from typing import Any, Callable, Iterable, Iterator, Mapping, NoReturn, Optional, Sequence, TypeVar
+from typing import Any, Callable, Concatenate, Iterable, Iterator, Mapping, NoReturn, Optional, ParamSpec, Sequence
+from typing import TypeVar
 from urllib.parse import quote
 
 from wanekupo.chips.chip import checked_blocks, shows_work
@@ -44,6 +45,8 @@ from wanekupo.seat.rows import LONGEST_BODY, Rows, csv_of, import_parts
 from wanekupo.seat.state_file import StateFile, members_of
 
 Self = TypeVar("Self", bound="Seat")
+Words = ParamSpec("Words")
+Result = TypeVar("Result")
 
 # A number that no seat comes to.
 FAR = 2**53 - 1
@@ -53,11 +56,11 @@ FAR = 2**53 - 1
 WRONG_NUMBER, OTHER_BODY, UNKNOWN_DEVICE, WRONG_STATE = 11, 12, 15, 17
 
 
-def _in_turn(call: Callable[..., Any]) -> Callable[..., Any]:
+def _in_turn(call: Callable[Concatenate[Self, Words], Result]) -> Callable[Concatenate[Self, Words], Result]:
     """A call of a station that waits for those of other threads."""
 
     @functools.wraps(call)
-    def alone(station: Seat, *words: Any, **named: Any) -> Any:
+    def alone(station: Self, /, *words: Words.args, **named: Words.kwargs) -> Result:
         with station._turn:
             return call(station, *words, **named)
 
@@ -172,12 +175,12 @@ class Seat:
 
     # Requests.
 
-    def _posted(self, path: str, text: str) -> tuple[int, Any, bool]:
+    def _posted(self, path: str, text: str) -> tuple[int, dict[str, Any], bool]:
         """Has a POST's text sent, in UTF-8."""
         return self._server.asked("POST", path, json.loads(text), path, text.encode())
 
     @_in_turn
-    def get(self, path: str, **parameters: str) -> Any:
+    def get(self, path: str, /, **parameters: str) -> Any:
         """What is shown: a reply's members, or a report's text."""
         query = "&".join(f"{name}={quote(text, safe='')}" for name, text in parameters.items())
         status, body, _ = self._server.asked("GET", path, parameters, f"{path}?{query}" if query else path)
@@ -281,13 +284,14 @@ class Seat:
             accepted(*self._posted("/v1/ship", json.dumps({"nr": FAR, "chip": 12 * "0"}))[:2])
         except Refused as refused:
             if refused.no == WRONG_NUMBER and "expected" in refused.more:
-                return refused.more["expected"]
+                expected: int = refused.more["expected"]
+                return expected
             raise
         raise NotTheServer(f"number {FAR} was accepted")
 
     def operator(self) -> str:
         """Who works there, as the journal's lines have it."""
-        return self._journal.operator() if self._journal else ""
+        return str(self._journal.operator()) if self._journal else ""
 
     def operated_by(self, name: str) -> None:
         """Who works there from the next line of the journal on."""

@@ -194,8 +194,8 @@ class Half:
         # Where DRBD doesn't look for the other machine there is no letter of a protocol behind the disks.
         form = rf"^ *{minor}: cs:(\S+) ro:(\S+)/(\S+) ds:(\S+)/(\S+) +(?:[ABC] +)?([rs])"
         table = TABLE.read_text(encoding="ascii") if TABLE.exists() else ""
-        if found := re.search(form, table, re.MULTILINE):
-            return DrbdState(*found.groups()[:5], is_frozen=found[6] == "s")
+        if it := re.search(form, table, re.MULTILINE):
+            return DrbdState(it[1], it[2], it[3], it[4], it[5], is_frozen=it[6] == "s")
         raise StandbyError(f"DRBD has no {self.settings.device} here: `drbdadm up {self.resource}`.")
 
     def received(self) -> str:
@@ -211,7 +211,7 @@ class Half:
     def other_name(self) -> str:
         """The other machine's name, by the resource's own file."""
         found = re.findall(r"^    on (\S+) \{", self.asked("dump"), re.MULTILINE)
-        names = [name for name in found if name != os.uname().nodename]
+        names: list[str] = [name for name in found if name != os.uname().nodename]
         if len(names) != 1:
             raise StandbyError(f"The resource {self.resource} has {len(names)} other machines, and not one.")
         return names[0]

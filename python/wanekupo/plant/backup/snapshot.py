@@ -63,7 +63,8 @@ def command_output(*words: str) -> str:
 def mounted_at(folder: Path) -> dict[str, str]:
     """The file system that has a folder."""
     words = ("findmnt", "--json", "--nofsroot", "--output", "SOURCE,FSTYPE,FSROOT,TARGET", "--target", str(folder))
-    return json.loads(command_output(*words))["filesystems"][0]
+    found: dict[str, str] = json.loads(command_output(*words))["filesystems"][0]
+    return found
 
 
 def unmounted(folder: Path) -> bool:
@@ -119,7 +120,9 @@ class Lvm(Volume):
     @staticmethod
     def _looked(what: str, name: str) -> list[dict[str, str]]:
         """What LVM says of a volume, or of those of a group."""
-        return json.loads(command_output("lvs", "--reportformat", "json", "--options", what, name))["report"][0]["lv"]
+        said = command_output("lvs", "--reportformat", "json", "--options", what, name)
+        found: list[dict[str, str]] = json.loads(said)["report"][0]["lv"]
+        return found
 
     def _found(self) -> dict[str, str]:
         """What LVM says of the snapshot; nothing where there is none."""

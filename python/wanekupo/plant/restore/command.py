@@ -275,8 +275,8 @@ def restore_store(
                 print_lines(f"the backup of {about.get('at', 'a moment that it does not say')}: {', '.join(counts)}")
                 copy = hold_against_lost(args, place, taken, requests, counts)
                 place.put_aside()
-            if place.lost():
-                print_lines(f"what was there is in {place.lost().parent}")
+            if lost := place.lost():
+                print_lines(f"what was there is in {lost.parent}")
             left = replay(args, place, taken)
             keeps = number_gaps(taken, requests, last_numbers(counts), set(args.without.split(",")))
             more, rows = look(args, place, copy)

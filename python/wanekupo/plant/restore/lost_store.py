@@ -38,7 +38,8 @@ def query_rows(db: Path, query: str) -> list[dict[str, Any]] | None:
     done = safely("-json", str(db), query)
     if done.returncode:
         return None
-    return json.loads(done.stdout or "[]")
+    rows: list[dict[str, Any]] = json.loads(done.stdout or "[]")
+    return rows
 
 
 def lost_copy(program: str, site: Path, lost: Path, folder: Path) -> tuple[Path, bool]:
@@ -72,7 +73,7 @@ def lost_contradictions(
 
 
 def _last(rows: dict[str, dict[str, Any]], seat: str) -> int:
-    return rows[seat]["last"] if seat in rows else 0
+    return int(rows[seat]["last"]) if seat in rows else 0
 
 
 def _numbers_otherwise(seat: str, found: Requests, row: dict[str, Any] | None, is_restored: bool) -> Iterator[str]:

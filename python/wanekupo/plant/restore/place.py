@@ -222,12 +222,13 @@ def check_folders(backup: Path, backups: Path) -> None:
 def said_in(backup: Path) -> dict[str, Any]:
     """What a backup says of itself; nothing of one by an earlier program."""
     try:
-        about = json.loads(read_small(backup / ABOUT))
+        found = json.loads(read_small(backup / ABOUT))
     except FileNotFoundError:
         return {}
     except (ValueError, RecursionError, UserError):
-        about = None
-    digests, counts = (about.get(it) for it in ("sha256", "counts")) if isinstance(about, dict) else (None, None)
+        found = None
+    about: dict[str, Any] = found if isinstance(found, dict) else {}
+    digests, counts = about.get("sha256"), about.get("counts")
     if not isinstance(digests, dict) or not set(FILES) <= set(digests) or not isinstance(counts, list):
         raise RestoreError(f"{backup / ABOUT} is damaged: take another backup")
     return about

@@ -132,7 +132,7 @@ def requests_of_seats(customers: Iterable[CustomerPlan]) -> dict[str, Requests]:
     found: dict[str, list[list[Placed]]] = {}
     for journal in (it for customer in customers for it in customer.journals if it.seat):
         found.setdefault(journal.seat, []).append(journal.lines)
-    return {seat: standing(heapq.merge(*its, key=lambda placed: placed[2]["at"])) for seat, its in found.items()}
+    return {seat: standing(heapq.merge(*its, key=lambda placed: str(placed[2]["at"]))) for seat, its in found.items()}
 
 
 def asked_of(customer: CustomerPlan) -> list[Asked]:
