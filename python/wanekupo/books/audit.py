@@ -191,7 +191,8 @@ def _left_faults(
 ) -> Iterator[Found]:
     """The entries that are left over. A seat without a journal is told once. Of customers whose journals are `whole`
     each counts; of others none that is outside of the period, or in front of the first line."""
-    inside = sum(audit.period.has(step.at) for _, step, *_ in chain(laid.pairs, laid.odd))
+    steps = chain((step for _, step, *_ in laid.pairs), (step for _, step, *_ in laid.odd))
+    inside = sum(audit.period.has(step.at) for step in steps)
     audit.entries, audit.outside = inside, len(laid.pairs) + len(laid.odd) - inside
     without: dict[tuple[str, str], int] = defaultdict(int)
     unheld = Unheld(laid.pairs, spans)

@@ -142,7 +142,7 @@ def _import(it: Seated, step: Step, store: Books) -> Iterator[tuple[str, str]]:
     except ValueError as error:
         yield "import", f"what was imported for {issuer} can't be read: {error}"
         return
-    counted = step.reply.get("added"), step.reply.get("present")
+    counted: tuple[Any, Any] = step.reply.get("added"), step.reply.get("present")
     is_count = all(type(count) is int and count >= 0 for count in counted)
     if step.is_done() and not (is_count and sum(counted) == len(rows)):
         yield "import", f"{len(rows)} rows were imported for {issuer}, and the reply has {counted[0]} and {counted[1]}"

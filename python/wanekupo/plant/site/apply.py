@@ -189,12 +189,12 @@ def status_of(url: str, token: str, certificate: str = "") -> int:
     request = urllib.request.Request(url)
     if token:
         request.add_unredirected_header("Authorization", f"Bearer {token}")
-    handlers = [urllib.request.ProxyHandler({})]
+    handlers: list[urllib.request.BaseHandler] = [urllib.request.ProxyHandler({})]
     if context:
         handlers.append(urllib.request.HTTPSHandler(context=context))
     try:
         with urllib.request.build_opener(*handlers).open(request, timeout=PATIENCE) as reply:
-            return reply.status
+            return int(reply.status)
     except urllib.error.HTTPError as error:
         return error.code
 

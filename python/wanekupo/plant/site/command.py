@@ -128,9 +128,11 @@ def grown_text(args: argparse.Namespace, place: Place, text: str, is_trial: bool
     seats = [seat_of(place, customer, it, is_trial) for it in args.seats if there.get(it) != customer]
     if is_new:
         parts = {"pool": pools, "seat": seats}
-        made = {"name": customer, "issuer": issuers, **{kind: items for kind, items in parts.items() if items}}
+        made: dict[str, Any] = {"name": customer, "issuer": issuers}
+        made |= {kind: items for kind, items in parts.items() if items}
         return with_customer(text, made, title)
-    for kind, items in (("issuer", issuers), ("pool", pools), ("seat", seats)):
+    kinds: dict[str, list[Any]] = {"issuer": issuers, "pool": pools, "seat": seats}
+    for kind, items in kinds.items():
         text = added(text, title, customer, kind, items)
     return text
 

@@ -83,7 +83,7 @@ class Reader:
         return False
 
     def whole(self, table: object, path: Path, least: int, greatest: int, is_needed: bool = True) -> int | None:
-        value = self.member(table, path, int, is_needed)
+        value: int | None = self.member(table, path, int, is_needed)
         if value is None or least <= value <= greatest:
             return value
         bounds = f"{least} to {greatest:,}" if greatest < LARGEST_WHOLE else f"{least} or more"
@@ -121,10 +121,10 @@ def read(text: str) -> Reader | Fault:
 def of_toml(text: str, told: str) -> Fault:
     """What tomllib tells, with its line."""
     found = re.search(r"^(.*) \(at (?:line (\d+), column (\d+)|end of document)\)$", told, re.DOTALL)
-    told, line, column = found.groups() if found else (told, None, None)
+    said, line, column = (str(found[1]), found[2], found[3]) if found else (told, None, None)
     place = f" at column {column}" if column else ""
     last = text.count("\n") + (0 if text.endswith("\n") or not text else 1)
-    return Fault(1, int(line or max(last, 1)), "the text", f"it is no TOML 1.0{place}: {told[:1].lower()}{told[1:]}")
+    return Fault(1, int(line or max(last, 1)), "the text", f"it is no TOML 1.0{place}: {said[:1].lower()}{said[1:]}")
 
 
 def walked(value: object, path: Path) -> Any:
