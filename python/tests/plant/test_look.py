@@ -197,7 +197,7 @@ def test_the_contents_of_a_half(monkeypatch, own, tmp_path):
     monkeypatch.setattr(look, "StoreFolder", lambda path: {tmp_path / "books.db": store}[path])
     monkeypatch.setattr(look, "user_named", lambda name: user)
     monkeypatch.setattr(look, "seats_of", lambda site: {"/etc/station/site.toml": ["a1", "b1"]}[site])
-    monkeypatch.setattr(look.living, "listed", lambda handle: {"x"} if handle == store.handle else None)
+    monkeypatch.setattr(look.living, "listed_tokens", lambda handle: {"x"} if handle == store.handle else None)
     assert look.contents(own) == look.Contents({"a1": 17, "b1": 0}, {"x"})
     program, sqlite3 = (words for words, _, _ in user.calls)
     assert program == ("station", "replay", "--site", "/etc/station/site.toml", "--db", "books.db", "--existing")

@@ -254,14 +254,14 @@ def test_all_steps(monkeypatch, tmp_path, capsys):
     for name, answer in {"check_folders": None, "gather": {"a1": "R"}, "check_backup": {"at": "T"}, "copy_in": COUNTS,
                          "hold_against_lost": None, "replay": {"acme": {}}, "number_gaps": ["gap"],
                          "look": (["row"], {}),
-                         "listed": None, "end": 3, "last_numbers": {"a1": 17}}.items():  # fmt: skip
+                         "write_lists": None, "end_restore": 3, "last_numbers": {"a1": 17}}.items():  # fmt: skip
         monkeypatch.setattr(restore, name, noted(name, answer))
     args = args_of(tmp_path, leave_out=["bolt"], without="a7,b3")
     assert restore.restore_store(args, place, {"acme": acme, "bolt": bolt}, {}, {}) == 3
     order = [it for it in place.calls if it != "last_numbers"]
     assert order == ["refuse_links", "sole_restore", "check_folders", "gather", "check_backup", "locked", "copy_in",
         "hold_against_lost",
-                     "put_aside", "end of locked", "replay", "number_gaps", "look", "listed", "end",
+                     "put_aside", "end of locked", "replay", "number_gaps", "look", "write_lists", "end_restore",
                      "end of sole_restore"]  # fmt: skip
     assert given["replay"][-1] == [acme], "a customer who is left out gets nothing back"
     assert given["number_gaps"][0] == [acme] and given["number_gaps"][3] == {"a7", "b3"}

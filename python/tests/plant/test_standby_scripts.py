@@ -55,8 +55,8 @@ def put_in(monkeypatch, module, own, words=(), fenced=False):
     monkeypatch.setattr(module, "Half", own)
     monkeypatch.setattr(module, "read_settings", lambda: own.settings)
     for name, call in {
-        "run": lambda it: own.calls.append(" ".join(it)) or half.subprocess.CompletedProcess(it, 0, "", ""),
-        "done": lambda it: own.calls.append(" ".join(it)), "tell": lambda *it: own.calls.append(("TELL", it[0])),
+        "run_bounded": lambda it: own.calls.append(" ".join(it)) or half.subprocess.CompletedProcess(it, 0, "", ""),
+        "done": lambda it: own.calls.append(" ".join(it)), "print_told": lambda *it: own.calls.append(("TELL", it[0])),
         "take_word": lambda: own.calls.append("take_word") or next(left, False),
         "give_word": lambda: own.calls.append("give_word"),
         "fenced_by_command": lambda settings: own.calls.append("fence") or fenced,
@@ -296,7 +296,7 @@ def test_fence_peer_that_is_refused_says_nothing_is_off(monkeypatch, capsys):
 def test_a_command_is_ended_by_what_it_was_called(monkeypatch, name, words, is_alone):
     calls = []
     for module in (takeover, down, other):
-        monkeypatch.setattr(module, "ended", lambda title, call, alone=False: calls.append((title, alone)) or 5)
+        monkeypatch.setattr(module, "end_script", lambda title, call, alone=False: calls.append((title, alone)) or 5)
     monkeypatch.setattr(sys, "argv", ["station-standby", name, *words])
     assert command.main() == 5
     assert calls == [("takeover" if name == "look" else name, is_alone)]

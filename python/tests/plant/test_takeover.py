@@ -73,12 +73,12 @@ def put_in(monkeypatch):
         for name in ("forget_alone", "give_word", "take_word"):
             monkeypatch.setattr(takeover, name, noted(name))
         monkeypatch.setattr(takeover, "fenced_by_command", noted("fence", fenced))
-        monkeypatch.setattr(takeover.needs, "test", noted("needs"))
-        monkeypatch.setattr(takeover.witness, "gathered",
+        monkeypatch.setattr(takeover.needs, "test_resource", noted("needs"))
+        monkeypatch.setattr(takeover.witness, "highest_numbers",
             lambda *words: own.calls.append(("gathered", *words)) or {"a1": 1})
-        monkeypatch.setattr(takeover.witness, "compare", noted("compare"))
+        monkeypatch.setattr(takeover.witness, "compare_numbers", noted("compare"))
         monkeypatch.setattr(takeover.look, "contents", noted("look", Contents({"a1": 1}, None)))
-        monkeypatch.setattr(takeover.living, "test", noted("living"))
+        monkeypatch.setattr(takeover.living, "test_tokens", noted("living"))
         monkeypatch.setattr(takeover.living, "here", noted("here"))
         monkeypatch.setattr(takeover.living, "leave", noted("leave"))
         return own
@@ -165,7 +165,7 @@ def test_the_words_for_tokens_go_on(put_in, monkeypatch):
     seen = []
     own = put_in(FakeHalf(BOTH))
     monkeypatch.setattr(takeover.look, "contents", lambda it: Contents({}, {"x"}))
-    monkeypatch.setattr(takeover.living, "test", lambda it, there, is_known: seen.append((there, is_known)))
+    monkeypatch.setattr(takeover.living, "test_tokens", lambda it, there, is_known: seen.append((there, is_known)))
     for is_known in (True, False):
         takeover.tested_contents(own, words(ended_tokens_may_ask=is_known), None)
     assert seen == [({"x"}, True), ({"x"}, False)]
@@ -175,7 +175,7 @@ def test_compared_are_the_half_and_its_witness(put_in, monkeypatch):
     seen = []
     own = put_in(FakeHalf(BOTH))
     monkeypatch.setattr(takeover.look, "contents", lambda it: Contents({"a1": 7}, None))
-    monkeypatch.setattr(takeover.witness, "compare", lambda *it: seen.append(it))
+    monkeypatch.setattr(takeover.witness, "compare_numbers", lambda *it: seen.append(it))
     assert takeover.compared(own, words(witness=["f"]), None).numbers == {"a1": 7}
     assert seen == [({"a1": 7}, {"a1": 1})]
 

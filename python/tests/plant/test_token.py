@@ -19,7 +19,7 @@ DAY = "2026-11-29"
 @pytest.fixture(autouse=True)
 def clock(monkeypatch):
     for module in (token_file, token):
-        monkeypatch.setattr(module, "now", lambda: f"{DAY}T10:00")
+        monkeypatch.setattr(module, "current_minute", lambda: f"{DAY}T10:00")
 
 
 def args_of(*words):

@@ -39,7 +39,7 @@ def outer(number, seat="a1", **more):
 @pytest.fixture(autouse=True)
 def moment(monkeypatch):
     for module in (token, token_file):
-        monkeypatch.setattr(module, "now", lambda: NOW)
+        monkeypatch.setattr(module, "current_minute", lambda: NOW)
 
 
 @pytest.fixture
