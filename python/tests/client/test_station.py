@@ -36,7 +36,7 @@ from support import (
 )
 
 from wanekupo.chips.chip import bit
-from wanekupo.seat.rows import import_parts
+from wanekupo.seat.import_rows import import_parts
 from wanekupo.seat.station import Station
 from wanekupo.common.errors import NoReply, Refused
 from wanekupo.chips.espefuse import Espefuse

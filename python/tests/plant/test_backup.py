@@ -72,7 +72,7 @@ def kept(monkeypatch, calls, **fails):
 
 def test_keep(tmp_path, monkeypatch, calls, capsys):
     kept(monkeypatch, calls)
-    backup.keep(args_of(tmp_path, recipient=["age1"], copy_with="copy", keep_days=3, keep_weeks=2,
+    backup.finish_backup(args_of(tmp_path, recipient=["age1"], copy_with="copy", keep_days=3, keep_weeks=2,
         taken=("lvm", "2G")), NAME)
     path = tmp_path / NAME
     assert calls == [("placed", f".new-{NAME}", NAME, ["age1"]), ("tidy", tmp_path, 3, 2), ("copy_off", "copy", path),
@@ -83,7 +83,7 @@ def test_keep(tmp_path, monkeypatch, calls, capsys):
 def test_a_backup_that_was_not_copied_off_is_not_noted_as_good(tmp_path, monkeypatch, calls):
     kept(monkeypatch, calls, copy_off=BackupError("shut"))
     with pytest.raises(BackupError, match="shut"):
-        backup.keep(args_of(tmp_path, copy_with="copy"), NAME)
+        backup.finish_backup(args_of(tmp_path, copy_with="copy"), NAME)
     assert "note" not in heads(calls)
 
 
@@ -91,11 +91,11 @@ def test_what_cannot_be_tidied_keeps_no_backup_from_its_way_off(tmp_path, monkey
     kept(monkeypatch, calls, tidy=PermissionError(13, "Permission denied", "/b/old"))
     with pytest.raises(BackupError,
         match=f"{NAME} is here, and an older one can't be removed: /b/old: Permission denied"):
-        backup.keep(args_of(tmp_path, copy_with="copy"), NAME)
+        backup.finish_backup(args_of(tmp_path, copy_with="copy"), NAME)
     assert heads(calls) == ["placed", "tidy", "copy_off"]
     kept(monkeypatch, calls, tidy=PermissionError(13, "Permission denied"))
     with pytest.raises(BackupError):
-        backup.keep(args_of(tmp_path), NAME)
+        backup.finish_backup(args_of(tmp_path), NAME)
     assert heads(calls)[3:] == ["placed", "tidy"], "without a command nothing is copied off"
 
 
@@ -116,7 +116,7 @@ def run_into(tmp_path, monkeypatch, calls, stays=None, **more):
     monkeypatch.setattr(backup, "new_name", lambda folder: NAME)
     monkeypatch.setattr(backup, "hold_snapshot", snapshot)
     monkeypatch.setattr(backup, "copy", lambda args, db, folder: calls.noted("copy")(db, folder))
-    monkeypatch.setattr(backup, "keep", lambda args, name: calls.noted("keep")(name))
+    monkeypatch.setattr(backup, "finish_backup", lambda args, name: calls.noted("keep")(name))
     monkeypatch.setattr(backup, "remove_begun", lambda folder: calls.noted("remove", [])(folder) or [])
     backup.run_into(args_of(tmp_path, volume="V", **more), by)
 

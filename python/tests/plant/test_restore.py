@@ -265,7 +265,7 @@ def test_all_steps(monkeypatch, tmp_path, capsys):
                      "end of sole_restore"]  # fmt: skip
     assert given["replay"][-1] == [acme], "a customer who is left out gets nothing back"
     assert given["number_gaps"][0] == [acme] and given["number_gaps"][3] == {"a7", "b3"}
-    assert given["end"][2] == ["gap", "row"]
+    assert given["end_restore"][2] == ["gap", "row"]
     told = capsys.readouterr().out
     assert "the backup of T: orders 2" in told and f"what was there is in {tmp_path / 'lost-1'}" in told
 

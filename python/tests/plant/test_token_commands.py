@@ -105,8 +105,8 @@ def test_commit(file, monkeypatch, wrong, status):
 
 
 @pytest.mark.parametrize("fails, error", [
-    ("ran", PermissionError(13, "why")), ("told", UnicodeDecodeError("utf-8", b"\xff", 0, 1, "why")),
-    ("told", ValueError("why")), ("put", OSError(28, "why")),
+    ("test_nginx", PermissionError(13, "why")), ("reload_nginx", UnicodeDecodeError("utf-8", b"\xff", 0, 1, "why")),
+    ("reload_nginx", ValueError("why")), ("put", OSError(28, "why")),
 ])  # fmt: skip
 def test_whatever_fails_behind_the_write_is_no_refusal(file, monkeypatch, fails, error):
     """The statuses of station-token(8): with 1 nothing was changed, and 5 has an operator look at nginx."""

@@ -19,7 +19,7 @@ from wanekupo.bench.hooks import HookResult, run_hook
 from wanekupo.bench.bench_files import BenchFiles, synced_files
 from wanekupo.common.files import PRIVATE, place_file
 from wanekupo.seat.keys import keep_csr, public_key_of
-from wanekupo.seat.records import addresses_of
+from wanekupo.seat.lot_records import addresses_of
 from wanekupo.bench.parts import Part
 from wanekupo.bench.recipe import RecipeCommand, Recipe, Wish
 from wanekupo.chips.layout import Layout, Place, places_of, wanted_of

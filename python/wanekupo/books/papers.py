@@ -13,7 +13,7 @@ from wanekupo.books.numbers import counts
 from wanekupo.books.shift import Period
 from wanekupo.books.steps import Step
 from wanekupo.books.store_rows import Books, StoredSeat
-from wanekupo.seat.rows import rows_of
+from wanekupo.seat.import_rows import rows_of
 
 # The kind, the time, the customer, the seat, the chip, and what it is in words.
 Row = tuple[str, str, str, str, str, str]

@@ -15,7 +15,7 @@ from wanekupo.books.shift import Period, period_of
 from wanekupo.books.steps import Book, books_of, shipped_books
 from wanekupo.books.store import StoreCopy
 from wanekupo.books.store_rows import Books
-from wanekupo.seat.command import Command
+from wanekupo.seat.command_line import Command
 from wanekupo.seat.settings import Settings
 from wanekupo.common.errors import BadSettings, NoPeriod
 from wanekupo.seat.journal_lines import add_folders, named_folders

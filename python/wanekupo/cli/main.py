@@ -12,13 +12,13 @@ import sys
 from typing import Optional, Sequence
 
 from wanekupo import __version__
-from wanekupo.cli import requests as asking
+from wanekupo.cli import change_commands as asking
 from wanekupo.cli import audit
 from wanekupo.bench import bench
 from wanekupo.lots import certificates
-from wanekupo.cli import looks as looking
+from wanekupo.cli import show_commands as looking
 from wanekupo.lots import manifest
-from wanekupo.metrics import textfile as metrics
+from wanekupo.metrics import prometheus_file as metrics
 from wanekupo.cli import reports
 from wanekupo.cli import seal
 from wanekupo.cli import shift as shift_report
@@ -27,7 +27,7 @@ from wanekupo.cli import witness
 from wanekupo.seat.settings import FILES, settings_of
 from wanekupo.common.errors import NoReply, NotTheServer, OutOfStep, Refused, TooLong
 from wanekupo.common.printing import warn
-from wanekupo.seat.command import Command
+from wanekupo.seat.command_line import Command
 from wanekupo.common.sentences import sentence_of
 
 DONE, REFUSED, NOT_SENT, NO_REPLY, QUARANTINED, STOPPED = range(6)

@@ -5,8 +5,8 @@ from __future__ import annotations
 import argparse
 from pathlib import Path
 
-from wanekupo.cli.requests import asks
-from wanekupo.seat.command import Command, file_text, told_as_error
+from wanekupo.cli.change_commands import asks
+from wanekupo.seat.command_line import Command, file_text, told_as_error
 from wanekupo.seat.settings import Settings, looking_station_of
 from wanekupo.common.errors import NotTheServer, StationError
 from wanekupo.seat.journal import issued, merged
@@ -15,7 +15,7 @@ from wanekupo.books.lost import LOST, given_up, lost_csv, lost_formulas, lost_te
 from wanekupo.common.moments import moment_of
 from wanekupo.common.printing import Formulas, Progress, print_shown, table_lines, warn
 from wanekupo.books.report_counts import as_csv, as_text, counts_of, difference_of, formulas_of
-from wanekupo.seat.replays import restore
+from wanekupo.seat.journal_restore import restore
 from wanekupo.seat.station import Station
 
 ISSUED = ("chip", "issuer", "serial", "key_sha256", "mac")

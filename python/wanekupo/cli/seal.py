@@ -14,7 +14,7 @@ from wanekupo.books.compare import Text
 from wanekupo.books.lines import KEY
 from wanekupo.books.stamp import Service
 from wanekupo.books.store import StoreCopy, is_store
-from wanekupo.seat.command import Command
+from wanekupo.seat.command_line import Command
 from wanekupo.seat.settings import Settings, looking_station_of
 from wanekupo.common.errors import BadSettings
 from wanekupo.common.moments import now_text

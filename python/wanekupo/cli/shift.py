@@ -12,7 +12,7 @@ from wanekupo.books.numbers_left import asked, rests
 from wanekupo.books.shift import Owned, period_of, shift_of
 from wanekupo.books.shift_page import as_html, as_text, tables
 from wanekupo.books.steps import books_of, named, told_faults
-from wanekupo.seat.command import Command, told_as_error
+from wanekupo.seat.command_line import Command, told_as_error
 from wanekupo.seat.settings import Settings
 from wanekupo.common.errors import BadSettings
 from wanekupo.common.moments import moment_of, tested_period

@@ -14,7 +14,7 @@ import secrets
 import subprocess
 from pathlib import Path
 
-from wanekupo.seat.command import Command, required_words
+from wanekupo.seat.command_line import Command, required_words
 from wanekupo.seat.settings import Settings
 from wanekupo.common.errors import BadSettings, StationError
 from wanekupo.common.files import opened_own, replace_file, tested_folder

@@ -10,7 +10,7 @@ import argparse
 from pathlib import Path
 from typing import Any, Iterable, Mapping
 
-from wanekupo.seat.command import Command
+from wanekupo.seat.command_line import Command
 from wanekupo.seat.settings import Settings
 from wanekupo.common.errors import BadJournal
 from wanekupo.common.moments import now_text

@@ -16,7 +16,7 @@ from typing import Any, Iterable, Iterator, Mapping, Optional, Sequence
 
 from wanekupo.seat import listings as gathering
 from wanekupo.lots.authority import READABLE, Authority, NotCertified
-from wanekupo.seat.command import Command
+from wanekupo.seat.command_line import Command
 from wanekupo.seat.settings import Settings, looking_station_of
 from wanekupo.common.errors import BadKey, BadSettings, NotTheServer, StationError, UnsafeFile
 from wanekupo.common.files import replace_bytes, tested_folder

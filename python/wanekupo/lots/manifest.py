@@ -19,12 +19,12 @@ from typing import IO, Any, Callable, Iterator, Mapping, Optional, Sequence
 from wanekupo.lots import clouds
 from wanekupo.seat import listings as gathering
 from wanekupo.lots import sheets
-from wanekupo.seat.command import Command
+from wanekupo.seat.command_line import Command
 from wanekupo.seat.settings import Settings, looking_station_of, token_of
 from wanekupo.common.errors import BadKey, BadSettings, StationError
 from wanekupo.common.files import locked, opened_own, replace_bytes, sync
 from wanekupo.lots.idevid import REVOKED, chain_fault
-from wanekupo.seat.records import COLUMNS, Lot, Row, fields_of, is_row, lot_of, device_rows
+from wanekupo.seat.lot_records import COLUMNS, Lot, Row, fields_of, is_row, lot_of, device_rows
 from wanekupo.common.printing import Progress, print_shown, say_json, table_lines, warn
 from wanekupo.common.signing import CMS, DIGEST, MINISIG, Signer, add_signer, beside, digest_file, signer_of
 from wanekupo.lots.spools import CERTIFICATE, certificate_in, certificates_of, der_of, key_of_certificate

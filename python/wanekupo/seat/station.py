@@ -41,7 +41,7 @@ from wanekupo.seat.replies import (
     order_of,
     work_of,
 )
-from wanekupo.seat.rows import LONGEST_BODY, Rows, csv_of, import_parts
+from wanekupo.seat.import_rows import LONGEST_BODY, Rows, csv_of, import_parts
 from wanekupo.seat.state_file import StateFile, members_of
 
 Self = TypeVar("Self", bound="Seat")

@@ -91,7 +91,7 @@ def copy(args: argparse.Namespace, db: str, folder: Path) -> None:
     out(*copy_store(args.program, args.site, db, folder, args.snapshot))
 
 
-def keep(args: argparse.Namespace, name: str) -> None:
+def finish_backup(args: argparse.Namespace, name: str) -> None:
     """What comes behind a copy: its encryption, its name, those that don't stay, and its way off. That way may be shut
     for weeks, or be cut by the unit's time, so it comes last; and what can't be tidied keeps no backup from it."""
     path, untidy = placed(args.into / f"{NEW}{name}", args.into, name, args.recipient), ""
@@ -179,7 +179,7 @@ def run_into(args: argparse.Namespace, by: Callable[[Callable[[], None]], None])
         except SnapshotStaysError as error:
             stays = str(error)
             warn_backup(f"the snapshot can't be removed: {stays}")  # at once, as what comes now may fail too
-        by(lambda: keep(args, name))
+        by(lambda: finish_backup(args, name))
         if stays:
             raise BackupError(f"the backup {name} is here, and its snapshot stays: {stays}")
     except BaseException:

@@ -39,7 +39,7 @@ TRIALS, LEFT, LARGEST = ("trial.*", "tried-by-site.*"), 3600, 65536
 SIZE = re.compile(r"\d{1,9}[bskmgtBSKMGT]?")
 
 
-def stay(names: Iterable[str], days: int, weeks: int) -> set[str]:
+def staying_backups(names: Iterable[str], days: int, weeks: int) -> set[str]:
     """Which backups stay: the newest of each of the last days that have one, and of each of the last such weeks. So a
     week without a backup takes none away."""
     found = sorted((it for it in names if NAME.fullmatch(it)), reverse=True)
@@ -138,7 +138,7 @@ def copy_off(command: str, path: Path) -> None:
 def tidy(folder: Path, days: int, weeks: int) -> list[str]:
     """Removes the backups that don't stay, and gives their names."""
     names = [it.name for it in folder.iterdir() if NAME.fullmatch(it.name)]
-    gone = sorted(set(names) - stay(names, days, weeks))
+    gone = sorted(set(names) - staying_backups(names, days, weeks))
     for name in gone:
         remove(folder / name)
     return gone

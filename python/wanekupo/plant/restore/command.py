@@ -59,7 +59,7 @@ from wanekupo.seat.journal import Journal
 from wanekupo.seat.journal_lines import Folders, folders_at
 from wanekupo.common.printing import Progress
 from wanekupo.common.process import run_command
-from wanekupo.seat.replays import restore_requests
+from wanekupo.seat.journal_restore import restore_requests
 from wanekupo.seat.station import Station
 from wanekupo.common.texts import shown
 

@@ -19,7 +19,7 @@ from wanekupo.common.store_user import UserError, read_small
 from wanekupo.common.token_file import Outer, TokenError, Tokens, check_folder, read, tokens_of
 from wanekupo.common.errors import StationError
 from wanekupo.seat.journal import Asked, requests_in, serials_of
-from wanekupo.seat.replays import tested_requests
+from wanekupo.seat.journal_restore import tested_requests
 from wanekupo.common.texts import brief, shown
 
 # How the name of a seat begins that is for restores alone.

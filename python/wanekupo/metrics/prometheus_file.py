@@ -16,7 +16,7 @@ from functools import partial
 from pathlib import Path
 from typing import Any, Callable, Iterator, Optional
 
-from wanekupo.seat.command import Command, told_as_error
+from wanekupo.seat.command_line import Command, told_as_error
 from wanekupo.seat.settings import Settings, context_of, looking_station_of
 from wanekupo.common.errors import StationError
 from wanekupo.metrics.exposition import Samples

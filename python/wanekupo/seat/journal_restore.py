@@ -11,7 +11,7 @@ from typing import Any, Callable, Iterable, Iterator, Mapping, Sequence
 
 from wanekupo.common.errors import BadJournal, Differs, OutOfStep, Refused
 from wanekupo.seat.journal import Asked, Record, merged, records_of, states_of
-from wanekupo.seat.rows import LONGEST_BODY, Rows, import_parts
+from wanekupo.seat.import_rows import LONGEST_BODY, Rows, import_parts
 from wanekupo.seat.station import Station
 from wanekupo.common.texts import brief
 

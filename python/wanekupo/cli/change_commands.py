@@ -10,7 +10,7 @@ from pathlib import Path
 from typing import Any, Callable, Optional
 
 from wanekupo.chips.chip import bit, chip_of, rlock, value, wlock
-from wanekupo.seat.command import Command, file_text, required_words
+from wanekupo.seat.command_line import Command, file_text, required_words
 from wanekupo.seat.settings import Settings, looking_station_of, station_of
 from wanekupo.common.errors import BadKey, BadSettings, Refused, StationError
 from wanekupo.chips.espefuse import TOOLS, Espefuse, KeyFile, NoEspefuse, NoFuses, find_tool, typed_lines, wishes_of
@@ -19,7 +19,7 @@ from wanekupo.seat.forms import TIME
 from wanekupo.seat.keys import key_digest, keep_csr, public_key_of
 from wanekupo.common.printing import Progress, print_shown, say_json, warn
 from wanekupo.seat.replies import identity_of
-from wanekupo.seat.rows import rows_of
+from wanekupo.seat.import_rows import rows_of
 from wanekupo.seat.station import WRONG_STATE, Station
 from wanekupo.common.texts import shown
 

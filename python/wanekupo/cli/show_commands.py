@@ -5,7 +5,7 @@ from __future__ import annotations
 import argparse
 from typing import Any, Callable, Iterator, Sequence
 
-from wanekupo.seat.command import Command, chip_word, required_words
+from wanekupo.seat.command_line import Command, chip_word, required_words
 from wanekupo.seat.settings import Settings, looking_station_of
 from wanekupo.common.printing import Formulas, print_shown, say_json, table_lines
 from wanekupo.seat.replies import Listed
