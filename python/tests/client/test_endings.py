@@ -465,8 +465,7 @@ class Endings(BenchCase):
             bench.said("left")
             bench.until(lambda board: board["sockets"][0]["chip"] == mac and board["sockets"][0]["state"] == "PASS")
             self.take("left", mac)
-        folder = self.folder / "a1.json.bench" / "chips"
-        keys = [(folder / mac / "BLOCK1.key").read_bytes() for mac in macs_of(2)]
+        keys = [(self.folder / "a1.json.bench/chips" / mac / "BLOCK1.key").read_bytes() for mac in macs_of(2)]
         self.assertNotEqual(*keys)
         for mac, key in zip(macs_of(2), keys):
             known = self.asked("GET", f"/v1/device?chip={mac}")[1]["keys"]

@@ -24,16 +24,17 @@ SITE = f"""customer = [
 ]
 manager = {{ token = "{TEST}" }}
 """
+A1, B1 = TokenSeat("a1", "acme", "abc"), TokenSeat("b1", "bolt", "hello")
+MANAGER = TokenSeat("@manager", "@manager", "test")
 
 
 def seats(*made):
-    return Tokens({it.seat: it for it in made or (TokenSeat("a1", "acme", "abc"), TokenSeat("b1", "bolt", "hello"))})
+    return Tokens({it.seat: it for it in made or (A1, B1)})
 
 
 def outer(number, seat="a1", **more):
-    mine = {"token": f"{seat}:{number}", "looks": False, "mark": "0" * 12, "since": NOW,
-        "text": f"wanekupo_{number:064x}"}
-    return Outer(**{"number": number, "seat": seat, **mine, **more})
+    mine = {"looks": False, "mark": "0" * 12, "since": NOW, "text": f"wanekupo_{number:064x}"}
+    return Outer(**{"number": number, "seat": seat, "token": f"{seat}:{number}", **mine, **more})
 
 
 @pytest.fixture(autouse=True)
@@ -374,14 +375,9 @@ def test_inner(file, tmp_path, capsys):
 
 
 @pytest.mark.parametrize("made, told", [
-    ((TokenSeat("a1", "acme", "abc"), TokenSeat("b1", "bolt", "hello"), TokenSeat("@manager", "@manager", "test")), ""),
-    ((TokenSeat("a1", "acme", "abc"), TokenSeat("b1", "bolt", "hello")), "@manager"),
-    ((TokenSeat("a1", "acme", "abc"), TokenSeat("b1", "bolt", "xx"), TokenSeat("@manager", "@manager", "test")), "b1"),
-    ((TokenSeat("a1", "acme", "abc"), TokenSeat("b1", "bolt", "hello"), TokenSeat("c1", "acme", "xx"),
-      TokenSeat("@m", "@m", "test")),
-     "c1"),
-    ((TokenSeat("a1", "bolt", "abc"), TokenSeat("b1", "bolt", "hello"), TokenSeat("@manager", "@manager", "test")),
-     "a1"),
+    ((A1, B1, MANAGER), ""), ((A1, B1), "@manager"), ((A1, TokenSeat("b1", "bolt", "xx"), MANAGER), "b1"),
+    ((A1, B1, TokenSeat("c1", "acme", "xx"), TokenSeat("@m", "@m", "test")), "c1"),
+    ((TokenSeat("a1", "bolt", "abc"), B1, MANAGER), "a1"),
 ])  # fmt: skip
 def test_check(file, tmp_path, capsys, made, told):
     (tmp_path / "site.toml").write_text(SITE)
@@ -414,24 +410,18 @@ def test_a_token_is_in_its_file_and_on_no_screen(file, tmp_path, capsys):
     assert stat.S_IMODE((tmp_path / "a1.token").stat().st_mode) == 0o600
 
 
-def test_a_token_that_nginx_refuses_is_in_no_file(file, tmp_path, monkeypatch, capsys):
+@pytest.mark.parametrize("is_taken, status", [(False, 4), (True, 5)])
+def test_a_token_that_nginx_refuses_is_in_no_file(file, tmp_path, monkeypatch, capsys, is_taken, status):
+    """And it stays where nginx may go on as before."""
     put(file, tokens_text(seats()))
-    monkeypatch.setattr(token, "test_nginx", lambda command: (False, "emerg"))
-    args = token.token_parser().parse_args(["--file", str(file), "add", "a1", "--to", str(tmp_path / "a1.token")])
-    with pytest.raises(TokenError) as error:
-        token.run_token(args)
-    assert error.value.status == 4 and not (tmp_path / "a1.token").exists() and read(file) == tokens_text(seats())
-    assert capsys.readouterr().out == ""
-
-
-def test_a_token_stays_where_nginx_may_go_on_as_before(file, tmp_path, monkeypatch, capsys):
-    put(file, tokens_text(seats()))
-    monkeypatch.setattr(token, "test_nginx", lambda command: (True, ""))
+    monkeypatch.setattr(token, "test_nginx", lambda command: (is_taken, "emerg"))
     monkeypatch.setattr(token, "reload_nginx", lambda *_: "no worker")
     args = token.token_parser().parse_args(["--file", str(file), "add", "a1", "--to", str(tmp_path / "a1.token")])
     with pytest.raises(TokenError) as error:
         token.run_token(args)
-    assert error.value.status == 5 and (tmp_path / "a1.token").exists() and len(tokens_of(read(file), file).outers) == 1
+    assert error.value.status == status and (tmp_path / "a1.token").exists() == is_taken
+    assert is_taken or (read(file), capsys.readouterr().out) == (tokens_text(seats()), "")
+    assert len(tokens_of(read(file), file).outers) == is_taken
 
 
 def test_where_a_token_can_have_no_file_none_is_made(file, tmp_path):
@@ -445,8 +435,7 @@ def test_where_a_token_can_have_no_file_none_is_made(file, tmp_path):
 def test_one_run_at_a_time(file):
     put(file, tokens_text(seats()))
     with token.alone(file, 0), pytest.raises(TokenError) as error:
-        words = ["--file", str(file), "--no-reload", "--wait", "0", "add", "a1"]
-        token.run_token(token.token_parser().parse_args(words))
+        token.run_token(words(file, "--wait", "0", "add", "a1"))
     assert error.value.status == 3 and read(file) == tokens_text(seats())
 
 
@@ -458,8 +447,7 @@ def test_a_look_changes_no_file(file, monkeypatch):
 
 @pytest.mark.parametrize("error, status, told", [
     (None, 0, ""), (TokenError(3, "busy"), 3, "busy"), (TokenError(5, "late"), 5, "late"),
-    (OSError(2, "No such file", "/f"), 1, "/f"),
-    (UnicodeDecodeError("ascii", b"\xff", 0, 1, "why"), 1, "why"),
+    (OSError(2, "No such file", "/f"), 1, "/f"), (UnicodeDecodeError("ascii", b"\xff", 0, 1, "why"), 1, "why"),
 ])  # fmt: skip
 def test_main(monkeypatch, capsys, error, status, told):
     def run(args):
