@@ -77,12 +77,12 @@ WORDS = "F:4: block.words: words is 9, and has to be 1 to 8 (fault 2)"
     (SITE, "", []), (MAP, "", []), (NO_TOML, "", []),
     (SITE, "station: site fault 3: customer acme, seat 1: the name is there already", []),
     (NO_SITE, "station: site fault 2: customer acme, seat 1: a name has to be 1 to 32 of A-Z a-z 0-9 . _ -", []),
-    (NO_TOML, "station: site fault 1: the text is no TOML document", [r"F:4: the text: it is no TOML 1\.0 .* 1\)"]),
+    (NO_TOML, "station: site fault 1: the text is no TOML document", [r"F:4: the text: it is no TOML 1\.0.* 1\)"]),
     (SITE, "station: site fault 1: the text is no TOML document", []),
     (NO_TOML, "station: site fault 2: manager: ", []), (SITE, "status -9", []), (NO_TOML, "status -9", []),
     (MAP, "station: map fault 2", [WORDS, FIELD]), (MAP, "station: map fault 3", []), (MAP, "status -9", []),
-    (MAP + "x = '\n", "station: map fault 1", [r"F:6: the text: it is no TOML 1\.0 .* 1\)"]),
-    (MAP + 'x = "\\e"\n', "station: map fault 2", [r"F:6: the text: it is no TOML 1\.0 .* 1\)"]),
+    (MAP + "x = '\n", "station: map fault 1", [r"F:6: the text: it is no TOML 1\.0.* 1\)"]),
+    (MAP + 'x = "\\e"\n', "station: map fault 2", [r"F:6: the text: it is no TOML 1\.0.* 1\)"]),
 ])  # fmt: skip
 def test_checked(tmp_path, text, said, lines):
     """The program's own line is the last, and holds. Of what is no TOML 1.0 the line is told where the program names
