@@ -64,7 +64,7 @@ def test_the_addresses_of_both_are_told():
     (site_of(SiteCustomer("acme", [], [], {}), manager=""), "the customer acme"),
     (site_of(SiteCustomer("cog", ["x", "bolt-ca"], [], {}), manager=""),
      "the issuer bolt-ca of bolt, which is cog's there"),
-    (site_of(SiteCustomer("cog", [], [], {"x": FOUR, "a1": "f" * 64}), manager=""), "the seat a1, which is cog's there"),
+    (site_of(SiteCustomer("cog", seats={"x": FOUR, "a1": "f" * 64}), manager=""), "the seat a1, which is cog's there"),
     (site_of(SiteCustomer("cog", [], [], {"x": FOUR, "y": TWO}), manager=""), "the token of the seat b1"),
     (site_of(SiteCustomer("cog", [], [], {"x": THREE}), manager=""), "the token of the manager"),
     (site_of(manager=ONE), "the token of the seat a1"),

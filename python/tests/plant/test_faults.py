@@ -4,6 +4,7 @@ import pytest
 from wanekupo.plant.site.faults import LARGEST_WHOLE, Fault, Reader, doubles, of_toml, read, shown, walked
 from wanekupo.plant.site.positions import places_of
 
+
 @pytest.mark.parametrize("value, text", [
     ("acme", '"acme"'),
     ("a\x1b[2Jb", '"a\\x1b[2Jb"'),

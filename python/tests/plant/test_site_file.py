@@ -1,4 +1,4 @@
-"""The one reader of a site file: what a text gives, by docs/reference/files.md, and what it says of one that is none."""
+"""The one reader of a site file: what a text gives, by docs/reference/files.md, and how one that is none is told."""
 
 from pathlib import Path
 

@@ -96,5 +96,3 @@ NOWHERE = [
 def test_no_place_that_is_sure(site, seat, told):
     with pytest.raises(PlantError, match=told):
         with_seat(site, seat, "f")
-
-

@@ -160,7 +160,8 @@ class Run:
         blocks = self.kept.part("blocks").setdefault(customer, {})
         with self.station(token) as station:
             learn_blocks(station, self.reported[customer], blocks)
-        add_addresses(samples, customer, found.pools, [blocks[name] for name in self.reported[customer] if blocks[name]])
+        own = [blocks[name] for name in self.reported[customer] if blocks[name]]
+        add_addresses(samples, customer, found.pools, own)
 
     def _site(self, samples: Samples, token: Path) -> None:
         """The customers whose own reports there aren't."""
