@@ -11,7 +11,7 @@ from wanekupo.plant.restore.plan import (
     requests_of_seats, standing, tokens_at,
 )  # fmt: skip
 from wanekupo.common.token_file import Outer, TokenSeat, Tokens, text_of
-from wanekupo.common.errors import PlantError, StationError
+from wanekupo.common.errors import StationError
 
 AT = "2026-11-29T00:00:0{}Z"
 
@@ -162,8 +162,9 @@ def test_customers(tmp_path):
         "acme": ({"a1": "ab"}, True), "bolt": ({}, False)
     }  # fmt: skip
     site.write_text("customer = 3")
-    with pytest.raises(PlantError, match="is no site file"):
-        customers_of(site)
+    for path in (site, tmp_path / "none"):
+        with pytest.raises(RestoreError, match="is no site file|No such file"):
+            customers_of(path)
 
 
 # Tokens.

@@ -37,6 +37,12 @@ def test_what_a_text_gives(text: str, site: Site, tmp_path: Path) -> None:
     assert read_site_file(tmp_path / "f") == read_site_file(str(tmp_path / "f")) == site
 
 
+def test_bytes_that_are_no_text(tmp_path: Path) -> None:
+    (tmp_path / "f").write_bytes(b"customer = []\n# \xe9\n")
+    with pytest.raises(SiteFileError, match="/f is no site file: it isn't UTF-8$"):
+        read_site_file(tmp_path / "f")
+
+
 def test_the_customer_of_each_seat() -> None:
     assert read_site(SITE, "t").seats() == {"a1": ACME} and Site().seats() == {}
 

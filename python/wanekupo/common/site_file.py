@@ -64,7 +64,10 @@ def read_site(text: str, title: str) -> Site:
 
 
 def read_site_file(path: str | Path) -> Site:
-    return read_site(Path(path).read_text(encoding="utf-8"), str(path))
+    try:
+        return read_site(Path(path).read_text(encoding="utf-8"), str(path))
+    except UnicodeDecodeError:
+        raise SiteFileError(f"{path} is no site file: it isn't UTF-8") from None
 
 
 def _customer(table: dict[str, Any]) -> SiteCustomer:

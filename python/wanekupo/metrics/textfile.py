@@ -153,7 +153,7 @@ class Run:
             raise StationError("the orders aren't known, as there is no report", "Look at that part.")
         try:
             found = read_site_file(self.args.site).customers.get(customer)
-        except (SiteFileError, ValueError) as error:
+        except SiteFileError as error:
             raise StationError(str(error), "Name the file that the server runs with.") from error
         if found is None:
             raise StationError(f"{self.args.site} has no customer {customer}", "Name the token's file by its customer.")

@@ -17,7 +17,7 @@ from wanekupo.plant.backup.copies import BackupError
 from wanekupo.common.store_user import UserError, read_small
 from wanekupo.common.token_file import Outer, TokenError, Tokens, check_folder, read, tokens_of
 from wanekupo.common.errors import StationError
-from wanekupo.common.site_file import read_site_file
+from wanekupo.common.site_file import SiteFileError, read_site_file
 from wanekupo.seat.journal import Asked, requests_in, serials_of
 from wanekupo.seat.replays import tested_requests
 from wanekupo.common.texts import brief, shown
@@ -75,7 +75,10 @@ class CustomerPlan:
 
 
 def customers_of(site: Path) -> dict[str, CustomerPlan]:
-    found = read_site_file(site).customers
+    try:
+        found = read_site_file(site).customers
+    except (SiteFileError, OSError) as error:
+        raise RestoreError(str(error)) from None
     return {name: CustomerPlan(name, it.seats, bool(it.issuers)) for name, it in found.items()}
 
 
