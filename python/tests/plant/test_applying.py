@@ -239,7 +239,7 @@ def test_which_text_the_store_holds(place, held, words):
         applying.tell_failed(place, GrowthPlan(PLACED, str(backup)), "said")
     assert error.value.status == 4 and "(said)" in str(error.value) and str(backup / "site.toml") in str(error.value)
     told = [it for it in place.calls if it[0] in ("SERVICE", "HELD")]
-    assert told == [("SERVICE", "STOP"), ("HELD", place.site, backup / "site.toml"), ("SERVICE", "START")]
+    assert told == [("SERVICE", "STOP"), ("HELD", NEW, OLD), ("SERVICE", "START")]
 
 
 @pytest.mark.parametrize("printed, status, number", [

@@ -161,10 +161,10 @@ def test_customers(tmp_path):
     assert {name: (it.seats, it.can_order) for name, it in found.items()} == {
         "acme": ({"a1": "ab"}, True), "bolt": ({}, False)
     }  # fmt: skip
-    for text in ("customer = 3", "customer = [{}]", "[", ""):
-        site.write_text(text)
-        with pytest.raises(RestoreError, match="is no site file"):
-            customers_of(site)
+    site.write_text("customer = 3")
+    for path in (site, tmp_path / "none"):
+        with pytest.raises(RestoreError, match="is no site file|No such file"):
+            customers_of(path)
 
 
 # Tokens.
@@ -254,13 +254,6 @@ def test_a_customer_without_a_token_is_told_and_one_without_journals_needs_none(
     with pytest.raises(RestoreError, match="no token of acme is in tokens"):
         choose_seats({"acme": acme, "bolt": bolt}, {"a1": "another's"}, [], Path("tokens"))
     assert choose_seats({"bolt": bolt}, {}, [], Path("tokens")) == [] and not bolt.seat
-
-
-@pytest.mark.parametrize("text", ["x = " + 5000 * "[" + 5000 * "]", "customer = [1]", "customer = 5"])
-def test_what_is_no_site_is_told_in_a_sentence(tmp_path, text):
-    (tmp_path / "site.toml").write_text(text)
-    with pytest.raises(RestoreError, match="is no site file that can be read"):
-        customers_of(tmp_path / "site.toml")
 
 
 def test_a_folder_of_tokens_has_plain_files_of_its_users_own(tmp_path):

@@ -6,6 +6,7 @@ import sys
 
 import pytest
 from scripts import script
+from wanekupo.common.site_file import read_site
 from wanekupo.plant.site.apply import Stopped
 from wanekupo.plant.site.plan import PLACED, PREPARED, GrowthPlan, SeatWish, keep_plan, read_plan
 from wanekupo.common.token_file import TokenSeat, TokenError, Tokens, put, tokens_text
@@ -30,12 +31,8 @@ class FakePlace:
 
     def __init__(self, folder):
         self.site, self.next, self.plan = folder / "site.toml", folder / "site.next.toml", folder / "site.growth"
-        self.tokens, self.program, self.has = folder / "tokens.conf", "station", True
-        self.calls = []
+        self.tokens, self.calls = folder / "tokens.conf", []
         self.site.write_text(TEXT)
-
-    def has_program(self):
-        return self.has
 
     def token_words(self):
         return ["token"]
@@ -163,14 +160,11 @@ def test_no_file_of_somebody_is_a_token(place, tmp_path, kind):
     ("seat", [{"name": "a1", "token": TWO}, {"name": "a", "token": TWO}], [{"name": "a", "token": TWO}]),
 ])  # fmt: skip
 def test_new_ones(kind, items, left):
-    assert site.new_ones(TEXT, "t", "acme", kind, items) == left
-    with pytest.raises(TokenError, match="t has no customer acm: add-customer"):
-        site.new_ones(TEXT, "t", "acm", kind, items)
-    assert (site.added(TEXT, "t", "acme", kind, items) == TEXT) == (not left)
+    assert site.new_ones(given(TEXT)["acme"], kind, items) == left
 
 
 def given(text):
-    return site.given_of(text, "t").customers
+    return read_site(text, "t").customers
 
 
 @pytest.mark.parametrize("line, customer, issuers, pools, seats", [
@@ -203,13 +197,6 @@ def test_no_such_customer_and_no_names(place, line):
 
 
 # ---- commands
-
-
-def test_nothing_is_prepared_without_the_program(place):
-    place.has = False
-    with pytest.raises(TokenError, match="--program P"):
-        site.prepare(words("add-seat", "acme", "a2"), place)
-    assert place.calls == [] and not place.next.exists() and not place.plan.exists()
 
 
 def test_prepare(place, tmp_path, capsys):
@@ -310,27 +297,20 @@ def test_apply_goes_on_with_what_is_placed_without_a_look(place, monkeypatch):
     assert place.calls == [("APPLY", PLACED)]
 
 
-@pytest.mark.parametrize("lines, as_map, others, is_refused", [
-    ([], False, [], False), (["a", "b"], False, [], True), ([], True, ["o"], False), ([], False, ["o"], False),
+@pytest.mark.parametrize("lines, as_map, others", [
+    ([], False, []), (["a", "b"], False, []), ([], True, ["o"]), ([], False, ["o"]),
 ])  # fmt: skip
-def test_check(place, tmp_path, monkeypatch, capsys, lines, as_map, others, is_refused):
-    monkeypatch.setattr(site, "checked", lambda it, path, is_map: lines if is_map == as_map else ["wrong kind"])
+def test_check(place, tmp_path, monkeypatch, capsys, lines, as_map, others):
+    monkeypatch.setattr(site, "checked", lambda it, path: lines)
     (tmp_path / "f").write_text('wr = "x"' if as_map else TEXT)
     args = words("check", "f", *(word for it in others for word in ("--other-site", it)))
-    if is_refused:
+    if lines:
         with pytest.raises(TokenError, match="^a\nb$"):
             site.check(args, place)
         return
     site.check(args, place)
     assert capsys.readouterr().out == f"f is a {'fuse map' if as_map else 'site'}, says the program\n"
     assert place.tested == ([(TEXT, others)] if others and not as_map else [])
-
-
-def test_check_without_the_program_says_so(place, monkeypatch, capsys):
-    place.has = False
-    monkeypatch.setattr(site, "checked", lambda *_: [])
-    site.check(words("check", str(place.site)), place)
-    assert "this tool alone" in capsys.readouterr().out
 
 
 def test_diff(place, tmp_path, capsys):

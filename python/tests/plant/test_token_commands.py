@@ -236,7 +236,7 @@ def test_a_seat_into_a_site_file(file, tmp_path):
 def test_no_line_stands_in_a_string():
     """What looks like the customer's section in a text of several lines is none."""
     text = "note = '''\n[[customer]]\nname = \"acme\"\n[x]\n'''\n[[customer]]\nname = \"acme\"\nissuer = []\n"
-    found = tomllib.loads(token.grown(text, TokenSeat("a1", "acme", "abc"), "t"))
+    found = tomllib.loads(token.with_seat(text, TokenSeat("a1", "acme", "abc"), "t"))
     assert found["customer"] == [{"name": "acme", "issuer": [], "seat": [{"name": "a1", "token": ABC}]}]
     assert found["note"] == tomllib.loads(text)["note"]
 

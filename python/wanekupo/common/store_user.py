@@ -189,6 +189,16 @@ def user_named(name: str) -> "StoreUser":
     return found
 
 
+def reader_for(db: str | Path) -> "StoreUser":
+    """As whom a program reads a text: who runs this, but for root the store's user, and where no store is nobody."""
+    if os.geteuid():
+        return StoreUser("", os.geteuid(), os.getegid())
+    try:
+        return StoreFolder(db).user
+    except UserError:
+        return user_named("nobody")
+
+
 def _user(found: pwd.struct_passwd) -> "StoreUser":
     return StoreUser(found.pw_name, found.pw_uid, found.pw_gid, found.pw_dir)
 
@@ -224,7 +234,7 @@ class StoreUser:
             seconds: float = LONGEST, most: int = PRINTED) -> "subprocess.CompletedProcess[str]":  # fmt: skip
         """A command as the user, with what it printed, of which root believes nothing but its form. `given` is what it
         reads. A name of `fds` is /proc/self/fd/N. Who takes longer, or prints more than `most`, is ended: an error."""
-        with _readable(given) as stdin:
+        with readable(given) as stdin:
             try:
                 child = subprocess.Popen(
                     self.words(*words), stdin=stdin, stdout=subprocess.PIPE, stderr=subprocess.PIPE, cwd=cwd,
@@ -328,8 +338,8 @@ def _ended(child: "subprocess.Popen[bytes]") -> None:
 
 
 @contextlib.contextmanager
-def _readable(text: str) -> Iterator[int]:
-    """A descriptor from which a text is read."""
+def readable(text: str) -> Iterator[int]:
+    """A descriptor from which a text is read, by whomever: as /proc/self/fd/N it is a file."""
     handle = os.memfd_create("given") if text else os.open(os.devnull, os.O_RDONLY)
     try:
         if text:

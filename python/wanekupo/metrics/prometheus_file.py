@@ -26,8 +26,9 @@ from wanekupo.metrics.journal_counts import add_journals
 from wanekupo.metrics.machine import add_backup, add_requests, add_server, add_store
 from wanekupo.common.printing import print_shown, warn
 from wanekupo.common.sentences import sentence_of
+from wanekupo.common.site_file import SiteFileError, read_site_file
 from wanekupo.seat.station import Station
-from wanekupo.metrics.stock import add_addresses, add_customer, add_orders, add_site, learn_blocks, pools_of, table_of
+from wanekupo.metrics.stock import add_addresses, add_customer, add_orders, add_site, learn_blocks, table_of
 
 # The file of the manager's token among those of customers, each of which is NAME.token.
 MANAGER, ENDING = "@manager", ".token"
@@ -150,13 +151,17 @@ class Run:
     def _addresses(self, samples: Samples, customer: str, token: Path) -> None:
         if customer not in self.reported:
             raise StationError("the orders aren't known, as there is no report", "Look at that part.")
-        pools = pools_of(self.args.site).get(customer)
-        if pools is None:
+        try:
+            found = read_site_file(self.args.site).customers.get(customer)
+        except SiteFileError as error:
+            raise StationError(str(error), "Name the file that the server runs with.") from error
+        if found is None:
             raise StationError(f"{self.args.site} has no customer {customer}", "Name the token's file by its customer.")
         blocks = self.kept.part("blocks").setdefault(customer, {})
         with self.station(token) as station:
             learn_blocks(station, self.reported[customer], blocks)
-        add_addresses(samples, customer, pools, [blocks[name] for name in self.reported[customer] if blocks[name]])
+        own = [blocks[name] for name in self.reported[customer] if blocks[name]]
+        add_addresses(samples, customer, found.pools, own)
 
     def _site(self, samples: Samples, token: Path) -> None:
         """The customers whose own reports there aren't."""

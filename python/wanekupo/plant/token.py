@@ -43,11 +43,12 @@ from wanekupo.common.process import end_tool, run_command
 from wanekupo.standby import living
 from wanekupo.standby.half import SETTINGS, Half, StandbyError, read_settings
 from wanekupo.common.token_file import (
-    HEALTH, LAST, MINUTE, PREFIX, Outer, TokenError, Tokens, TokenSeat, alone, check_folder, inner_of, is_past,
+    HEALTH, LAST, MANAGER, MINUTE, PREFIX, Outer, TokenError, Tokens, TokenSeat, alone, check_folder, inner_of, is_past,
     mark_of, current_minute, put, read, tokens_text, tokens_of,
 )  # fmt: skip
-from wanekupo.common.site_file import digest_of, digests_of, grown, is_in, lines_of
+from wanekupo.common.site_file import digest_of, read_site_file
 from wanekupo.common.files import make_file, replace_file
+from wanekupo.plant.site.growth import lines_of, with_seat
 
 NAMED = "station-token"
 
@@ -208,9 +209,22 @@ def left_to_the_other(path: Path, tokens: Tokens) -> Optional[TokenError]:
 # ---- commands
 
 
+def digests_of(path: str) -> dict[str, tuple[str, str]]:
+    """The digest of each seat of a site file with its customer, and of the manager, by name."""
+    site = read_site_file(path)
+    found = {seat: (it.name, it.seats[seat]) for seat, it in site.seats().items()}
+    return found | ({MANAGER: (MANAGER, site.manager)} if site.manager else {})
+
+
+def is_in(digests: dict[str, tuple[str, str]], seat: TokenSeat) -> bool:
+    """Whether a site has a seat with its token; a manager's name isn't in the site."""
+    customer, digest = digests.get(MANAGER if seat.is_manager() else seat.seat, ("", ""))
+    return digest == digest_of(seat.inner) and (seat.is_manager() or customer == seat.customer)
+
+
 def taken_over(args: argparse.Namespace, name: str, server: str) -> TokenSeat:
     """A seat that the site file has, with its token out of a file."""
-    digests = digests_of(Path(args.site).read_text(encoding="utf-8"), args.site)
+    digests = digests_of(args.site)
     customer = name if name.startswith("@") else digests.get(name, ("", ""))[0]
     made = TokenSeat(name, customer, inner_of(args.known), server)
     if not is_in(digests, made):
@@ -239,7 +253,7 @@ def seat(args: argparse.Namespace, tokens: Tokens) -> Outcome:
     if args.into:
         if not os.access(args.into, os.W_OK):
             raise TokenError(1, f"{args.into} can't be written")
-        text = grown(Path(args.into).read_text(encoding="utf-8"), made, args.into)
+        text = with_seat(Path(args.into).read_bytes().decode(), made, args.into)
         return Outcome(told=f"{made.title()} is in {args.into}", site=text)
     return Outcome(lines_of(made), f"{made.title()}: these lines are for the site file")
 
@@ -365,7 +379,7 @@ def inner(args: argparse.Namespace, tokens: Tokens) -> Outcome:
 
 
 def check_file(args: argparse.Namespace, tokens: Tokens) -> Outcome:
-    digests = digests_of(Path(args.site).read_text(encoding="utf-8"), args.site)
+    digests = digests_of(args.site)
     lines = [f"{it.title()}: {args.site} has it not, or with another token"
              for it in tokens.seats.values() if not is_in(digests, it)]  # fmt: skip
     held = {digest_of(it.inner) for it in tokens.seats.values()}

@@ -20,8 +20,7 @@ from pathlib import Path
 from wanekupo.standby import living
 from wanekupo.standby.half import Half, StandbyError, done, run_bounded
 from wanekupo.common.store_user import StoreFolder, user_named
-from wanekupo.common.token_file import MANAGER, TokenError
-from wanekupo.common.site_file import digests_of
+from wanekupo.common.site_file import SiteFileError, read_site_file
 
 # A seat and its last number, in a line of a witness, and of what sqlite3 reads of a half.
 SEAT = re.compile(r"seat ([A-Za-z0-9._-]{1,32}) ([0-9]{1,16})")
@@ -117,8 +116,8 @@ def tested_owner(half: Half, store: StoreFolder) -> None:
 def seats_of(site: str) -> list[str]:
     """The seats that a site file names. The manager is none: it looks, and has no number."""
     try:
-        return [name for name in digests_of(Path(site).read_text(encoding="utf-8"), site) if name != MANAGER]
-    except (TokenError, OSError, UnicodeDecodeError, RecursionError) as error:
+        return list(read_site_file(site).seats())
+    except (SiteFileError, OSError) as error:
         raise StandbyError(f"The seats of {site} can't be read: {error}.") from None
 
 

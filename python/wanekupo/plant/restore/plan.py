@@ -8,7 +8,6 @@ import contextlib
 import hashlib
 import heapq
 import os
-import tomllib
 from collections.abc import Collection, Iterable, Iterator
 from dataclasses import dataclass, field
 from pathlib import Path
@@ -18,6 +17,7 @@ from wanekupo.plant.backup.copies import BackupError
 from wanekupo.common.store_user import UserError, read_small
 from wanekupo.common.token_file import Outer, TokenError, Tokens, check_folder, read, tokens_of
 from wanekupo.common.errors import StationError
+from wanekupo.common.site_file import SiteFileError, read_site_file
 from wanekupo.seat.journal import Asked, requests_in, serials_of
 from wanekupo.seat.journal_restore import tested_requests
 from wanekupo.common.texts import brief, shown
@@ -76,15 +76,10 @@ class CustomerPlan:
 
 def customers_of(site: Path) -> dict[str, CustomerPlan]:
     try:
-        text = tomllib.loads(site.read_text(encoding="utf-8"))
-        return {
-            it["name"]: CustomerPlan(
-                it["name"], {seat["name"]: seat["token"].lower() for seat in it.get("seat", [])}, bool(it["issuer"])
-            )
-            for it in text["customer"]
-        }
-    except (OSError, ValueError, KeyError, TypeError, AttributeError, RecursionError) as error:
-        raise RestoreError(f"{site} is no site file that can be read: {error}") from None
+        found = read_site_file(site).customers
+    except (SiteFileError, OSError) as error:
+        raise RestoreError(str(error)) from None
+    return {name: CustomerPlan(name, it.seats, bool(it.issuers)) for name, it in found.items()}
 
 
 # Journals.

@@ -161,7 +161,7 @@ def tell_failed(place: Place, plan: GrowthPlan, said: str) -> None:
     old = Path(plan.backup, "site.toml")
     try:
         text = place.user.run("cat", "--", str(old), seconds=MINUTE).stdout
-        held = place.held_text([place.site, *([old] if text else [])])
+        held = place.held_text([text_in(place.site), *([text] if text else [])])
         if held == text_in(place.site):
             told = f"The store holds the new text by now: start it with that alone, which is {place.site}."
         elif held == text:
