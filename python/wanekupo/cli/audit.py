@@ -11,6 +11,7 @@ from wanekupo.books.audit import audit_of
 from wanekupo.books.audit_page import as_html, as_text, found_table
 from wanekupo.books.matches import seated
 from wanekupo.books.pages import write
+from wanekupo.books.replay import replay
 from wanekupo.books.shift import Period, period_of
 from wanekupo.books.steps import Book, books_of, shipped_books
 from wanekupo.books.store import StoreCopy
@@ -38,6 +39,8 @@ def _add_arguments(parser: argparse.ArgumentParser) -> None:
     add_folders(parser)
     parser.add_argument("--html", metavar="FILE", help="write a page, to be read and printed")
     parser.add_argument("--csv", metavar="FILE", help="write what is found as comma-separated values")
+    told = "have this program answer the lines once more, and compare its replies and tables: station, or its path"
+    parser.add_argument("--program", metavar="STATION", help=told)
     add_signer(parser)
 
 
@@ -82,6 +85,9 @@ def _audit(_: Settings, args: argparse.Namespace) -> int:
     with StoreCopy(path) as store:
         books = Books(store)
         audit = audit_of(books, journals, period, text_of(datetime.now(timezone.utc)))
+        if args.program:
+            found, audit.replayed = replay(args.program, journals, books)
+            audit.add(found)
         behind = _behind(books, journals, period) if audit.found else ""
     if args.html:
         write(Path(args.html), as_html(audit, _read(path, journals)))

@@ -1,0 +1,174 @@
+"""In which order a customer's requests were done: the lines of each seat by their numbers, and the steps of devices by
+the entries of the store's ledgers.
+
+An order, a map or an import has no entry. Clocks say when it came, but not before what it shows is so: an order has its
+addresses, an import counts what is given, and a device has its order, its map and its serial number.
+"""
+
+from __future__ import annotations
+
+from collections import deque
+from dataclasses import dataclass
+from itertools import count
+from typing import Iterable, Iterator, Mapping, Optional, Sequence
+
+from wanekupo.books.matches import Seated
+from wanekupo.books.papers import is_there
+from wanekupo.books.steps import Book, Step
+from wanekupo.books.store_rows import Books, LedgerRow, Row, StoredSeat, serial_of
+from wanekupo.common.errors import StationError
+from wanekupo.seat.rows import rows_of
+
+ORDER, MAP, IMPORT = "/v1/order", "/v1/map", "/v1/import"
+
+# The lines of each number of a seat.
+Lines = Mapping[int, list[Step]]
+
+
+class NotWhole(StationError):
+    """Why a customer's lines can't be answered once more."""
+
+
+class NotLaid(StationError):
+    """An entry that isn't its seat's next line, or such a line without an entry."""
+
+    def __init__(self, told: str, seat: str, chip: str, at: str = ""):
+        super().__init__(told)
+        self.seat, self.chip, self.at = seat, chip, at
+
+
+@dataclass(frozen=True, slots=True)
+class Done:
+    """A request that the store has, with its seat, and with its entry where it is a step of a device."""
+
+    seat: str
+    step: Step
+    entry: Optional[LedgerRow] = None
+
+
+def _numbered(seat: StoredSeat, lines: Lines) -> deque[list[Step]]:
+    """The lines of each number that the store knows of a seat."""
+    lacking = next(number for number in count(1) if number not in lines)
+    if lacking <= seat.last:
+        raise NotWhole(f"these journals lack the number {lacking} of {seat.name}")
+    return deque(_candidates(seat.name, lines[number]) for number in range(1, seat.last + 1))
+
+
+def _candidates(seat: str, lines: Sequence[Step]) -> list[Step]:
+    """The lines of a number, one of which was done: the accepted one, else one without a reply, else a late copy."""
+    done = [it for it in lines if it.is_done()]
+    other = next((it for it in done if it.digest != done[0].digest), None)
+    if other:
+        told = f"{done[0].place()} and {other.place()} have the number {other.number} of {seat}"
+        raise NotWhole(f"{told}, so the store became an older one")
+    return done[:1] or sorted(lines, key=lambda it: it.status is not None)
+
+
+def _imported(step: Step) -> set[tuple[str, str]]:
+    """The serial numbers of an import, each behind its issuer."""
+    try:
+        return {(str(step.asked.get("issuer")), serial) for serial, _ in rows_of(str(step.asked.get("csv")))}
+    except ValueError:
+        return set()
+
+
+class Requests:
+    """A customer's requests that the store has. `importers` are the seats that imported."""
+
+    def __init__(self, customer: str, store: Books, lines: Mapping[str, Lines]):
+        self._owner, self._store = Seated(Book([]), "", customer, ""), store
+        seats = [it for it in store.seats.values() if it.customer == customer and it.last > 0]
+        self._queues = {it.name: _numbered(it, lines.get(it.name, {})) for it in seats}
+        self.importers = {name for name, queue in self._queues.items() if any(it[0].path == IMPORT for it in queue)}
+        self._pools = [list(it) for it in store.pools.get(customer, ())]
+        self._made, self._given = set[str](), set[tuple[str, str]]()
+        self._next, self._order_of = dict[str, int](), dict[str, str]()
+
+    def left(self) -> int:
+        return sum(map(len, self._queues.values()))
+
+    def in_order(self, entries: Iterable[LedgerRow]) -> Iterator[Done]:
+        """One after another, in an order in which they may have been done. `entries` come in theirs."""
+        steps = iter(entries)
+        entry = next(steps, None)
+        while entry or self.left():
+            heads = [self._head(seat, queue[0], entry) for seat, queue in self._queues.items() if queue]
+            free = [it for it in heads if it]
+            if not free:
+                raise self._not_laid(entry)
+            first = min(free, key=lambda it: (not self._is_ready(it), it.step.at))
+            self._queues[first.seat].popleft()
+            yield first
+            self._take(first)
+            entry = next(steps, None) if first.entry else entry
+
+    def _head(self, seat: str, lines: list[Step], entry: Optional[LedgerRow]) -> Optional[Done]:
+        """Which of the lines of a seat's next number was done, unless others have to be done before it."""
+        if entry and entry.row["seat"] == seat:
+            for it in lines:
+                if (it.chip, it.event) == (entry.chip, entry.row["event"]):
+                    return Done(seat, it, entry)
+        papers = (it for it in lines if not it.event)
+        paper = next((it for it in papers if len(lines) == 1 or is_there(self._owner, it, self._store)), None)
+        return Done(seat, paper) if paper else None
+
+    def _not_laid(self, entry: Optional[LedgerRow]) -> NotLaid:
+        if entry is None:
+            seat, step = next((seat, queue[0][0]) for seat, queue in self._queues.items() if queue)
+            told = f"{step.place()}, {step.event}, has no entry, and its number was given"
+            return NotLaid(told, seat, step.chip, step.at)
+        seat = entry.row["seat"]
+        behind = next((f", which is {it[0].place()}" for it in self._queues.get(seat, ())), "")
+        told = f"the entry {entry.row['n']}, {entry.row['event']}, isn't of the next step of {seat}{behind}"
+        return NotLaid(told, seat, entry.chip)
+
+    def _order(self, name: str) -> Optional[Row]:
+        return self._store.orders.get((self._owner.customer, name))
+
+    def _next_of(self, order: Optional[Row]) -> Optional[str]:
+        """The least serial number of an order that isn't given yet."""
+        if order is None:
+            return None
+        number, end = self._next.get(order["name"], order["first"]), order["first"] + order["quantity"]
+        while number < end and (order["issuer"], serial_of(order, number)) in self._given:
+            number += 1
+        self._next[order["name"]] = number
+        return serial_of(order, number) if number < end else None
+
+    def _pool_of(self, order: Row) -> Optional[list[int]]:
+        """What is left of the pool of which an order gets its addresses now."""
+        size = order["quantity"] * order["macs"]
+        return next((it for it in self._pools if it[1] >= size), None) if size else None
+
+    def _is_ready(self, done: Done) -> bool:
+        """Whether what a request shows is so by now."""
+        step, reply = done.step, done.step.reply
+        if step.event == "registered":
+            return {str(step.asked["order"]), str(step.asked["map"]).lower()} <= self._made
+        if done.entry and step.event == "identified":
+            return self._next_of(self._order(self._order_of.get(step.chip, ""))) == done.entry.row["note"]
+        if step.path == IMPORT:
+            return reply.get("added", 0) == len(_imported(step) - self._given) or "added" not in reply
+        order = self._order(str(step.asked["name"])) if step.path == ORDER else None
+        if order is None:
+            return True
+        pool, least = self._pool_of(order), self._next_of(order)
+        return order["mac"] == (f"{pool[0]:012x}" if pool else None) and reply.get("next", least) == least
+
+    def _take(self, done: Done) -> None:
+        step = done.step
+        order = self._order(str(step.asked["name"])) if step.path == ORDER else None
+        if step.event == "registered":
+            self._order_of[step.chip] = str(step.asked["order"])
+        elif done.entry and step.event == "identified":
+            own = self._order(self._order_of.get(step.chip, ""))
+            self._given |= {(own["issuer"], done.entry.row["note"])} if own else set()
+        elif step.path == IMPORT:
+            self._given |= _imported(step)
+        elif step.path == MAP:
+            self._made.add(step.digest_of_text())
+        elif order:
+            self._made.add(order["name"])
+            if pool := self._pool_of(order):
+                size = order["quantity"] * order["macs"]
+                pool[:] = pool[0] + size, pool[1] - size
