@@ -9,6 +9,7 @@ from __future__ import annotations
 
 from collections import deque
 from dataclasses import dataclass
+from functools import lru_cache
 from itertools import count
 from typing import Iterable, Iterator, Mapping, Optional, Sequence
 
@@ -51,25 +52,32 @@ def _numbered(seat: StoredSeat, lines: Lines) -> deque[list[Step]]:
     lacking = next(number for number in count(1) if number not in lines)
     if lacking <= seat.last:
         raise NotWhole(f"these journals lack the number {lacking} of {seat.name}")
-    return deque(_candidates(seat.name, lines[number]) for number in range(1, seat.last + 1))
+    return deque(_candidates(seat, lines[number]) for number in range(1, seat.last + 1))
 
 
-def _candidates(seat: str, lines: Sequence[Step]) -> list[Step]:
-    """The lines of a number, one of which was done: the accepted one, else one without a reply, else a late copy."""
+def _candidates(seat: StoredSeat, lines: Sequence[Step]) -> list[Step]:
+    """The lines of a number, one of which was done: the accepted one, else one without a reply, else a late copy. Of
+    several the later one, as its station asked for the number when the earlier one wasn't done."""
     done = [it for it in lines if it.is_done()]
     other = next((it for it in done if it.digest != done[0].digest), None)
     if other:
-        told = f"{done[0].place()} and {other.place()} have the number {other.number} of {seat}"
+        told = f"{done[0].place()} and {other.place()} have the number {other.number} of {seat.name}"
         raise NotWhole(f"{told}, so the store became an older one")
-    return done[:1] or sorted(lines, key=lambda it: it.status is not None)
+    kept = [it for it in lines if (it.number, it.digest) == (seat.last, seat.digest)]
+    return done[:1] or kept or sorted(reversed(lines), key=lambda it: it.status is not None)
 
 
-def _imported(step: Step) -> set[tuple[str, str]]:
+@lru_cache
+def _imported(issuer: str, csv: str) -> frozenset[tuple[str, str]]:
     """The serial numbers of an import, each behind its issuer."""
     try:
-        return {(str(step.asked.get("issuer")), serial) for serial, _ in rows_of(str(step.asked.get("csv")))}
+        return frozenset((issuer, serial) for serial, _ in rows_of(csv))
     except ValueError:
-        return set()
+        return frozenset()
+
+
+def _rows(step: Step) -> frozenset[tuple[str, str]]:
+    return _imported(str(step.asked["issuer"]), str(step.asked["csv"]))
 
 
 class Requests:
@@ -78,6 +86,8 @@ class Requests:
     def __init__(self, customer: str, store: Books, lines: Mapping[str, Lines]):
         self._owner, self._store = Seated(Book([]), "", customer, ""), store
         seats = [it for it in store.seats.values() if it.customer == customer and it.last > 0]
+        if others := [it.name for it in seats if store.site_seats.get(it.name) != customer]:
+            raise NotWhole(f"the site's text, as it is read here, has no seat {others[0]} of it")
         self._queues = {it.name: _numbered(it, lines.get(it.name, {})) for it in seats}
         self.importers = {name for name, queue in self._queues.items() if any(it[0].path == IMPORT for it in queue)}
         self._pools = [list(it) for it in store.pools.get(customer, ())]
@@ -148,7 +158,7 @@ class Requests:
         if done.entry and step.event == "identified":
             return self._next_of(self._order(self._order_of.get(step.chip, ""))) == done.entry.row["note"]
         if step.path == IMPORT:
-            return reply.get("added", 0) == len(_imported(step) - self._given) or "added" not in reply
+            return reply.get("added", 0) == len(_rows(step) - self._given) or "added" not in reply
         order = self._order(str(step.asked["name"])) if step.path == ORDER else None
         if order is None:
             return True
@@ -164,7 +174,7 @@ class Requests:
             own = self._order(self._order_of.get(step.chip, ""))
             self._given |= {(own["issuer"], done.entry.row["note"])} if own else set()
         elif step.path == IMPORT:
-            self._given |= _imported(step)
+            self._given |= _rows(step)
         elif step.path == MAP:
             self._made.add(step.digest_of_text())
         elif order:
