@@ -13,9 +13,7 @@ from functools import lru_cache
 from itertools import count
 from typing import Iterable, Iterator, Mapping, Optional, Sequence
 
-from wanekupo.books.matches import Seated
-from wanekupo.books.papers import is_there
-from wanekupo.books.steps import Book, Step
+from wanekupo.books.steps import Step
 from wanekupo.books.store_rows import Books, LedgerRow, Row, StoredSeat, serial_of
 from wanekupo.common.errors import StationError
 from wanekupo.seat.rows import rows_of
@@ -84,7 +82,7 @@ class Requests:
     """A customer's requests that the store has. `importers` are the seats that imported."""
 
     def __init__(self, customer: str, store: Books, lines: Mapping[str, Lines]):
-        self._owner, self._store = Seated(Book([]), "", customer, ""), store
+        self._customer, self._store = customer, store
         seats = [it for it in store.seats.values() if it.customer == customer and it.last > 0]
         if others := [it.name for it in seats if store.site_seats.get(it.name) != customer]:
             raise NotWhole(f"the site's text, as it is read here, has no seat {others[0]} of it")
@@ -114,26 +112,24 @@ class Requests:
 
     def _head(self, seat: str, lines: list[Step], entry: Optional[LedgerRow]) -> Optional[Done]:
         """Which of the lines of a seat's next number was done, unless others have to be done before it."""
-        if entry and entry.row["seat"] == seat:
-            for it in lines:
-                if (it.chip, it.event) == (entry.chip, entry.row["event"]):
-                    return Done(seat, it, entry)
-        papers = (it for it in lines if not it.event)
-        paper = next((it for it in papers if len(lines) == 1 or is_there(self._owner, it, self._store)), None)
-        return Done(seat, paper) if paper else None
+        said = (entry.chip, entry.row["event"]) if entry and entry.row["seat"] == seat else None
+        step = next((it for it in lines if (it.chip, it.event) == said), None)
+        paper = next((it for it in lines if not it.event), None)
+        return Done(seat, step, entry) if step else Done(seat, paper) if paper else None
 
     def _not_laid(self, entry: Optional[LedgerRow]) -> NotLaid:
+        heads = {seat: queue[0][0] for seat, queue in self._queues.items() if queue}
         if entry is None:
-            seat, step = next((seat, queue[0][0]) for seat, queue in self._queues.items() if queue)
+            seat, step = next(iter(heads.items()))
             told = f"{step.place()}, {step.event}, has no entry, and its number was given"
             return NotLaid(told, seat, step.chip, step.at)
         seat = entry.row["seat"]
-        behind = next((f", which is {it[0].place()}" for it in self._queues.get(seat, ())), "")
+        behind = f", which is {heads[seat].place()}" if seat in heads else ""
         told = f"the entry {entry.row['n']}, {entry.row['event']}, isn't of the next step of {seat}{behind}"
         return NotLaid(told, seat, entry.chip)
 
     def _order(self, name: str) -> Optional[Row]:
-        return self._store.orders.get((self._owner.customer, name))
+        return self._store.orders.get((self._customer, name))
 
     def _next_of(self, order: Optional[Row]) -> Optional[str]:
         """The least serial number of an order that isn't given yet."""
@@ -152,18 +148,19 @@ class Requests:
 
     def _is_ready(self, done: Done) -> bool:
         """Whether what a request shows is so by now."""
-        step, reply = done.step, done.step.reply
+        step = done.step
         if step.event == "registered":
             return {str(step.asked["order"]), str(step.asked["map"]).lower()} <= self._made
         if done.entry and step.event == "identified":
             return self._next_of(self._order(self._order_of.get(step.chip, ""))) == done.entry.row["note"]
         if step.path == IMPORT:
-            return reply.get("added", 0) == len(_rows(step) - self._given) or "added" not in reply
+            added = len(_rows(step) - self._given)
+            return step.reply.get("added", added) == added
         order = self._order(str(step.asked["name"])) if step.path == ORDER else None
         if order is None:
             return True
-        pool, least = self._pool_of(order), self._next_of(order)
-        return order["mac"] == (f"{pool[0]:012x}" if pool else None) and reply.get("next", least) == least
+        pool = self._pool_of(order)
+        return order["mac"] == (f"{pool[0]:012x}" if pool else None)
 
     def _take(self, done: Done) -> None:
         step = done.step
