@@ -85,10 +85,10 @@ def _audit(_: Settings, args: argparse.Namespace) -> int:
     with StoreCopy(path) as store:
         books = Books(store)
         audit = audit_of(books, journals, period, text_of(datetime.now(timezone.utc)))
+        behind = _behind(books, journals, period) if audit.found else ""
         if args.program:
             found, audit.replayed = replay(args.program, journals, books)
             audit.add(found)
-        behind = _behind(books, journals, period) if audit.found else ""
     if args.html:
         write(Path(args.html), as_html(audit, _read(path, journals)))
         if signer:
