@@ -83,7 +83,8 @@ class Bodies:
         keys = {block for _, block in words.keys}
         found, unknown = list[list[str]](), list[int]()
         for block, (digest, count) in enumerate(zip(digests, words.blocks)):
-            bits = int.from_bytes(self._keys.key_of(digest), "little") if block in keys else shown.bits(block, digest)
+            key = self._keys.key_of(digest) if block in keys else b""
+            bits = int.from_bytes(key, "little") if key else shown.bits(block, digest)
             unknown += [block] if bits is None else []
             found.append(_words(bits or 0, count))
         return found + [["00000000"] for _ in digests[len(found) :]], unknown

@@ -6,6 +6,7 @@ books. So the lines of each customer whose journals are whole are answered once 
 
 from __future__ import annotations
 
+import contextlib
 import hashlib
 import json
 import tempfile
@@ -188,12 +189,18 @@ def _without_later(text: str) -> str:
 def _differences(reply: Mapping[str, Any], own: Mapping[str, Any], where: str, but: Iterable[str]) -> Iterator[str]:
     """In which members of the program's something else stands; all but some have to be there."""
     for name, it in reply.items():
-        said = own.get(name)
-        said = json.loads(said) if name in WORKS and isinstance(said, str) else said
+        said = _loaded(own.get(name)) if name in WORKS else own.get(name)
         is_later = name == LATER and it is None
         if (name in own or not is_later) and name not in but and said != it:
             stands = _brief(said) if name in own else "missing"
             yield f"{name} is {stands} in the {where}, and {_brief(it)} by the program"
+
+
+def _loaded(it: Any) -> Any:
+    """A part of a reply, which may be in memory as its text."""
+    with contextlib.suppress(TypeError, ValueError, RecursionError):
+        return json.loads(it)
+    return it
 
 
 def _brief(it: Any) -> str:

@@ -1,8 +1,8 @@
 """In which order a customer's requests were done: the lines of each seat by their numbers, and the steps of devices by
 the entries of the store's ledgers.
 
-An order, a map or an import has no entry. Clocks say when it came, but not before what it shows is so: an order has its
-addresses, an import counts what is given, and a device has its order, its map and its serial number.
+An order, a map or an import has no entry. Clocks say when it came, but it waits for what was surely before it: an order
+for its addresses, a device for its order, its map and its serial number, an import for what devices were given.
 """
 
 from __future__ import annotations
@@ -11,7 +11,7 @@ from collections import deque
 from dataclasses import dataclass
 from functools import lru_cache
 from itertools import count
-from typing import Iterable, Iterator, Mapping, Optional, Sequence
+from typing import Iterator, Mapping, Optional, Sequence
 
 from wanekupo.books.steps import Step
 from wanekupo.books.store_rows import Books, LedgerRow, Row, StoredSeat, serial_of
@@ -62,7 +62,8 @@ def _candidates(seat: StoredSeat, lines: Sequence[Step]) -> list[Step]:
         told = f"{done[0].place()} and {other.place()} have the number {other.number} of {seat.name}"
         raise NotWhole(f"{told}, so the store became an older one")
     kept = [it for it in lines if (it.number, it.digest) == (seat.last, seat.digest)]
-    return done[:1] or kept or sorted(reversed(lines), key=lambda it: it.status is not None)
+    maybe = [it for it in reversed(lines) if not it.is_stop()]
+    return done[:1] or kept or sorted(maybe, key=lambda it: it.status is not None) or list(lines)
 
 
 @lru_cache
@@ -89,15 +90,16 @@ class Requests:
         self._queues = {it.name: _numbered(it, lines.get(it.name, {})) for it in seats}
         self.importers = {name for name, queue in self._queues.items() if any(it[0].path == IMPORT for it in queue)}
         self._pools = [list(it) for it in store.pools.get(customer, ())]
-        self._made, self._given = set[str](), set[tuple[str, str]]()
+        self._made, self._given, self._to_come = set[str](), set[tuple[str, str]](), set[str]()
         self._next, self._order_of = dict[str, int](), dict[str, str]()
 
     def left(self) -> int:
         return sum(map(len, self._queues.values()))
 
-    def in_order(self, entries: Iterable[LedgerRow]) -> Iterator[Done]:
+    def in_order(self, entries: Sequence[LedgerRow]) -> Iterator[Done]:
         """One after another, in an order in which they may have been done. `entries` come in theirs."""
         steps = iter(entries)
+        self._to_come = {it.row["note"] for it in entries if it.row["event"] == "identified"}
         entry = next(steps, None)
         while entry or self.left():
             heads = [self._head(seat, queue[0], entry) for seat, queue in self._queues.items() if queue]
@@ -147,15 +149,14 @@ class Requests:
         return next((it for it in self._pools if it[1] >= size), None) if size else None
 
     def _is_ready(self, done: Done) -> bool:
-        """Whether what a request shows is so by now."""
+        """Whether what a request rests on was done."""
         step = done.step
         if step.event == "registered":
             return {str(step.asked["order"]), str(step.asked["map"]).lower()} <= self._made
         if done.entry and step.event == "identified":
             return self._next_of(self._order(self._order_of.get(step.chip, ""))) == done.entry.row["note"]
         if step.path == IMPORT:
-            added = len(_rows(step) - self._given)
-            return step.reply.get("added", added) == added
+            return self._given.issuperset(it for it in _rows(step) if it[1] in self._to_come)
         order = self._order(str(step.asked["name"])) if step.path == ORDER else None
         if order is None:
             return True
