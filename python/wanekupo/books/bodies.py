@@ -101,7 +101,7 @@ class Shown:
         self._layout, self._before, self._after, self._note = layout, before, after, note
 
     def bits(self, block: int, digest: str) -> Optional[int]:
-        """The bits of a block with this digest. Where a read-back lost some, or showed hidden ones, any such will do."""
+        """The bits of a block with this digest. Where some were lost, or hidden ones showed, others like it will do."""
         after, known = self._after[block], self._before[block]
         hidden = self._hidden(block)
         readable = after & ~hidden | after & ~known
@@ -109,8 +109,8 @@ class Shown:
         size = 4 * self._layout.blocks[block]
         digests = ((it, hashlib.sha256(it.to_bytes(size, "little")).hexdigest()) for it in tried)
         found = next((it for it, made in digests if made == digest), None)
-        if found is None and self._note == "lost" and readable & known:
-            return next(_but_one(readable, known))
+        if found is None and self._note == "lost":
+            return next(_but_one(readable, known), readable)
         return after if found is None and self._note == "stray" and after & hidden else found
 
     def _hidden(self, block: int) -> int:

@@ -18,7 +18,7 @@ from wanekupo.books.audit import Found
 from wanekupo.books.bodies import Bodies, Keys
 from wanekupo.books.matches import seated
 from wanekupo.books.program import Program, program_named
-from wanekupo.books.sequence import IMPORT, ORDER, Done, NotLaid, NotWhole, Requests
+from wanekupo.books.sequence import Done, NotLaid, NotWhole, Requests
 from wanekupo.books.steps import PATHS, REPLIED, WORKS, Book, Step
 from wanekupo.books.store_rows import Books, LedgerRow
 from wanekupo.common.texts import brief, compact_json
@@ -132,16 +132,14 @@ class Answers:
         except NotLaid as error:
             yield self._fault(f"{error}; what came behind it wasn't replayed", error.seat, error.chip, error.at)
 
-    def _differences(self, done: Done, text: str) -> Iterator[str]:
+    def _differences(self, done: Done, text: str) -> list[str]:
         """In what a line's reply isn't the program's. What of a step of a device nobody looks at isn't in memory."""
         step, reply = done.step, json.loads(text)
-        slim = reply.keys() - REPLIED - WORKS if step.event not in ("", "identified") else set[str]()
-        return _differences(reply, step.reply, "journal", slim | self._unsure(done)) if step.is_done() else iter(())
-
-    def _unsure(self, done: Done) -> set[str]:
-        """What of a reply depends on an order of seats that nobody knows."""
-        is_unsure = done.step.path in (ORDER, IMPORT) and self._requests.importers - {done.seat}
-        return set(COUNTED) if is_unsure else set()
+        but = reply.keys() - REPLIED - WORKS if step.event not in ("", "identified") else set[str]()
+        told = list(_differences(reply, step.reply, "journal", but)) if step.is_done() else []
+        if told and self._requests.is_unsure(done):
+            told = list(_differences(reply, step.reply, "journal", {*but, *COUNTED}))
+        return told
 
     def _kept_faults(self) -> Iterator[Found]:
         """Seats whose last number or kept reply isn't the program's."""
@@ -150,7 +148,7 @@ class Answers:
             if done is None or done.step.number != it.last:
                 last = done.step.number if done else "none"
                 yield self._fault(f"its last number is {it.last} in the store, and {last} by the program", it.name)
-            elif _without_later(text) != _without_later(it.reply) and not self._unsure(done):
+            elif _without_later(text) != _without_later(it.reply) and not self._requests.is_unsure(done):
                 told = f"the reply to its last request is {brief(it.reply)} in the store"
                 yield self._fault(f"{told}, and {brief(text)} by the program ({done.step.place()})", it.name)
 

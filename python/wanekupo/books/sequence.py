@@ -7,7 +7,7 @@ for its addresses, a device for its order, its map and its serial number, an imp
 
 from __future__ import annotations
 
-from collections import deque
+from collections import defaultdict, deque
 from dataclasses import dataclass
 from functools import lru_cache
 from itertools import count
@@ -80,7 +80,7 @@ def _rows(step: Step) -> frozenset[tuple[str, str]]:
 
 
 class Requests:
-    """A customer's requests that the store has. `importers` are the seats that imported."""
+    """A customer's requests that the store has."""
 
     def __init__(self, customer: str, store: Books, lines: Mapping[str, Lines]):
         self._customer, self._store = customer, store
@@ -88,13 +88,24 @@ class Requests:
         if others := [it.name for it in seats if store.site_seats.get(it.name) != customer]:
             raise NotWhole(f"the site's text, as it is read here, has no seat {others[0]} of it")
         self._queues = {it.name: _numbered(it, lines.get(it.name, {})) for it in seats}
-        self.importers = {name for name, queue in self._queues.items() if any(it[0].path == IMPORT for it in queue)}
+        self._importers: dict[tuple[str, str], set[str]] = defaultdict(set)
+        for name, step in ((name, it[0]) for name, queue in self._queues.items() for it in queue):
+            for row in _rows(step) if step.path == IMPORT else ():
+                self._importers[row].add(name)
         self._pools = [list(it) for it in store.pools.get(customer, ())]
         self._made, self._given, self._to_come = set[str](), set[tuple[str, str]](), set[str]()
         self._next, self._order_of = dict[str, int](), dict[str, str]()
 
     def left(self) -> int:
         return sum(map(len, self._queues.values()))
+
+    def is_unsure(self, done: Done) -> bool:
+        """Whether numbers of another seat's import change what is counted in a reply: nobody knows which came first."""
+        asked, rows = done.step.asked, _rows(done.step) if done.step.path == IMPORT else frozenset[tuple[str, str]]()
+        if done.step.path == ORDER:
+            own = (it for it in self._importers if it[0] == asked["issuer"])
+            rows = frozenset(it for it in own if it[1].startswith(str(asked["prefix"])))
+        return any(self._importers[it] - {done.seat} for it in rows)
 
     def in_order(self, entries: Sequence[LedgerRow]) -> Iterator[Done]:
         """One after another, in an order in which they may have been done. `entries` come in theirs."""
