@@ -13,6 +13,7 @@ from functools import lru_cache
 from itertools import count
 from typing import Iterator, Mapping, Optional, Sequence
 
+from wanekupo.books.clocks import begin_of, end_of, is_behind
 from wanekupo.books.steps import Step
 from wanekupo.books.store_rows import Books, LedgerRow, Row, StoredSeat, serial_of
 from wanekupo.common.errors import StationError
@@ -79,6 +80,10 @@ def _rows(step: Step) -> frozenset[tuple[str, str]]:
     return _imported(str(step.asked["issuer"]), str(step.asked["csv"]))
 
 
+def _is_before(one: Step, other: Step) -> bool:
+    return is_behind(begin_of(other), end_of(one))
+
+
 class Requests:
     """A customer's requests that the store has."""
 
@@ -88,10 +93,10 @@ class Requests:
         if others := [it.name for it in seats if store.site_seats.get(it.name) != customer]:
             raise NotWhole(f"the site's text, as it is read here, has no seat {others[0]} of it")
         self._queues = {it.name: _numbered(it, lines.get(it.name, {})) for it in seats}
-        self._importers: dict[tuple[str, str], set[str]] = defaultdict(set)
-        for name, step in ((name, it[0]) for name, queue in self._queues.items() for it in queue):
-            for row in _rows(step) if step.path == IMPORT else ():
-                self._importers[row].add(name)
+        self._importers: dict[tuple[str, str], list[Done]] = defaultdict(list)
+        for it in (Done(name, lines[0]) for name, queue in self._queues.items() for lines in queue):
+            for row in _rows(it.step) if it.step.path == IMPORT else ():
+                self._importers[row].append(it)
         self._pools = [list(it) for it in store.pools.get(customer, ())]
         self._made, self._given, self._to_come = set[str](), set[tuple[str, str]](), set[str]()
         self._next, self._order_of = dict[str, int](), dict[str, str]()
@@ -100,12 +105,13 @@ class Requests:
         return sum(map(len, self._queues.values()))
 
     def is_unsure(self, done: Done) -> bool:
-        """Whether numbers of another seat's import change what is counted in a reply: nobody knows which came first."""
+        """Whether another seat imported what is counted in a reply at the same time: nobody knows which came first."""
         asked, rows = done.step.asked, _rows(done.step) if done.step.path == IMPORT else frozenset[tuple[str, str]]()
         if done.step.path == ORDER:
             own = (it for it in self._importers if it[0] == asked["issuer"])
             rows = frozenset(it for it in own if it[1].startswith(str(asked["prefix"])))
-        return any(self._importers[it] - {done.seat} for it in rows)
+        others = (it.step for row in rows for it in self._importers[row] if it.seat != done.seat)
+        return any(not _is_before(it, done.step) and not _is_before(done.step, it) for it in others)
 
     def in_order(self, entries: Sequence[LedgerRow]) -> Iterator[Done]:
         """One after another, in an order in which they may have been done. `entries` come in theirs."""
