@@ -13,6 +13,7 @@ import tempfile
 from collections import defaultdict
 from pathlib import Path
 from typing import Any, Iterable, Iterator, Mapping, NamedTuple
+from urllib.parse import quote
 
 from wanekupo.books.audit import Found
 from wanekupo.books.bodies import Bodies, Keys
@@ -77,12 +78,12 @@ def _site(store: Books) -> str:
     lines = list[str]()
     for customer in sorted({*store.owners.values(), *store.site_seats.values(), *store.pools}):
         issuers = [issuer for issuer, owner in store.owners.items() if owner == customer]
-        lines += ["[[customer]]", f'name = "{customer}"', f"issuer = {json.dumps(issuers)}"]
+        lines += ["[[customer]]", f"name = {json.dumps(customer)}", f"issuer = {json.dumps(issuers)}"]
         for first, count in store.pools.get(customer, ()):
             lines += ["[[customer.pool]]", f'first = "{first:012x}"', f"count = {count}"]
         for seat in (seat for seat, owner in store.site_seats.items() if owner == customer):
             digest = hashlib.sha256(_token(seat).encode()).hexdigest()
-            lines += ["[[customer.seat]]", f'name = "{seat}"', f'token = "{digest}"']
+            lines += ["[[customer.seat]]", f"name = {json.dumps(seat)}", f'token = "{digest}"']
     return "".join(f"{line}\n" for line in lines)
 
 
@@ -152,8 +153,6 @@ class Answers:
                 told = f"the reply to its last request is {brief(it.reply)} in the store"
                 yield self._fault(f"{told}, and {brief(text)} by the program ({done.step.place()})", it.name)
 
-    # Rows.
-
     def _row_faults(self, entries: list[LedgerRow]) -> Iterator[Found]:
         """In what orders, devices, their ledgers and their records aren't what the program shows."""
         seat = next((name for name, owner in self._store.site_seats.items() if owner == self._customer), "")
@@ -172,7 +171,7 @@ class Answers:
                 yield from self._held(seat, f"identity?chip={record['chip']}", record, record["chip"])
 
     def _held(self, seat: str, target: str, row: Mapping[str, Any], chip: str = "") -> Iterator[Found]:
-        status, text = self._ask(seat, "GET", f"/v1/{target}")
+        status, text = self._ask(seat, "GET", f"/v1/{quote(target, safe='?=')}")
         what = target.replace("?", " of the ").replace("=", " ")
         if status != 200:
             yield self._fault(f"the store has the {what}, and the program has none", chip=chip)
