@@ -41,7 +41,7 @@ class Replayed(NamedTuple):
     told: str
 
 
-def replay(name: str, books: Iterable[Book], store: Books) -> Replayed:
+def ask_again(name: str, books: Iterable[Book], store: Books) -> Replayed:
     """Has a program answer the lines of all journals, and holds it to the store."""
     program, lines = program_named(name), defaultdict[str, dict[int, list[Step]]](lambda: defaultdict(list))
     for own, step in ((seated(book, store), step) for book in books for step in book.steps):

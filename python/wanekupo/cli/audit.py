@@ -12,7 +12,7 @@ from wanekupo.books.audit_page import as_html, as_text, found_table
 from wanekupo.books.matches import seated
 from wanekupo.books.pages import write
 from wanekupo.books.program import program_named
-from wanekupo.books.replay import replay
+from wanekupo.books.replay import ask_again
 from wanekupo.books.shift import Period, period_of
 from wanekupo.books.steps import Book, books_of, shipped_books
 from wanekupo.books.store import StoreCopy
@@ -89,7 +89,7 @@ def _audit(_: Settings, args: argparse.Namespace) -> int:
         audit = audit_of(books, journals, period, text_of(datetime.now(timezone.utc)))
         behind = _behind(books, journals, period) if audit.found else ""
         if args.program:
-            found, audit.replayed = replay(args.program, journals, books)
+            found, audit.replayed = ask_again(args.program, journals, books)
             audit.add(found)
     if args.html:
         write(Path(args.html), as_html(audit, _read(path, journals, args.program)))
