@@ -60,7 +60,7 @@ FORGED = {
             f"DELETE FROM ledger WHERE chip = '{chip_of(3)}' AND event = 'scrapped'",
             f"UPDATE device SET state = 'quarantined' WHERE chip = '{chip_of(3)}'",
         ),
-        "scrapped, has no entry, and its number was given",
+        "the entry 1, registered, isn't of the next step of a1, which is line 31 of ",
     ),
 }
 
@@ -110,12 +110,12 @@ def test_journals_that_begin_later(folder, program):
 
 def test_no_program(folder):
     status, text, *_ = run("audit", folder / "books.db", folder / "acme", *ALWAYS, "--program", folder / "none")
-    assert (status, "there is no program" in text) == (2, True), text
+    assert (status, "There is no program" in text) == (2, True), text
 
 
 def test_another_program(folder):
     status, text = run("audit", folder / "books.db", folder / "acme", *ALWAYS, "--program", "/bin/false")
-    assert (status, "the program ended with status 1" in text) == (2, True), text
+    assert (status, "The program ended with status 1" in text) == (2, True), text
 
 
 @pytest.mark.sizes(20, 1000)
