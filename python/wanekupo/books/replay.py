@@ -51,9 +51,9 @@ def ask_again(name: str, books: Iterable[Book], store: Books) -> Replayed:
         with Program(program, _site(store), Path(folder)) as running:
             for customer, entries in _entries(store).items():
                 try:
-                    own = Answers(customer, store, Requests(customer, store, lines), running)
-                    found += own.found(entries)
-                    counts[customer] = own.count
+                    answers = Answers(customer, store, Requests(customer, store, lines), running)
+                    found += answers.found(entries)
+                    counts[customer] = answers.count
                 except NotWhole as error:
                     not_whole.append(f"{customer} ({error})")
     told = [f"The program answered {sum(counts.values())} lines of {', '.join(counts)} once more"] if counts else []
