@@ -54,7 +54,7 @@ class Held:
 class Audit:
     """All of it. `bare` is how many entries outside of the period have no line and aren't found, `held_lines` how many
     lines of it there are, `parts` the customers of whose seats the journals lack the first number, `repeated` lines
-    that changed nothing."""
+    that changed nothing, and `replayed` what the program answered once more, in words."""
 
     period: Period
     found: list[Found] = field(default_factory=list)
@@ -66,6 +66,12 @@ class Audit:
     parts: list[str] = field(default_factory=list)
     held_lines: int = 0
     repeated: list[Step] = field(default_factory=list)
+    replayed: str = ""
+
+    def add(self, found: Iterable[Found]) -> None:
+        """Adds what was found, in the order of its times, each once."""
+        both = dict.fromkeys((*self.found, *found))
+        self.found = sorted(both, key=lambda it: (it.at, it.customer, it.chip, it.kind, it.told))
 
 
 def audit_of(store: Books, books: Iterable[Book], period: Period, now: str) -> Audit:
@@ -99,7 +105,7 @@ def audit_of(store: Books, books: Iterable[Book], period: Period, now: str) -> A
     audit.repeated = repeated(journals)
     audit.held = list(_held(journals, laid.lines, spans, store, period))
     audit.held_lines = sum(period.has(step.at) for it in journals for step in it.book.steps)
-    audit.found = sorted(dict.fromkeys(audit.found), key=lambda it: (it.at, it.customer, it.chip, it.kind, it.told))
+    audit.add(())
     return audit
 
 

@@ -33,6 +33,7 @@ KINDS = {
     "other_note": "an entry says something else than its line",
     "other_seat": "an entry is under another seat than its line",
     "record": "a record isn't in the store as it was given, or isn't of its order or its issuer's customer",
+    "replay": "the program makes something else of the stations' lines than these or the store say",
     "store": "rows that no server opens, or of a customer or a seat that the site doesn't have so",
     "twice": "what is given but once stands twice, or was given to two chips",
 }
@@ -85,6 +86,8 @@ def counted(audit: Audit) -> str:
     if audit.repeated:
         said = f"{len(audit.repeated)} maps and imports were asked for again, which changes nothing"
         told = f"{told}. {said} (the first: {audit.repeated[0].place()})"
+    if audit.replayed:
+        told = f"{told}. {audit.replayed}"
     return f"{told}."
 
 

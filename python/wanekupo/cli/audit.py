@@ -11,6 +11,8 @@ from wanekupo.books.audit import audit_of
 from wanekupo.books.audit_page import as_html, as_text, found_table
 from wanekupo.books.matches import seated
 from wanekupo.books.pages import write
+from wanekupo.books.program import program_named
+from wanekupo.books.replay import ask_again
 from wanekupo.books.shift import Period, period_of
 from wanekupo.books.steps import Book, books_of, shipped_books
 from wanekupo.books.store import StoreCopy
@@ -38,6 +40,8 @@ def _add_arguments(parser: argparse.ArgumentParser) -> None:
     add_folders(parser)
     parser.add_argument("--html", metavar="FILE", help="write a page, to be read and printed")
     parser.add_argument("--csv", metavar="FILE", help="write what is found as comma-separated values")
+    told = "have this program answer the lines once more, and compare its replies and tables: station, or its path"
+    parser.add_argument("--program", metavar="STATION", help=told)
     add_signer(parser)
 
 
@@ -48,9 +52,10 @@ def _journals(names: list[str], folders: Optional[Path]) -> list[Book]:
     return [book for name in names for book in shipped_books(Path(name), named_folders(folders))]
 
 
-def _read(store: Path, books: Iterable[Book]) -> list[tuple[str, int, str]]:
-    """Each file that was read, with its length and its SHA-256."""
+def _read(store: Path, books: Iterable[Book], program: Optional[str]) -> list[tuple[str, int, str]]:
+    """Each file that was read or run, with its length and its SHA-256."""
     files = [store, store.with_name(f"{store.name}-wal"), *(Path(it) for book in books for it in book.files)]
+    files += [program_named(program)] if program else []
     return [(str(file), file.stat().st_size, digest_of_file(file)) for file in files if file.is_file()]
 
 
@@ -83,8 +88,11 @@ def _audit(_: Settings, args: argparse.Namespace) -> int:
         books = Books(store)
         audit = audit_of(books, journals, period, text_of(datetime.now(timezone.utc)))
         behind = _behind(books, journals, period) if audit.found else ""
+        if args.program:
+            found, audit.replayed = ask_again(args.program, journals, books)
+            audit.add(found)
     if args.html:
-        write(Path(args.html), as_html(audit, _read(path, journals)))
+        write(Path(args.html), as_html(audit, _read(path, journals, args.program)))
         if signer:
             signer.sign(Path(args.html))
     if args.csv:
