@@ -130,6 +130,26 @@ def _given_before(stored: list[Told], journals: list[Seated], store: Books, whol
         judge = judges.get(step.path) if step.is_done() else None
         if judge and (told := judge((it, step), imports, store, it.customer in whole)):
             yield step.path[4:], step.at, it.customer, it.seat, "", f"{told} ({step.place()})"
+    yield from _passed_over(stored, imports, store, whole)
+
+
+def _passed_over(stored: Iterable[Told], imports: Imports, store: Books, whole: set[str]) -> Iterator[Row]:
+    """Orders that gave a number when one in front of it was free, which was imported later."""
+    own = ((it, step) for it, step in stored if step.path == "/v1/identity" and step.is_done())
+    lines = {(str(step.reply.get("issuer")), str(step.reply.get("serial"))): (it, step) for it, step in own}
+    last: dict[Thing, int] = {}
+    for customer, name, chip, serial in store.identified():
+        order = store.orders.get((customer, name))
+        line, place = lines.get((order["issuer"] if order else "", serial)), order and place_of(order, serial)
+        if not order or place is None:
+            continue
+        for number in range(last.get((customer, name), 0), place) if line else ():
+            free = order["issuer"], serial_of(order, order["first"] + number)
+            is_free = free in imports and not _was_given(free, line, imports, customer in whole)[1]
+            if is_free and not (store.record(*free) or {}).get("chip"):
+                told = f"the order {name} gave {serial} when {free[1]} was free ({line[1].place()})"
+                yield "order", line[1].at, customer, line[0].seat, chip, told
+        last[customer, name] = place + 1
 
 
 def _was_given(name: Thing, line: Told, imports: Imports, is_whole: bool) -> tuple[bool, bool]:

@@ -172,6 +172,7 @@ def _strangers(store: Books) -> Iterator[Row]:
 
 def _map_faults(store: Books) -> Iterator[Row]:
     """Maps whose text isn't that of their digest, or can't be read."""
+    yield from (("map", "", "", "", told) for told in store.odd_maps())
     for customer, told in store.unread_maps():
         yield "map", "", customer, "", told
     for customer, digest, text in store.maps:
