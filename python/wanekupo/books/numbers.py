@@ -52,7 +52,8 @@ class Turn(NamedTuple):
 def counts(it: Seated, step: Step, store: Books, period: Period) -> bool:
     """Whether the store has to have a line: not one that an older copy can't have. One of before the period counts
     where no older store took it away, and so does the first of a journal with the one behind it, as nothing contradicts
-    its time. One of behind the period counts as long as the store has its number. A line is of a period also where only its reply is."""
+    its time. One of behind the period counts as long as the store has its number. A line is of a period also where only
+    its reply is."""
     last = store.seats[it.seat].last if it.seat in store.seats else 0
     if step.turn > 0 or step.answered >= period.end and step.number > last:
         return False

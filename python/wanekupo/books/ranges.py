@@ -102,8 +102,8 @@ IsBehind = Callable[[Told, Told], bool]
 
 
 def drawn_faults(orders: Iterable[Drawn], pools: Sequence[Block], is_behind: IsBehind) -> Iterator[tuple[Told, str]]:
-    """Orders whose addresses were drawn in another order than their lines were asked: those of a pool follow each other,
-    and each order is of the first pool that had room then."""
+    """Orders whose addresses were drawn in another order than their lines were asked: those of a pool follow each
+    other, and each order is of the first pool that had room then."""
     passed: list[tuple[int, list[Drawn]]] = []  # of the pools in front what is left, and their orders
     left = sorted(orders, key=lambda it: it.start)
     for first, length in pools:
@@ -112,10 +112,10 @@ def drawn_faults(orders: Iterable[Drawn], pools: Sequence[Block], is_behind: IsB
             seat = it.line[0].seat
             for other in last.values():
                 if is_behind(other.line, it.line):
-                    yield it.line, f"the order {it.name} has addresses behind those of {other.name}, which was made later"
+                    yield it.line, f"the order {it.name} has addresses behind those of the later {other.name}"
             last[seat] = it if seat not in last or is_behind(it.line, last[seat].line) else last[seat]
             if any(_had_room(room, it, its, is_behind) for room, its in passed):
-                yield it.line, f"the order {it.name} has the addresses from {it.start:012x} on, and a pool before had room"
+                yield it.line, f"the order {it.name} has the address {it.start:012x}, and a pool before had room"
         passed.append((first + length - max((it.start + it.count for it in own), default=first), own))
 
 
