@@ -101,7 +101,8 @@ def _lines_of(book: Book) -> Iterator[Union[Step, Turn]]:
     marks: dict[int, list[Turn]] = defaultdict(list)
     done = [(place, it) for place, it in enumerate(book.steps) if it.is_done()]
     for it in book.resynchronized:
-        (_, step), *_ = *done[bisect_left(done, it.behind, key=lambda it: it[0]) :][:1], (0, None)
+        place = bisect_left(done, it.behind, key=lambda it: it[0])
+        step = done[place][1] if place < len(done) else None
         digest = step.digest if step and step.number == it.number else ""
         marks[it.behind].append(Turn(it.at, it.number, f"line {it.line} of {it.file}", digest))
     if book.steps and book.steps[0].is_done():
@@ -334,9 +335,9 @@ def _last_fault(seat: StoredSeat, steps: list[Step]) -> Optional[str]:
     if lines and all(it.digest != seat.digest for it in lines):
         return f"the store's last request, number {seat.last}, isn't that of {lines[-1].place()}"
     done, kept = [it for it in lines if it.is_done()], _kept(seat)
-    if done and (kept is None or (odd := odd_members(done[-1].path, kept))):
-        told = f"the reply that the store keeps of number {seat.last} isn't as a server writes it"
-        return told if kept is None else f"{told}: {odd}"
-    if done and not all(it in (kept.get(name), text_of(kept.get(name))) for name, it in done[-1].reply.items()):
-        return f"the reply that the store keeps of number {seat.last} isn't that of {done[-1].place()}"
-    return None
+    if not done:
+        return None
+    odd, told = odd_members(done[-1].path, kept or {}), f"the reply that the store keeps of number {seat.last} isn't"
+    if kept and not all(it in (kept.get(name), text_of(kept.get(name))) for name, it in done[-1].reply.items()):
+        return f"{told} that of {done[-1].place()}"
+    return f"{told} as a server writes it{f': {odd}' if kept else ''}" if odd or not kept else None
