@@ -191,16 +191,16 @@ class Unheld:
 
 
 def _left_faults(
-    audit: Audit, laid: Laid, window: Window, spans: Iterable[Span], lost: set[str], whole: set[str]
+    audit: Audit, laid: Laid, window: Window, spans: Iterable[Span], lost: set[str], begun: set[str]
 ) -> Iterator[Found]:
-    """The entries that are left over. A seat without a journal is told once. Of customers whose journals are `whole`
-    each counts; of others none that is outside of the period, or in front of the first line."""
+    """The entries that are left over. A seat without a journal is told once. Of customers whose journals have `begun`
+    with number 1 each counts; of others none that is outside of the period, or in front of the first line."""
     inside = sum(audit.period.has(step.at) for _, step, *_ in chain(laid.pairs, laid.odd))
     audit.entries, audit.outside = inside, len(laid.pairs) + len(laid.odd) - inside
     without: dict[tuple[str, str], int] = defaultdict(int)
     unheld = Unheld(laid.pairs, spans)
     for left in sorted(laid.left):
-        is_outside, is_whole = window.is_outside(left.id), left.customer in whole
+        is_outside, is_whole = window.is_outside(left.id), left.customer in begun
         if not is_whole and not is_outside and unheld.has(left):
             audit.unheld += 1
             continue
