@@ -191,7 +191,8 @@ class Asked(SeatCase):
 
     def test_the_reply_that_is_kept(self):
         """A seat's last identity, whose reply was lost: its station is to get the one that the store keeps."""
-        record = {"serial": "A998", "issuer": "acme-ca", "chip": "c1", "key_sha256": FLASH}
+        record = {"serial": "A998", "issuer": "acme-ca", "chip": MAC, "key_sha256": FLASH, "mac": None}
+        record |= {"not_after": "99991231235959Z", "not_before": None}
         for serial, meant in (("A998", 0), ("A999", 1)):
             store = self.store(1, "c1", "/v1/identity")
             store.seats["a1"].reply = compact_json({**record, "serial": serial}, sort_keys=True)

@@ -127,7 +127,7 @@ def _given_before(stored: list[Told], journals: list[Seated], store: Books, whol
                 imports[issuer, serial].append((it, step))
     judges = {"/v1/import": _present_fault, "/v1/order": _next_fault}
     for it, step in stored:
-        judge = judges.get(step.path) if step.is_done() else None
+        judge = judges.get(step.path) if step.is_done() and step.reply and not step.odd else None
         if judge and (told := judge((it, step), imports, store, it.customer in whole)):
             yield step.path[4:], step.at, it.customer, it.seat, "", f"{told} ({step.place()})"
     yield from _passed_over(stored, imports, store, whole)

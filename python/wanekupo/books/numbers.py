@@ -200,7 +200,8 @@ def _take_kept(seat: StoredSeat, steps: Sequence[Step]) -> None:
     lines = [it for it in steps if it.turn == 0 and (it.number, it.digest) == (seat.last, seat.digest)]
     bare = [it for it in lines if it.status is None]
     if bare and not any(map(Step.is_done, lines)):
-        bare[-1].status, bare[-1].reply = 200, _kept(seat) or {}
+        kept = _kept(seat) or {}
+        bare[-1].status, bare[-1].reply = 200, {} if odd_members(bare[-1].path, kept) else kept
 
 
 def _kept(seat: StoredSeat) -> Optional[dict[str, Any]]:
