@@ -17,7 +17,7 @@ from books.seal_plant import chip_of, shown, site_text
 from common.program import Program
 from wanekupo.chips.chip import redacted
 from wanekupo.seat.journal import request_digest
-from wanekupo.seat.rows import csv_of
+from wanekupo.seat.import_rows import csv_of
 
 DIGEST = hashlib.sha256(MAP.encode()).hexdigest()
 OLD = [(f"OLD-{number}", hashlib.sha256(b"%d" % number).hexdigest()) for number in (1, 2)]

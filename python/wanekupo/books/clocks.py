@@ -89,7 +89,7 @@ def begin_of(step: Step) -> str:
 
 
 def end_of(step: Step) -> str:
-    return step.answered if step.is_done() else NEVER
+    return (step.answered if step.is_done() else "") or NEVER
 
 
 def is_behind(at: str, other: str) -> bool:

@@ -45,7 +45,7 @@ class Program:
     def __init__(self, path: Path, site: str, folder: Path):
         (folder / "site.toml").write_text(site, encoding="utf-8")
         self._child = subprocess.Popen(
-            [str(path), "replay", "--site", "site.toml"], cwd=folder, env={}, start_new_session=True,
+            [str(path), "replay", "--site", "site.toml"], cwd=folder, env=dict[str, str](), start_new_session=True,
             stdin=subprocess.PIPE, stdout=subprocess.PIPE, stderr=subprocess.PIPE,
         )  # fmt: skip
         assert self._child.stdin and self._child.stdout and self._child.stderr

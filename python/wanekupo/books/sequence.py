@@ -17,7 +17,7 @@ from wanekupo.books.clocks import begin_of, end_of, is_behind
 from wanekupo.books.steps import Step
 from wanekupo.books.store_rows import Books, LedgerRow, Row, StoredSeat, serial_of
 from wanekupo.common.errors import StationError
-from wanekupo.seat.rows import rows_of
+from wanekupo.seat.import_rows import rows_of
 
 ORDER, MAP, IMPORT = "/v1/order", "/v1/map", "/v1/import"
 
@@ -171,14 +171,14 @@ class Requests:
         if step.event == "registered":
             return {str(step.asked["order"]), str(step.asked["map"]).lower()} <= self._made
         if done.entry and step.event == "identified":
-            return self._next_of(self._order(self._order_of.get(step.chip, ""))) == done.entry.row["note"]
+            return bool(self._next_of(self._order(self._order_of.get(step.chip, ""))) == done.entry.row["note"])
         if step.path == IMPORT:
             return self._given.issuperset(it for it in _rows(step) if it[1] in self._to_come)
         order = self._order(str(step.asked["name"])) if step.path == ORDER else None
         if order is None:
             return True
         pool = self._pool_of(order)
-        return order["mac"] == (f"{pool[0]:012x}" if pool else None)
+        return bool(order["mac"] == (f"{pool[0]:012x}" if pool else None))
 
     def _take(self, done: Done) -> None:
         step = done.step

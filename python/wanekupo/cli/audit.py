@@ -38,6 +38,8 @@ def _add_arguments(parser: argparse.ArgumentParser) -> None:
     parser.add_argument("journals", nargs="+", metavar="JOURNAL", help="a journal, or a folder with journals")
     add_period(parser)
     add_folders(parser)
+    said = "the plant's site file of the copy's moment, which the store's text has to be, byte for byte"
+    parser.add_argument("--site", type=Path, metavar="FILE", help=said)
     parser.add_argument("--html", metavar="FILE", help="write a page, to be read and printed")
     parser.add_argument("--csv", metavar="FILE", help="write what is found as comma-separated values")
     told = "have this program answer the lines once more, and compare its replies and tables: station, or its path"
@@ -86,7 +88,8 @@ def _audit(_: Settings, args: argparse.Namespace) -> int:
     journals, period = _journals(args.journals, args.folders), period_of(args.from_time, args.to_time)
     with StoreCopy(path) as store:
         books = Books(store)
-        audit = audit_of(books, journals, period, text_of(datetime.now(timezone.utc)))
+        site = digest_of_file(args.site) if args.site else ""
+        audit = audit_of(books, journals, period, text_of(datetime.now(timezone.utc)), site)
         behind = _behind(books, journals, period) if audit.found else ""
         if args.program:
             found, audit.replayed = ask_again(args.program, journals, books)

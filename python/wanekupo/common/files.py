@@ -8,10 +8,13 @@ from __future__ import annotations
 
 import contextlib
 import errno
+import gzip
+import io
 import os
 import shutil
 import stat
 import time
+import zlib
 from pathlib import Path
 from typing import IO, Iterator
 
@@ -26,6 +29,9 @@ IS_POSIX = os.name == "posix"
 NOFOLLOW = getattr(os, "O_NOFOLLOW", 0)
 NONBLOCK = getattr(os, "O_NONBLOCK", 0)  # a pipe in a file's place is opened at once, and refused
 PRIVATE = 0o600
+
+# How a compressed file begins.
+GZIP = b"\x1f\x8b"
 
 # How much of a file is overwritten at once.
 BLOCK = 1 << 20
@@ -45,9 +51,6 @@ def sync(path: Path) -> None:
             os.fsync(opened)
         finally:
             os.close(opened)
-
-
-synced_folder = sync
 
 
 def tested_folder(folder: Path) -> None:
@@ -102,6 +105,19 @@ def opened_plain(file: str | os.PathLike[str], flags: int, follows_links: bool =
         os.close(opened)
         raise UnsafeFile(f"{file} is no plain file{', but a folder' if stat.S_ISDIR(mode) else ''}", NAME)
     return opened
+
+
+def unpacked(file: str | os.PathLike[str], most: int, follows_links: bool = True) -> bytes:
+    """The bytes of a plain file, of more than so many one more. What is compressed and damaged stays as it is: a few
+    bytes of it may be any number."""
+    with open(opened_plain(file, os.O_RDONLY, follows_links), "rb") as source:
+        data = source.read(most + 1)
+    if not data.startswith(GZIP):
+        return data
+    try:
+        return gzip.GzipFile(fileobj=io.BytesIO(data)).read(most + 1)
+    except (OSError, EOFError, zlib.error):
+        return data
 
 
 def opened_own(file: str | os.PathLike[str], flags: int) -> int:
