@@ -84,9 +84,9 @@ def _audit(_: Settings, args: argparse.Namespace) -> int:
         audit = audit_of(books, journals, period, text_of(datetime.now(timezone.utc)))
         behind = _behind(books, journals, period) if audit.found else ""
     if args.html:
-        write(Path(args.html), as_html(audit, _read(path, journals)))
+        page = write(Path(args.html), as_html(audit, _read(path, journals)))
         if signer:
-            signer.sign(Path(args.html))
+            signer.sign(Path(args.html), page)
     if args.csv:
         table = found_table(audit)
         Formulas().warn_of(table.columns, table.texts())

@@ -17,6 +17,8 @@ from wanekupo.common.errors import UnsafeFile
 
 try:
     import fcntl
+    import grp
+    import pwd
 except ImportError:  # Windows, where nothing keeps two processes from one state file
     fcntl = None  # type: ignore[assignment]
 
@@ -46,8 +48,8 @@ def synced_folder(folder: Path) -> None:
 
 
 def tested_folder(folder: Path) -> None:
-    """Whether nobody else can put a file into a folder, or take one out of it. One as /tmp is refused too: its sticky
-    bit keeps others from taking a file, and lets them put one there first."""
+    """Whether nobody else can put a file into a folder, take one out of it, or put another folder in its place. One as
+    /tmp is refused too: its sticky bit keeps others from taking a file, and lets them put one there first."""
     if not IS_POSIX:
         return
     found = os.stat(folder)
@@ -55,6 +57,29 @@ def tested_folder(folder: Path) -> None:
         raise UnsafeFile(f"{folder} is another user's folder: have these files in one of your own")
     if found.st_mode & OTHERS_WRITE:
         raise UnsafeFile(f"others can write the folder {folder}: chmod go-w it, or have these files in another one")
+    _test_parents(Path(os.path.realpath(folder)))
+
+
+def _test_parents(path: Path) -> None:
+    """Whether nobody else can put another folder in the place of one on the way to a path."""
+    own = os.geteuid(), 0
+    for it, above in zip((path, *path.parents), path.parents):
+        found = os.stat(above)
+        is_kept = found.st_mode & stat.S_ISVTX and os.lstat(it).st_uid in own
+        if found.st_uid not in own or _others_write(found) and not is_kept:
+            told = "Have these files below a folder of your own, or of root's."
+            raise UnsafeFile(f"others can write {above}, and put another folder in the place of {it}", told)
+
+
+def _others_write(found: os.stat_result) -> bool:
+    """Whether another user may write a folder. A user's own group, which has his name and nobody else, is himself."""
+    if not found.st_mode & stat.S_IWGRP:
+        return bool(found.st_mode & stat.S_IWOTH)
+    with contextlib.suppress(KeyError):
+        group, user = grp.getgrgid(found.st_gid), pwd.getpwuid(found.st_uid)
+        is_own = (group.gr_gid, group.gr_name) == (user.pw_gid, user.pw_name) and not {*group.gr_mem} - {user.pw_name}
+        return bool(found.st_mode & stat.S_IWOTH) or not is_own
+    return True
 
 
 def tested_reading(folder: Path) -> None:
