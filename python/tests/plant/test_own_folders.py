@@ -8,8 +8,8 @@ import pytest
 
 from wanekupo.common import files
 from wanekupo.common.errors import UnsafeFile
-
 from wanekupo.common.signing import BadSignature, Signer, verify
+
 
 def _folder(above: Path, mode: int) -> Path:
     """A private folder in one of this mode."""
@@ -19,14 +19,17 @@ def _folder(above: Path, mode: int) -> Path:
     own.parent.chmod(mode)
     return own
 
+
 @pytest.mark.parametrize("mode", [0o755, 0o700, 0o1777])
 def test_folder_in_whose_place_nobody_puts_another(tmp_path: Path, mode: int) -> None:
     files.tested_folder(_folder(tmp_path, mode))
+
 
 def test_folder_in_one_that_all_write(tmp_path: Path) -> None:
     own = _folder(tmp_path, 0o777)
     with pytest.raises(UnsafeFile, match=f"others can write {own.parent}, and put another folder in the place of"):
         files.tested_folder(own)
+
 
 def test_folder_in_one_that_a_group_writes(tmp_path: Path, monkeypatch: pytest.MonkeyPatch) -> None:
     """A user's own group is himself; one of another name isn't."""
@@ -40,6 +43,7 @@ def test_folder_in_one_that_a_group_writes(tmp_path: Path, monkeypatch: pytest.M
         with pytest.raises(UnsafeFile, match="others can write"):
             files.tested_folder(own)
 
+
 def test_folder_of_another_user_above(tmp_path: Path, monkeypatch: pytest.MonkeyPatch) -> None:
     own = _folder(tmp_path, 0o755)
     found, stat = os.stat(own.parent), os.stat
@@ -47,6 +51,7 @@ def test_folder_of_another_user_above(tmp_path: Path, monkeypatch: pytest.Monkey
     monkeypatch.setattr(os, "stat", lambda it, **words: other if Path(it) == own.parent else stat(it, **words))
     with pytest.raises(UnsafeFile, match="others can write"):
         files.tested_folder(own)
+
 
 def test_what_is_signed_is_not_what_another_put_there(tmp_path: Path) -> None:
     words = "req -x509 -newkey ec -pkeyopt ec_paramgen_curve:prime256v1 -nodes -subj /CN=plant -days 1 -keyout key.pem -out cert.pem"
