@@ -144,9 +144,10 @@ class Chain:
         try:
             count, digest = self._write_rows(number, rows)
             seal = sealed(last, number, at, whose, count, digest)
-            replace_bytes(self.seal_file(number), f"{seal.line()}\n".encode(), READABLE)
+            line = f"{seal.line()}\n".encode()
+            replace_bytes(self.seal_file(number), line, READABLE)
             if signer:
-                signer.sign(self.seal_file(number))
+                signer.sign(self.seal_file(number), line)
             if service:
                 self._stamp(seal, service)
         except BaseException:

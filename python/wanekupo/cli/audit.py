@@ -95,9 +95,9 @@ def _audit(_: Settings, args: argparse.Namespace) -> int:
             found, audit.replayed = ask_again(args.program, journals, books)
             audit.add(found)
     if args.html:
-        write(Path(args.html), as_html(audit, _read(path, journals, args.program)))
+        page = write(Path(args.html), as_html(audit, _read(path, journals, args.program)))
         if signer:
-            signer.sign(Path(args.html))
+            signer.sign(Path(args.html), page)
     if args.csv:
         table = found_table(audit)
         Formulas().warn_of(table.columns, table.texts())

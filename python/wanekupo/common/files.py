@@ -22,6 +22,8 @@ from wanekupo.common.errors import UnsafeFile
 
 try:
     import fcntl
+    import grp
+    import pwd
 except ImportError:  # Windows, where nothing keeps two processes from one state file
     fcntl = None  # type: ignore[assignment]
 
@@ -54,8 +56,8 @@ def sync(path: Path) -> None:
 
 
 def tested_folder(folder: Path) -> None:
-    """Whether nobody else can put a file into a folder, or take one out of it. One as /tmp is refused too: its sticky
-    bit keeps others from taking a file, and lets them put one there first."""
+    """Whether nobody else can put a file into a folder, take one out of it, or put another folder in its place. One as
+    /tmp is refused too: its sticky bit keeps others from taking a file, and lets them put one there first."""
     if not IS_POSIX:
         return
     found = os.stat(folder)
@@ -63,6 +65,29 @@ def tested_folder(folder: Path) -> None:
         raise UnsafeFile(f"{folder} is another user's folder: have these files in one of your own")
     if found.st_mode & OTHERS_WRITE:
         raise UnsafeFile(f"others can write the folder {folder}: chmod go-w it, or have these files in another one")
+    _test_parents(Path(os.path.realpath(folder)))
+
+
+def _test_parents(path: Path) -> None:
+    """Whether nobody else can put another folder in the place of one on the way to a path."""
+    own = os.geteuid(), 0
+    for it, above in zip((path, *path.parents), path.parents):
+        found = os.stat(above)
+        is_kept = found.st_mode & stat.S_ISVTX and os.lstat(it).st_uid in own
+        if found.st_uid not in own or _others_write(found) and not is_kept:
+            told = "Have these files below a folder of your own, or of root's."
+            raise UnsafeFile(f"others can write {above}, and put another folder in the place of {it}", told)
+
+
+def _others_write(found: os.stat_result) -> bool:
+    """Whether another user may write a folder. A user's own group, which has his name and nobody else, is himself."""
+    if not found.st_mode & stat.S_IWGRP:
+        return bool(found.st_mode & stat.S_IWOTH)
+    with contextlib.suppress(KeyError):
+        group, user = grp.getgrgid(found.st_gid), pwd.getpwuid(found.st_uid)
+        is_own = (group.gr_gid, group.gr_name) == (user.pw_gid, user.pw_name) and not {*group.gr_mem} - {user.pw_name}
+        return bool(found.st_mode & stat.S_IWOTH) or not is_own
+    return True
 
 
 def tested_reading(folder: Path) -> None:
@@ -242,19 +267,6 @@ def _made(file: str | os.PathLike[str], mode: int) -> Iterator[IO[bytes]]:
         yield out
         out.flush()
         os.fsync(out.fileno())
-
-
-def place_file(new: Path, file: Path, mode: int) -> None:
-    """Has a file that a command wrote take another one's place, synced and with this mode."""
-    opened = opened_plain(new, os.O_RDONLY, follows_links=True)
-    try:
-        if IS_POSIX:
-            os.fchmod(opened, mode)
-            os.fsync(opened)
-    finally:
-        os.close(opened)
-    os.replace(new, file)
-    sync(file.parent)
 
 
 def removed_folder(folder: Path) -> None:

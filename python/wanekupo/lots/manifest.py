@@ -156,9 +156,9 @@ def write_all(files: Mapping[Path, bytes], signer: Optional[Signer]) -> None:
             rooms[file].mkdir(mode=0o700)
             made = rooms[file] / file.name
             replace_bytes(made, data, WRITTEN)
-            digest_file(made)
+            digest_file(made, data)
             if signer:
-                signer.sign(made)
+                signer.sign(made, data)
         for file, room in rooms.items():
             _put_in_place(file, room)
     finally:
