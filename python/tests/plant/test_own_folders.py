@@ -39,7 +39,8 @@ def test_folder_in_one_that_a_group_writes(tmp_path: Path, monkeypatch: pytest.M
     monkeypatch.setattr(group, lambda _: type("", (), {"gr_gid": 7, "gr_name": "mara", "gr_mem": ["mara"]}))
     files.tested_folder(own)
     for name, members in (("staff", []), ("mara", ["mara", "otto"])):
-        monkeypatch.setattr(group, lambda _, it=(name, members): type("", (), dict(gr_gid=7, gr_name=it[0], gr_mem=it[1])))
+        other = type("", (), {"gr_gid": 7, "gr_name": name, "gr_mem": members})
+        monkeypatch.setattr(group, lambda _, it=other: it)
         with pytest.raises(UnsafeFile, match="others can write"):
             files.tested_folder(own)
 
@@ -47,7 +48,7 @@ def test_folder_in_one_that_a_group_writes(tmp_path: Path, monkeypatch: pytest.M
 def test_folder_of_another_user_above(tmp_path: Path, monkeypatch: pytest.MonkeyPatch) -> None:
     own = _folder(tmp_path, 0o755)
     found, stat = os.stat(own.parent), os.stat
-    other = os.stat_result([found.st_mode, found.st_ino, found.st_dev, found.st_nlink, found.st_uid + 4711, *found[5:10]])
+    other = os.stat_result([*found[:4], found.st_uid + 4711, *found[5:10]])
     monkeypatch.setattr(os, "stat", lambda it, **words: other if Path(it) == own.parent else stat(it, **words))
     with pytest.raises(UnsafeFile, match="others can write"):
         files.tested_folder(own)

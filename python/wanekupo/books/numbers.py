@@ -18,7 +18,7 @@ from typing import Any, Iterable, Iterator, NamedTuple, Optional, Sequence, Unio
 from wanekupo.books.clocks import NEVER, is_behind, longest_run
 from wanekupo.books.matches import Seated
 from wanekupo.books.shift import Period
-from wanekupo.books.steps import Book, Step, odd_members, text_of
+from wanekupo.books.steps import Book, Step, odd_members, part_text
 from wanekupo.books.store_rows import Books, StoredSeat
 from wanekupo.common.texts import compact_json
 from wanekupo.seat.journal_lines import form_fault
@@ -339,6 +339,6 @@ def _last_fault(seat: StoredSeat, steps: list[Step]) -> Optional[str]:
     if not done:
         return None
     odd, told = odd_members(done[-1].path, kept or {}), f"the reply that the store keeps of number {seat.last} isn't"
-    if kept and not all(it in (kept.get(name), text_of(kept.get(name))) for name, it in done[-1].reply.items()):
+    if kept and not all(it in (kept.get(name), part_text(kept.get(name))) for name, it in done[-1].reply.items()):
         return f"{told} that of {done[-1].place()}"
     return f"{told} as a server writes it{f': {odd}' if kept else ''}" if odd or not kept else None

@@ -75,7 +75,7 @@ def _once(it: Any) -> Any:
     return sys.intern(it) if isinstance(it, str) else it
 
 
-def text_of(it: Any) -> str:
+def part_text(it: Any) -> str:
     """A part of a reply as its text, which is in memory but once; of one that nests too deep that of no part."""
     try:
         return sys.intern(compact_json(it, sort_keys=True))
@@ -137,7 +137,7 @@ class Step:
         """Leaves away what nobody asks for of a step but an identity: journals are long."""
         if self.event not in ("", "identified"):
             self.asked = {name: _once(it) for name, it in self.asked.items() if name in ASKED}
-            works = {name: text_of(self.reply[name]) for name in WORKS & self.reply.keys()}
+            works = {name: part_text(self.reply[name]) for name in WORKS & self.reply.keys()}
             self.reply = {**{name: it for name, it in self.reply.items() if name in REPLIED}, **works}
 
     def is_done(self) -> bool:

@@ -269,6 +269,19 @@ def _made(file: str | os.PathLike[str], mode: int) -> Iterator[IO[bytes]]:
         os.fsync(out.fileno())
 
 
+def place_file(new: Path, file: Path, mode: int) -> None:
+    """Has a file that a command wrote take another one's place, synced and with this mode."""
+    opened = opened_plain(new, os.O_RDONLY, follows_links=True)
+    try:
+        if IS_POSIX:
+            os.fchmod(opened, mode)
+            os.fsync(opened)
+    finally:
+        os.close(opened)
+    os.replace(new, file)
+    sync(file.parent)
+
+
 def removed_folder(folder: Path) -> None:
     """Removes a folder with all that is in it, and overwrites its files before, as far as their file system lets one:
     what it wrote elsewhere meanwhile, as on a flash disk, stays there. No link is followed."""
