@@ -277,7 +277,8 @@ class Forged(BooksCase):
             ("a number behind a free one", ("UPDATE given SET chip = NULL, mac = NULL WHERE serial = 'A998'",
              "UPDATE ledger SET note = 'A999' WHERE note = 'A998'", "UPDATE device SET serial = 'A999' WHERE serial = "
              "'A998'", "INSERT INTO given SELECT issuer, 'A999', customer, zeroblob(32), '%s', '020000000011',"
-             " not_after FROM given WHERE serial = 'A998'" % MAC, "INSERT INTO given_start VALUES ('acme-ca', 'A999', NULL)"),
+             " not_after FROM given WHERE serial = 'A998'" % MAC,
+             "INSERT INTO given_start VALUES ('acme-ca', 'A999', NULL)"),
              "a1", both(changed(of("/v1/identity"), reply={"serial": "A999", "mac": "020000000011"}), later_import),
              "the order o1 gave A999 when A998 was free"),
             ("a map's digest", (), "a1", changed(of("/v1/map"), reply={"map": 64 * "0"}), "its reply says 00000000"),
