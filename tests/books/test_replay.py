@@ -7,8 +7,8 @@ import shutil
 import pytest
 
 from books.replay_plant import change_reply, change_store, morning, move_addresses, write_lines
-from books.seal_places import measured, run
-from books.seal_plant import chip_of, large
+from books.seal_places import run
+from books.seal_plant import chip_of
 
 ALWAYS = ["--from", "2000-01-01", "--to", "2099-01-01"]
 KEPT = '{"batch1":{"bits":[],"keys":{}},"batch2":{"bits":[],"keys":{}},"state":"settled"}'
@@ -116,11 +116,3 @@ def test_no_program(folder):
 def test_another_program(folder):
     status, text = run("audit", folder / "books.db", folder / "acme", *ALWAYS, "--program", "/bin/false")
     assert (status, "The program ended with status 1" in text) == (2, True), text
-
-
-@pytest.mark.sizes(20, 1000)
-def test_whole_lives(program, tmp_path, size, found):
-    store, journal = large(program, tmp_path, size)
-    status, text, seconds, megabytes = measured("audit", store, journal, *ALWAYS, "--program", program)
-    assert (status, f"The program answered {7 * size + 2} lines of acme once more" in text) == (0, True), text
-    found(f"{size} devices: the program answered their lines once more, {seconds:.1f} s, {megabytes:.0f} MB")
