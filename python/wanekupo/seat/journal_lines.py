@@ -63,24 +63,13 @@ def lines_of(file: Name, start: int = 0, follows_links: bool = True) -> Iterator
 
 
 def lines_in(source: IO[bytes], end: int = 0) -> Iterator[Line]:
-    """The same of what is open."""
+    """The same of what is open. Behind a line that is too long nothing is read: its end may be terabytes away."""
     source.seek(end)
-    number = 0
-    while (found := _next(source))[0]:
-        data, length = found
-        number, end = number + 1, end + length
-        yield _line_of(data, number, end)
-
-
-def _next(source: IO[bytes]) -> tuple[bytes, int]:
-    """The next line with its line feed, and its length; of one that is too long the first bytes. Nothing where it was
-    cut, or there is none."""
-    line = part = source.readline(LONGEST_LINE)
-    length = len(part)
-    while len(part) == LONGEST_LINE and not part.endswith(b"\n"):
-        part = source.readline(LONGEST_LINE)
-        length += len(part)
-    return (line, length) if part.endswith(b"\n") else (b"", 0)
+    number, data = 0, b"\n"
+    while data.endswith(b"\n") and (data := source.readline(LONGEST_LINE)):
+        if data.endswith(b"\n") or len(data) == LONGEST_LINE:
+            number, end = number + 1, end + len(data)
+            yield _line_of(data, number, end)
 
 
 def _line_of(data: bytes, number: int, end: int) -> Line:
