@@ -10,6 +10,7 @@ import os
 import re
 import ssl
 import subprocess
+import time
 import urllib.request
 from pathlib import Path
 from typing import Any, Optional
@@ -28,6 +29,9 @@ LONGEST, LONGEST_PAGE = 10, 4096
 
 # The file that the tool for backups leaves in their folder, and the unit that runs it.
 LAST_BACKUP, BACKUP_UNIT = "last-backup.json", "station-backup"
+
+# By how many seconds a note may be ahead of this machine's clock.
+AHEAD = 60
 
 
 # The process.
@@ -166,20 +170,19 @@ def add_requests(
 # The last backup.
 
 
-def failed_behind(moment: float) -> bool:
-    """Whether the backups' unit failed behind a moment: a disk that is full or read-only takes no note of that."""
-    shown = properties_of(BACKUP_UNIT, "Result", "ExecMainExitTimestamp")
-    at = re.fullmatch(r"@(\d+)", shown.get("ExecMainExitTimestamp", ""))
-    return at is not None and shown.get("Result") != "success" and int(at[1]) > moment
+def backup_unit_failed() -> bool:
+    """Whether the backups' unit failed when it ran last. A note that says otherwise is the store user's word."""
+    return properties_of(BACKUP_UNIT, "Result").get("Result") != "success"
 
 
 def add_backup(samples: Samples, folder: Path, has_unit: bool) -> None:
-    """The last backup, by its note, and where systemd runs the backups by their unit's failure behind that."""
+    """The last backup, by its note; it is no good one where the note is of a time to come, or where systemd runs the
+    backups and their unit failed."""
     file = folder / LAST_BACKUP
     try:
         last = json.loads(file.read_text(encoding="utf-8"))
         ended = moment_of(last["at"]).timestamp()
-        is_fine = last["ok"] is True and not (has_unit and failed_behind(ended))
+        is_fine = last["ok"] is True and ended <= time.time() + AHEAD and not (has_unit and backup_unit_failed())
         values = {"timestamp_seconds": ended, "success": is_fine, "bytes": int(last["bytes"] or 0)}
     except (ValueError, KeyError, TypeError) as error:
         raise StationError(f"{file} doesn't say how the last backup ended", "Make a backup.") from error
