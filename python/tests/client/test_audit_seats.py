@@ -24,7 +24,7 @@ from wanekupo.books import steps
 from wanekupo.books.audit import Audit, Left, Unheld, _idle_faults, _journal_faults
 from wanekupo.books.audit_page import counted
 from wanekupo.books.chain import BadChain, Chain, sealed
-from wanekupo.books.clocks import contradictions
+from wanekupo.books.clocks import clock_contradictions
 from wanekupo.books.given import given_twice
 from wanekupo.books.matches import Seated, seated, steps_by_chip
 from wanekupo.books.numbers import Span, counts, spans_of
@@ -247,7 +247,7 @@ class Turns(SeatCase):
             (step,) = [it for own in journals for it in own.book.steps if it.is_done() and it.number == 2]
             self.assertEqual((step.at, step.since), (f"{DAY}09:00:00Z", f"{DAY}07:02:00Z"))
             other = self.book(row(4, 6, "07"), "other").steps
-            self.assertEqual(list(contradictions([(1, step), *enumerate(other, 2)])), [])
+            self.assertEqual(list(clock_contradictions([(1, step), *enumerate(other, 2)])), [])
 
     def test_a_last_step_between_two_periods(self):
         """The store lacks it: an audit of the period in which it was answered misses it, and one of that before not."""

@@ -19,7 +19,7 @@ from wanekupo.books.audit import audit_of
 from wanekupo.books.audit_page import as_html, as_text, found_table
 from wanekupo.books.schema import CREATED, statements
 from wanekupo.books.shift import period_of, shift_of
-from wanekupo.books.shift_page import as_html as shift_page, tables
+from wanekupo.books.shift_page import as_html as shift_page, shift_tables
 from wanekupo.books.steps import book_of, books_of
 from wanekupo.books.store import StoreCopy
 from wanekupo.books.store_rows import Books
@@ -142,7 +142,7 @@ def audited(all_of_them, file, lost):
 
 def shifted(all_of_them, file, lost):
     shift = shift_of([("bolt", it) for it in books_of([file])], PERIOD)
-    found = tables(shift, None)
+    found = shift_tables(shift, None)
     (shift_page(shift, found) + "".join(it.as_text() + it.as_csv() for it in found)).encode()
 
 

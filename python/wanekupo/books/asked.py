@@ -9,7 +9,7 @@ from typing import Iterable, Iterator, Mapping, Optional
 from wanekupo.books.clocks import begin_of, end_of, is_behind
 from wanekupo.books.matches import Seated, Told
 from wanekupo.books.once import place_of
-from wanekupo.books.papers import Row, is_there, names_of
+from wanekupo.books.papers import Row, is_there, given_names
 from wanekupo.books.ranges import Drawn, drawn_faults
 from wanekupo.books.steps import PATHS, Step
 from wanekupo.books.store_rows import Books, serial_of
@@ -123,7 +123,7 @@ def _given_before(stored: list[Told], journals: list[Seated], store: Books, whol
     imports: dict[Thing, list[Told]] = defaultdict(list)
     for it, step in ((it, step) for it in journals for step in it.book.steps if not step.is_lost):
         if step.path == "/v1/import" and step.status in (None, 200):
-            for issuer, serial, _ in names_of(step):
+            for issuer, serial, _ in given_names(step):
                 imports[issuer, serial].append((it, step))
     judges = {"/v1/import": _present_fault, "/v1/order": _next_fault}
     for it, step in stored:
@@ -163,7 +163,7 @@ def _was_given(name: Thing, line: Told, imports: Imports, is_whole: bool) -> tup
 
 def _present_fault(line: Told, imports: Imports, store: Books, is_whole: bool) -> str:
     """Which count of present rows can't be. A number of a chip was there, as no imported one is given to a chip."""
-    names = list(names_of(line[1]))
+    names = list(given_names(line[1]))
     given = {(issuer, serial): _was_given((issuer, serial), line, imports, is_whole) for issuer, serial, _ in names}
     for name in given:
         record = store.record(*name)

@@ -10,7 +10,7 @@ from itertools import chain
 from typing import Iterable, Iterator, NamedTuple, Union
 
 from wanekupo.books.asked import asked_faults
-from wanekupo.books.clocks import Contradiction, Timed, ToCome, Window, contradictions, to_come, window_of
+from wanekupo.books.clocks import Contradiction, Timed, ToCome, Window, clock_contradictions, to_come, window_of
 from wanekupo.books.coherence import faults_of
 from wanekupo.books.given import given_twice
 from wanekupo.books.matches import Matched, Seated, matched, seated, steps_by_chip
@@ -261,7 +261,7 @@ def _journal_faults(journals: Iterable[Seated], store: Books) -> Iterator[Found]
 def _clock_faults(journals: Iterable[Seated], pairs: list[Timed], period: Period, now: str) -> Iterator[Found]:
     """Times that can't be, told once for a file: where the first one is, what it contradicts, and how many more."""
     wrong: dict[str, dict[int, Union[Contradiction, ToCome]]] = defaultdict(dict)
-    for it in contradictions(pairs):
+    for it in clock_contradictions(pairs):
         if it.is_of(period):
             wrong[it.step.file][it.step.line] = it
     for own in journals:

@@ -67,7 +67,7 @@ class Contradiction(NamedTuple):
         return times[1] >= period.start and times[0] < period.end
 
 
-def contradictions(pairs: Sequence[Timed]) -> Iterator[Contradiction]:
+def clock_contradictions(pairs: Sequence[Timed]) -> Iterator[Contradiction]:
     """The lines whose times contradict the longest run of lines whose times don't fall along the ids. Pairs come in the
     order of their ids, and so do these."""
     run = longest_run([begin_of(step) for _, step in pairs])

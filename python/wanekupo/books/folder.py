@@ -67,7 +67,7 @@ def _counted(number: int, what: str) -> str:
     return f"{number} {what}" if number == 1 else f"{number} {what}s"
 
 
-def rows_of(name: Path) -> Text:
+def sealed_text(name: Path) -> Text:
     """The rows of a file of a seal, which may be compressed. A file in which no line is a row is another one."""
     data = unpacked(name, MOST_ROWS)
     if len(data) > MOST_ROWS:

@@ -40,7 +40,7 @@ def unasked(journals: Iterable[Seated], store: Books, whole: set[str]) -> Iterat
     for it in journals:
         for step in it.book.steps:
             if step.status in (None, 200) and not step.is_lost:
-                asked.update((it.customer, step.path, *name) for name in names_of(step))
+                asked.update((it.customer, step.path, *name) for name in given_names(step))
     for customer, name in store.orders:
         if customer in whole and (customer, "/v1/order", *_order_words(store.orders[customer, name])) not in asked:
             yield "order", "", customer, "", "", f"no line asked for the order {name} as it is"
@@ -62,7 +62,7 @@ def repeated(journals: Iterable[Seated]) -> list[Step]:
     for it in journals:
         for step in it.book.steps:
             if step.path in ("/v1/map", "/v1/import") and (step.is_stored or step.is_either and step.status is None):
-                names = {(step.path, *name) for name in names_of(step)}
+                names = {(step.path, *name) for name in given_names(step)}
                 found += [step] if names <= known[it.seat] else []
                 known[it.seat] |= names
     return found
@@ -74,7 +74,7 @@ def is_there(it: Seated, step: Step, store: Books) -> bool:
     return step.path != "/v1/identity" and judge is not None and not any(judge(it, step, store))
 
 
-def names_of(step: Step) -> Iterator[tuple[str, ...]]:
+def given_names(step: Step) -> Iterator[tuple[str, ...]]:
     """What an order, a map or an import asks to be there; nothing of another request."""
     if step.path == "/v1/order":
         yield _order_words(step.asked)

@@ -91,7 +91,7 @@ def _lines_of(store: StoreCopy) -> Iterator[str]:
 def sealed_rows(file: Path) -> Text:
     """The rows of a file of a seal, or of a copy of a store."""
     if not is_store(file):
-        return folder.rows_of(file)
+        return folder.sealed_text(file)
     with StoreCopy(file) as store:
         return Text.of(_lines_of(store))
 

@@ -10,7 +10,7 @@ from pathlib import Path
 from wanekupo.books.pages import write
 from wanekupo.books.numbers_left import asked, rests
 from wanekupo.books.shift import Owned, period_of, shift_of
-from wanekupo.books.shift_page import as_html, as_text, tables
+from wanekupo.books.shift_page import as_html, as_text, shift_tables
 from wanekupo.books.steps import books_of, named, told_faults
 from wanekupo.seat.command_line import Command, told_as_error
 from wanekupo.seat.settings import Settings
@@ -66,7 +66,7 @@ def _shift(settings: Settings, args: argparse.Namespace) -> int:
     journals = customers_journals(args.journals)
     warn(*(f"warning: {it}" for _, book in journals for it in told_faults(book)))
     shift = shift_of(journals, period_of(args.from_time, end))
-    shown = tables(shift, rests(shift, asked(settings, args.left)) if args.left else None)
+    shown = shift_tables(shift, rests(shift, asked(settings, args.left)) if args.left else None)
     if args.html:
         write(Path(args.html), as_html(shift, shown))
     if folder:
