@@ -392,17 +392,31 @@ class Seals(unittest.TestCase):
         self.addCleanup(folder.cleanup)
         self.folder = Path(folder.name)
 
-    def test_gaps(self):
-        """The longest time without a seal is told where it is above a day, and a seal that was kept has to be there."""
+    def chained(self, *days):
+        """A chain of a seal on each of these days of a month: its lines, and the last one's seal."""
         text = 'map acme 1 {"map":"1","text_sha256":"1"}\n'
         last, lines = 64 * "0", []
-        for number, day in enumerate((1, 2, 3, 9, 10), 1):
+        for number, day in enumerate(days, 1):
             digest = hashlib.sha256(text.encode()).hexdigest()
             it = sealed(last, number, f"2026-01-{day:02}T02:00:00Z", "acme", 1, digest)
             (self.folder / f"{number:06}.rows").write_text(text)
             (self.folder / f"{number:06}.seal").write_text(it.line() + "\n")
             last, lines = it.seal, [*lines, it.line() + "\n"]
         (self.folder / "chain").write_text("".join(lines))
+        return lines, last
+
+    def test_a_time_that_falls_is_no_gap(self):
+        """Nine days lie between the first two of these seals, and the last one is of eight days before the second."""
+        self.chained(1, 10, 2)
+        found, out, _ = ran("seal", "--verify", self.folder)
+        self.assertEqual(found, 1, out)
+        self.assertIn("chain is of 2026-01-02T02:00:00Z, and the line in front of it of 2026-01-10T02:00:00Z", out)
+        self.assertIn("The last time without a seal: 216 hours, from 000001 of 2026-01-01T02:00:00Z to 000002 of", out)
+        self.assertNotIn("seal: -", out)
+
+    def test_gaps(self):
+        """The longest time without a seal is told where it is above a day, and a seal that was kept has to be there."""
+        lines, last = self.chained(1, 2, 3, 9, 10)
         for words, status, told in (
             ([], 0, "The longest time without a seal: 144 hours, from 000003 of 2026-01-03T02:00:00Z to 000004 of"),
             ([], 0, "The last time without a seal: 24 hours, from 000004 of 2026-01-09T02:00:00Z to 000005 of"),

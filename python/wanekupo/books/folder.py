@@ -119,8 +119,10 @@ def tested(chain: Chain, trusted: Trusted) -> Tested:
 
 
 def _gaps(seals: list[Seal]) -> Iterator[str]:
-    """The longest time between two seals, and that in front of the last one, where seals may have been taken away."""
-    pairs = [(seconds_between(before.at, seal.at), before, seal) for before, seal in zip(seals, seals[1:])]
+    """The longest time between two seals, and that in front of the last one, where seals may have been taken away. A
+    time that falls is found elsewhere, and is no time without a seal."""
+    both = [(before, seal) for before, seal in zip(seals, seals[1:]) if before.at <= seal.at]
+    pairs = [(seconds_between(before.at, seal.at), before, seal) for before, seal in both]
     if pairs and (longest := max(pairs, key=lambda it: it[0]))[0] > A_DAY:
         for said, (seconds, before, seal) in (("The longest time", longest), ("The last time", pairs[-1])):
             told = f"from {before.number:06} of {before.at} to {seal.number:06} of {seal.at}"
