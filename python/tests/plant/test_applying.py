@@ -298,7 +298,7 @@ def with_tokens(place, *outers, seats=(WITHIN, TokenSeat("health", "acme", "33" 
 
 
 def outer(text=TEXT, **more):
-    return Outer("a1:1", 1, "a1", False, "m", "2026-01-01T00:00", text=text, **more)
+    return Outer("a1:1", 1, "a1", False, "0" * 12, "2026-01-01T00:00", text=text, **more)
 
 
 def test_the_token_within(place):
@@ -419,7 +419,7 @@ def test_a_file_of_something_else_stays(place, tmp_path):
 ])  # fmt: skip
 def test_what_another_put_there_is_no_seats_token(place, tmp_path, kind, told):
     """`--to` may be in a folder that others write, as /tmp: another seat's token would go to this one's station."""
-    others = Outer("b1:1", 2, "b1", False, "m", "2026-01-01T00:00", text=PREFIX + "55" * 32)
+    others = Outer("b1:1", 2, "b1", False, "0" * 12, "2026-01-01T00:00", text=PREFIX + "55" * 32)
     with_tokens(place, outer(), others, seats=(WITHIN, TokenSeat("b1", "bolt", "33" * 32)))
     path, real = tmp_path / "a1.token", tmp_path / "real"
     real.write_text(others.text if kind == "other seat" else TEXT)

@@ -35,7 +35,8 @@ def tokens_with(*outers):
 
 
 def outer(number, seat="a1", **more):
-    kept = {"text": "t" * number, "mark": mark_of("t" * number), "looks": False, "since": f"{DAY}T00:00"}
+    text = f"{token.PREFIX}{number:064x}"
+    kept = {"text": text, "mark": mark_of(text), "looks": False, "since": f"{DAY}T00:00"}
     return Outer(token=f"{seat}:{number}", number=number, seat=seat, **{**kept, **more})
 
 

@@ -44,8 +44,8 @@ from wanekupo.common.process import end_tool
 from wanekupo.standby import living
 from wanekupo.standby.half import SETTINGS, Half, StandbyError, read_settings
 from wanekupo.common.token_file import (
-    HEALTH, LAST, MINUTE, PREFIX, Outer, TokenError, Tokens, TokenSeat, alone, check_folder, inner_of, is_past,
-    mark_of, now, put, read, text_of, tokens_of,
+    HEALTH, HOLDER, LAST, MINUTE, NAME, PREFIX, SERVER, SUBJECT, Outer, TokenError, Tokens, TokenSeat, alone,
+    check_folder, inner_of, is_past, mark_of, now, put, read, text_of, tokens_of,
 )  # fmt: skip
 from wanekupo.common.site_file import digest_of, digests_of, grown, is_in, lines_of
 from wanekupo.common.whole_file import make_file, put_whole
@@ -53,9 +53,6 @@ from wanekupo.common.whole_file import make_file, put_whole
 NAMED = "station-token"
 
 FILE, SITE, PID = "/etc/station/tokens.conf", "/etc/station/site.toml", "/run/nginx.pid"
-NAME = r"[A-Za-z0-9._-]{1,32}"
-SERVER = r"[a-z][a-z0-9_]{0,31}|127\.0\.0\.1:[1-9]\d{0,4}"
-SUBJECT = r"[A-Za-z0-9 ._@:/=,+'()-]{3,400}"
 # How long nginx may take to start its workers anew, in seconds.
 TAKEN = 30.0
 
@@ -277,7 +274,7 @@ def add(args: argparse.Namespace, tokens: Tokens) -> Outcome:
     if subject and any(it.subject == subject for it in tokens.open_ones()):
         raise TokenError(1, f"the certificate {subject} has a seat already")
     until = minute_of(args.until) if args.until else ""
-    holder = of_form(r"[ -~]{0,80}", args.holder, "text of at most 80 letters")
+    holder = of_form(HOLDER, args.holder, "text of at most 80 letters")
     like = Outer("", 0, args.seat, args.look, "", "", subject=subject, until=until, holder=holder)
     made = new_one(tokens, like)
     return Outcome(told=told_of(made), secret=made.text)
