@@ -16,7 +16,8 @@ from dataclasses import asdict, dataclass, field, replace
 from pathlib import Path
 from typing import Optional
 
-from wanekupo.common.errors import PlantError
+from wanekupo.common.errors import PlantError, UnsafeFile
+from wanekupo.common.files import own_path
 from wanekupo.common.store_user import UserError, opened
 from wanekupo.common.whole_file import held, put_whole, sync
 
@@ -244,6 +245,17 @@ def check_folder(folder: Path) -> None:
     is_shared = there.st_mode & 0o022 and not there.st_mode & stat.S_ISVTX
     if there.st_uid not in (0, os.geteuid()) or is_shared:
         raise TokenError(1, f"{folder} is another user's, or others may write it: name a folder of your own")
+
+
+def own_file(file: str) -> Path:
+    """Where a file is that root reads and puts anew: his own, in a folder where nobody else puts another one."""
+    try:
+        path = own_path(file)
+    except UnsafeFile as error:
+        raise TokenError(1, str(error)) from None
+    check_folder(path.parent)
+    _check_owner(path)
+    return path
 
 
 @contextmanager

@@ -45,8 +45,9 @@ from wanekupo.standby import living
 from wanekupo.standby.half import SETTINGS, Half, StandbyError, read_settings
 from wanekupo.common.token_file import (
     HEALTH, HOLDER, LAST, MINUTE, NAME, PREFIX, SERVER, SUBJECT, Outer, TokenError, Tokens, TokenSeat, alone,
-    check_folder, inner_of, is_past, mark_of, now, put, read, text_of, tokens_of,
+    check_folder, inner_of, is_past, mark_of, now, own_file, put, read, text_of, tokens_of,
 )  # fmt: skip
+from wanekupo.common.store_user import read_small
 from wanekupo.common.site_file import digest_of, digests_of, grown, is_in, lines_of
 from wanekupo.common.whole_file import make_file, put_whole
 
@@ -171,7 +172,7 @@ def put_site(args: argparse.Namespace, done: Outcome) -> Optional[TokenError]:
     """A site file's new text, where a command has one."""
     try:
         if done.site:
-            put_whole(Path(args.into).resolve(), done.site, os.stat(args.into))
+            put_whole(args.into, done.site, args.into.stat())
         return None
     except OSError as error:
         told = f"`{NAMED} seat {args.seat}` prints the lines that it lacks"
@@ -240,7 +241,8 @@ def seat(args: argparse.Namespace, tokens: Tokens) -> Outcome:
     if args.into:
         if not os.access(args.into, os.W_OK):
             raise TokenError(1, f"{args.into} can't be written")
-        text = grown(Path(args.into).read_text(encoding="utf-8"), made, args.into)
+        args.into = own_file(args.into)
+        text = grown(read_small(args.into).decode(), made, str(args.into))
         return Outcome(told=f"{made.title()} is in {args.into}", site=text)
     return Outcome(lines_of(made), f"{made.title()}: these lines are for the site file")
 
