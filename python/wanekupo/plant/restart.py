@@ -185,7 +185,7 @@ def service(*words: str) -> bool:
 
 
 def is_healthy(args: argparse.Namespace) -> bool:
-    words = ["curl", "-s", "-m", "5", "-o", "/dev/null", "-w", "%{http_code}", "--cacert", str(args.ca), args.health]
+    words = ["curl", "-q", "-s", "-m", "5", "-o", "/dev/null", "-w", "%{http_code}", "--cacert", str(args.ca), args.health]
     done = subprocess.run(words, stdin=subprocess.DEVNULL, stdout=subprocess.PIPE, check=False)
     return done.stdout == b"200"
 
