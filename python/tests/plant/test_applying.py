@@ -3,6 +3,7 @@
 import argparse
 import http.client
 import os
+import signal
 import stat
 import subprocess
 from types import SimpleNamespace
@@ -12,7 +13,7 @@ from conftest import TOP
 from wanekupo.plant.site import apply as applying
 from wanekupo.plant.site.apply import Stopped, apply
 from wanekupo.plant.site.plan import PLACED, PREPARED, STOPPING, GrowthPlan, SeatWish, keep_plan, read_plan
-from wanekupo.common.store_user import UserError
+from wanekupo.common.store_user import STOPS, UserError
 from wanekupo.common.token_file import Outer, TokenSeat, TokenError, Tokens, put, text_of
 
 OLD, NEW = "customer = [] # old\r\n", "customer = [] # new\r\n"
@@ -159,8 +160,8 @@ def test_the_backup_of_a_run_that_was_cut_goes(place):
 def test_the_new_text_has_the_owner_and_the_mode_of_the_old_one(place, monkeypatch, mode):
     flags, calls = [], []
     opened, owned, moded = os.open, os.fchown, os.fchmod
-    monkeypatch.setattr(applying.os, "open", lambda path, flag, *more: (flags.append((str(path), flag, *more)),
-                                                                       opened(path, flag, *more))[1])  # fmt: skip
+    monkeypatch.setattr(applying.os, "open", lambda path, flag, *more, **kept: (
+        flags.append((str(path), flag, *more)), opened(path, flag, *more, **kept))[1])  # fmt: skip
     monkeypatch.setattr(applying.os, "fchown", lambda fd, *ids: (calls.append(ids), owned(fd, *ids)))
     monkeypatch.setattr(applying.os, "fchmod", lambda fd, bits: (calls.append(bits), moded(fd, bits)))
     monkeypatch.setattr(applying.os, "fsync", lambda fd: calls.append("sync"))
@@ -211,6 +212,32 @@ def test_a_signal_leaves_the_server_started(place, monkeypatch, stage, status):
         apply(place, plan)
     assert error.value.status == status and heads(place) == [("SERVICE", "START")]
     assert place.next.exists(), "a run that is begun again needs it"
+
+
+@pytest.mark.parametrize("error", [TokenError(1, "t"), UserError("u"), OSError("o"), KeyboardInterrupt(), ValueError("v")])
+@pytest.mark.parametrize("step", ["tried_over_backup", "put_in_place", "start", "give_token"])
+def test_whatever_fails_the_server_is_started(place, monkeypatch, step, error):
+    monkeypatch.setattr(applying, step, lambda *_: (_ for _ in ()).throw(error))
+    plan = GrowthPlan(wishes=[SeatWish("a1", "acme")])
+    with pytest.raises(type(error)):
+        apply(place, plan)
+    assert [it for it in heads(place) if it[0] == "SERVICE"][-1] == ("SERVICE", "START")
+
+
+def test_no_signal_keeps_the_server_from_its_start(place, monkeypatch):
+    """And what is started ignores none of them."""
+    handlers, service = [signal.getsignal(it) for it in STOPS], place.service
+
+    def started(command):
+        for number in STOPS:
+            os.kill(os.getpid(), number)
+        words = ["sh", "-c", "kill -TERM $$"]
+        assert subprocess.run(words, check=False).returncode == -signal.SIGTERM
+        return service(command)
+
+    monkeypatch.setattr(place, "service", started)
+    applying.start_behind(place)
+    assert heads(place) == [("SERVICE", "START")] and [signal.getsignal(it) for it in STOPS] == handlers
 
 
 @pytest.mark.parametrize("fails, is_up", [({"START"}, True), (set(), False)])

@@ -3,6 +3,7 @@ needs root is tried by tests/plant/test_roads.py."""
 
 import contextlib
 import errno
+import io
 import math
 import os
 import signal
@@ -98,15 +99,9 @@ class FakeChild:
     def __init__(self, words, **more):
         FakeChild.words, FakeChild.more = words, more
         FakeChild.given = os.read(more["stdin"], 100)
-        self.pid = 0
+        self.pid, self.stdout, self.stderr = 0, io.BytesIO(), io.BytesIO()
 
-    def __enter__(self):
-        return self
-
-    def __exit__(self, *_):
-        pass
-
-    def wait(self):
+    def wait(self, patience):
         return 3
 
 
@@ -262,6 +257,20 @@ def test_what_a_process_prints_is_bounded():
             gathered(parts)
     with pytest.raises(UserError, match="took too long"):
         gathered([b"x", b"y"], end=0)
+
+
+def test_a_process_that_is_kept_is_given_up(monkeypatch):
+    """By ptrace(2) another process of the store's user keeps one that has ended: it can't be waited for."""
+    monkeypatch.setattr(store_user.subprocess, "Popen", FakeChild)
+    monkeypatch.setattr(store_user, "_gathered", lambda *_: [b"", b""])
+    monkeypatch.setattr(FakeChild, "wait", lambda self, patience: (_ for _ in ()).throw(
+        subprocess.TimeoutExpired("find", patience)))  # fmt: skip
+    with pytest.raises(UserError, match="another one of his keeps it"):
+        USER.run("find")
+    monkeypatch.setattr(store_user, "PATIENCE", 0.1)
+    monkeypatch.setattr(store_user.os, "waitpid", lambda child, how: (0, 0) if how == os.WNOHANG else pytest.fail("waits"))
+    with pytest.raises(UserError, match="another one of his keeps it"):
+        called_as_another(monkeypatch, lambda: 0)
 
 
 class Stubborn:

@@ -50,6 +50,8 @@ PRINTED, RELAYED, SAID, SMALL = 16 << 20, 1 << 20, 4000, 1 << 20
 # user's may have its pipe, and how long one may take of which nothing else is said: a copy of a large store takes that.
 # What root has done whole, as a backup with its way off or a restore, may take a day; what writes a line, a minute.
 PATIENCE, LINGER, LONGEST, DAY, MINUTE = 10, 3, 3600, 86400, 60
+# Whoever traces a process that has ended keeps it from root for as long as he likes.
+KEPT = "a process of the store's user has ended, and another one of his keeps it: it was given up"
 OOM_SCORE = "/proc/self/oom_score_adj"
 # Of prctl(2); of keyctl(2), whose number is the machine's.
 PDEATHSIG, DUMPABLE, NO_NEW_PRIVS = 1, 4, 38
@@ -249,13 +251,17 @@ class StoreUser:
                 )  # fmt: skip
             except (OSError, subprocess.SubprocessError) as error:
                 raise UserError(f"{words[0]}: {cause_of(error)}") from None
-        with child:
-            try:
-                printed = _gathered(child, most, time.monotonic() + seconds)
-                status = child.wait()
-            except BaseException:
-                _ended(child)
-                raise
+        try:
+            printed = _gathered(child, most, time.monotonic() + seconds)
+            status = child.wait(PATIENCE)
+        except subprocess.TimeoutExpired:
+            raise UserError(KEPT) from None
+        except BaseException:
+            _ended(child)
+            raise
+        finally:
+            for pipe in (child.stdout, child.stderr):
+                pipe.close()  # type: ignore[union-attr]
         return subprocess.CompletedProcess(list(words), status, *(it.decode(errors="replace") for it in printed))
 
     def call(self, function: Callable[[], object], told: Callable[[BaseException], str] = str,
@@ -332,6 +338,17 @@ def _plugged(ends: list[int]) -> int:
         os.dup2(handle, number, inheritable=number < 3)
     os.closerange(len(high), os.sysconf("SC_OPEN_MAX"))
     return len(high) - 1
+
+
+def _reaped(child: int) -> int:
+    """The status of a process that has ended."""
+    end = time.monotonic() + PATIENCE
+    while time.monotonic() < end:
+        found, status = os.waitpid(child, os.WNOHANG)
+        if found:
+            return status
+        time.sleep(0.02)
+    raise UserError(KEPT)
 
 
 def _ended(child: "subprocess.Popen[bytes]") -> None:
@@ -428,12 +445,13 @@ def _waited(child: int, pipes: list[tuple[int, int]], mask: set[signal.Signals],
         for kill in (os.killpg, os.kill):  # it may have no group of its own yet
             with contextlib.suppress(ProcessLookupError):
                 kill(child, signal.SIGKILL)
+        with contextlib.suppress(UserError):
+            _reaped(child)
         raise
     finally:
         for read in reads:
             os.close(read)
-        status = os.waitpid(child, 0)[1]
-    return shown(said), status
+    return shown(said), _reaped(child)
 
 
 # ---- Rooms.

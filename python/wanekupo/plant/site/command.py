@@ -39,7 +39,7 @@ from wanekupo.plant.site.growth import with_customer, with_items
 from wanekupo.plant.site.place import Place, text_in
 from wanekupo.plant.site.plan import PREPARED, GrowthPlan, SeatWish, drop_plan, keep_plan, read_plan
 from wanekupo.plant.site.trials import checked, is_map, tested_growth, tested_others, tried_over_copy
-from wanekupo.common.store_user import ROOMS
+from wanekupo.common.store_user import ROOMS, STOPS
 from wanekupo.common.token_file import HEALTH, TokenError, Tokens, alone, check_folder, put, read, tokens_of
 from wanekupo.common.site_file import digest_of
 
@@ -302,14 +302,8 @@ def parser() -> argparse.ArgumentParser:
     return made
 
 
-SIGNALS = (signal.SIGTERM, signal.SIGINT, signal.SIGHUP)
-
-
 def stopped(number: int, _: object) -> None:
-    """A signal ends a run as an error does; a second one does nothing, as the server may have to be started. It isn't
-    ignored, since what is started then would ignore it too."""
-    for other in SIGNALS:
-        signal.signal(other, lambda *_: None)
+    """A signal ends a run as an error does, and a second one what that waits for. The server is started then."""
     raise Stopped(number)
 
 
@@ -317,7 +311,7 @@ def main() -> int:
     args = parser().parse_args()
     if args.command == "add-pool":
         args.pools = [(args.first, args.count)]
-    for number in SIGNALS:
+    for number in STOPS:
         signal.signal(number, stopped)
     os.umask(0o077)
     return end_tool(NAMED, lambda: COMMANDS[args.command](args, Place(args)))
