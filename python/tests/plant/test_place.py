@@ -2,6 +2,8 @@
 
 import argparse
 import contextlib
+import os
+import signal
 import subprocess
 from pathlib import Path
 from types import SimpleNamespace
@@ -12,6 +14,7 @@ from conftest import TOP
 from wanekupo.plant.site import place as places
 from wanekupo.plant.site.place import Place, text_in
 from wanekupo.plant.trial_copy import Backup, NoCopyError, copy_files, copy_running
+from wanekupo.common.store_user import UserError
 from wanekupo.common.token_file import TokenError
 
 
@@ -44,6 +47,19 @@ def place(tmp_path):
 def test_a_text_as_it_is(tmp_path, data, text):
     (tmp_path / "f").write_bytes(data)
     assert text_in(tmp_path / "f") == text
+
+
+def test_a_text_is_a_plain_files(tmp_path):
+    """Another user may have put a pipe, a link or an endless file where root looks."""
+    (tmp_path / "link").symlink_to("f")
+    (tmp_path / "f").write_bytes(bytes((1 << 20) + 1))  # of docs/reference/program.md: a byte more than a site may have
+    os.mkfifo(tmp_path / "pipe")
+    signal.signal(signal.SIGALRM, lambda *_: pytest.fail("waited for ever"))
+    signal.alarm(60)
+    for name in ("link", "f", "pipe", "."):
+        with pytest.raises((UserError, OSError)):
+            text_in(tmp_path / name)
+    signal.alarm(0)
 
 
 def test_the_line_of_what_is_no_text(tmp_path):

@@ -1,6 +1,5 @@
 """The command that grows a site: what its words ask for, what is refused, and what is written when."""
 
-import signal
 import subprocess
 import sys
 
@@ -340,13 +339,11 @@ def test_the_defaults_are_those_of_the_package():
     assert (args.stop, args.start) == ("systemctl stop station", "systemctl start station")
 
 
-def test_a_second_signal_does_nothing(monkeypatch):
-    handlers = {}
-    monkeypatch.setattr(site.signal, "signal", lambda number, handler: handlers.update({number: handler}))
-    with pytest.raises(Stopped, match="signal 15"):
-        site.stopped(15, None)
-    assert set(handlers) == {signal.SIGTERM, signal.SIGINT, signal.SIGHUP}
-    assert all(callable(it) and it(15, None) is None for it in handlers.values()), "it isn't ignored by what is started"
+def test_a_second_signal_ends_what_the_first_waits_for(monkeypatch):
+    monkeypatch.setattr(site.signal, "signal", lambda *_: pytest.fail("the second one is met otherwise"))
+    for _ in range(2):
+        with pytest.raises(Stopped, match="signal 15"):
+            site.stopped(15, None)
 
 
 @pytest.mark.parametrize("error, status, told", [

@@ -35,7 +35,8 @@ def tokens_with(*outers):
 
 
 def outer(number, seat="a1", **more):
-    kept = {"text": "t" * number, "mark": mark_of("t" * number), "looks": False, "since": f"{DAY}T00:00"}
+    text = f"{token.PREFIX}{number:064x}"
+    kept = {"text": text, "mark": mark_of(text), "looks": False, "since": f"{DAY}T00:00"}
     return Outer(token=f"{seat}:{number}", number=number, seat=seat, **{**kept, **more})
 
 
@@ -204,6 +205,25 @@ def test_a_link_to_a_site_file_stays_one(tmp_path):
     words = ["--file", str(path), "--no-reload", "seat", "a1"]
     token.run_token(args_of(*words, "--customer", "acme", "--into", str(link)))
     assert link.is_symlink() and "a1" in site.read_text()
+
+
+def test_a_site_file_lies_where_nobody_else_puts_another(tmp_path):
+    """Whoever may write the folder may put a link in the file's place, behind the reading of it."""
+    path, site = files(tmp_path)
+    shared = tmp_path / "shared"
+    shared.mkdir(mode=0o777)
+    shared.chmod(0o777)
+    there = shared / "new.toml"
+    there.write_text(SITE)
+    (shared / "link.toml").symlink_to(site)
+    (tmp_path / "way").symlink_to(shared)
+    for name in (there, shared / "link.toml", tmp_path / "way/new.toml"):
+        with pytest.raises(TokenError, match="others (may|can) write"):
+            token.run(args_of("--file", str(path), "--no-reload", "seat", "a1", "--customer", "acme", "--into", str(name)))
+    site.chmod(0o666)
+    with pytest.raises(TokenError, match="others may write it"):
+        token.run(args_of("--file", str(path), "--no-reload", "seat", "a1", "--customer", "acme", "--into", str(site)))
+    assert there.read_text() == site.read_text() == SITE and not path.exists()
 
 
 def test_a_list_that_cant_be_left_is_status_6(tmp_path, monkeypatch):

@@ -208,6 +208,31 @@ def test_a_record_that_is_none_is_told_in_a_sentence(record):
         parsed(f"#: {record}\n", Path("f"))
 
 
+# Members of a record that would be a directive of nginx, or are of another kind than station-token writes.
+EVIL = 'x" 0;\n}\naccess_log /etc/cron.d/evil evil;\nmap $uri $zz {\n    "y'
+ODD = [*[(name, EVIL) for name in ("token", "mark", "since", "text", "subject", "until", "holder", "ended")],
+       ("text", "x"), ("text", PREFIX + "\u0661" * 64), ("number", True), ("number", "1"), ("number", 0),
+       ("looks", "yes"), ("looks", 1), ("until", "2026-12-24T23:59\n")]  # fmt: skip
+ODD_SEATS = [*[(name, EVIL) for name in ("seat", "customer", "inner", "server")], ("given", -1), ("inner", "$http_x"),
+             ("server", "127.0.0.1:\u0661"), ("customer", "")]  # fmt: skip
+
+
+@pytest.mark.parametrize("name, value, is_seat", [*((*it, False) for it in ODD), *((*it, True) for it in ODD_SEATS)])
+def test_no_member_of_a_record_has_another_form(monkeypatch, name, value, is_seat):
+    """A file that somebody handed over is all made of its records, and what stands in them becomes nginx's."""
+    tokens = sample()
+    if is_seat:
+        tokens.seats["a1"] = replace(tokens.seats["a1"], **{name: value})
+    else:
+        tokens.outers[0] = replace(tokens.outers[0], **{name: value})
+    with monkeypatch.context() as before:
+        before.setattr(token_file, "_test_form", lambda record: None, raising=False)
+        handed = tokens_text(tokens)
+    for made in (lambda: parsed(handed, Path("f")), lambda: parsed(handed, Path("f"), True), lambda: tokens_text(tokens)):  # fmt: skip
+        with pytest.raises(TokenError, match=f"another form than station-token writes: its {name}$"):
+            made()
+
+
 # The owner and the mode of a folder, and whether a token may be made in it: by root, and by the user 7.
 FOLDERS = [(0, 0o700, 0, True), (0, 0o755, 0, True), (0, 0o1777, 0, True), (0, 0o777, 0, False), (0, 0o775, 0, False),
            (7, 0o700, 0, False), (7, 0o1777, 0, False), (7, 0o700, 7, True), (8, 0o755, 7, False)]  # fmt: skip

@@ -7,10 +7,10 @@ there, and hold each process of that user's. So nothing that he writes, names, p
   its owner can put another one in its place. Its owner is the store's user, whatever a file in it says, and never root.
   A file in it is opened by the folder's descriptor, and is a plain one of that user's.
 - Root reads, writes and removes nothing there by a name: a process of that user's does it (`StoreUser.run`, `call`).
-- That process has a session of its own and no terminal, no descriptor of root's but its pipes, none of root's words in
-  its environment, and can't get rights again. It ends with root's. Behind its end root waits for nobody who has its
-  pipe. Its time is bounded, and where memory runs out Linux ends it before the server. What it prints is bounded, is a
-  form or is nothing, and reaches a terminal without control characters (`shown`).
+- That process has a session of its own, none of root's keys and no terminal, no descriptor of root's but its pipes, none
+  of root's words in its environment, and can't get rights again. It ends with root's. Behind its end root waits for
+  nobody who has its pipe or itself. Its time is bounded, and where memory runs out Linux ends it before the server. What
+  it prints is bounded, is a form or is nothing, and reaches a terminal without control characters (`shown`).
 - A copy that is tried lies in a room: a folder of the user's in one of root's, which only root can name or remove.
 """
 
@@ -35,7 +35,7 @@ from dataclasses import dataclass
 from pathlib import Path
 from typing import NoReturn
 
-from wanekupo.common.errors import PlantError
+from wanekupo.common.errors import PlantError, cause_of
 
 STOPS = (signal.SIGTERM, signal.SIGINT, signal.SIGHUP)
 # How a component of a folder's path is opened: a link is none.
@@ -50,9 +50,12 @@ PRINTED, RELAYED, SAID, SMALL = 16 << 20, 1 << 20, 4000, 1 << 20
 # user's may have its pipe, and how long one may take of which nothing else is said: a copy of a large store takes that.
 # What root has done whole, as a backup with its way off or a restore, may take a day; what writes a line, a minute.
 PATIENCE, LINGER, LONGEST, DAY, MINUTE = 10, 3, 3600, 86400, 60
+# Whoever traces a process that has ended keeps it from root for as long as he likes.
+KEPT = "a process of the store's user has ended, and another one of his keeps it: it was given up"
 OOM_SCORE = "/proc/self/oom_score_adj"
-# Of prctl(2).
+# Of prctl(2); of keyctl(2), whose number is the machine's.
 PDEATHSIG, DUMPABLE, NO_NEW_PRIVS = 1, 4, 38
+KEYCTL, JOIN_SESSION_KEYRING = {"x86_64": 250, "aarch64": 219}, 1
 
 
 class UserError(PlantError):
@@ -75,6 +78,23 @@ def end_first() -> None:
             os.write(handle, b"1000")
         finally:
             os.close(handle)
+
+
+def leave_keys() -> None:
+    """Gives root's process a session keyring of its own, which has nothing: in that of before are the keys of root's
+    login, and whoever has the keyring reads them. A kernel or a container without keyrings has none to leave."""
+    if os.geteuid():
+        return
+    libc = ctypes.CDLL(None, use_errno=True)
+    failed = libc.syscall(KEYCTL[os.uname().machine], JOIN_SESSION_KEYRING, None) < 0
+    if failed and ctypes.get_errno() not in (errno.ENOSYS, errno.EPERM):
+        raise UserError(f"keyctl: {os.strerror(ctypes.get_errno())}")
+
+
+def _begin() -> None:
+    """What a process of the user's is first."""
+    end_first()
+    leave_keys()
 
 
 # ---- Folders and files.
@@ -239,17 +259,21 @@ class StoreUser:
                 child = subprocess.Popen(
                     self.words(*words), stdin=stdin, stdout=subprocess.PIPE, stderr=subprocess.PIPE, cwd=cwd,
                     env=self.environment(), start_new_session=True, pass_fds=fds, umask=0o077,
-                    preexec_fn=end_first,
+                    preexec_fn=_begin,
                 )  # fmt: skip
-            except OSError as error:
-                raise UserError(f"{words[0]}: {error.strerror}") from None
-        with child:
-            try:
-                printed = _gathered(child, most, time.monotonic() + seconds)
-                status = child.wait()
-            except BaseException:
-                _ended(child)
-                raise
+            except (OSError, subprocess.SubprocessError) as error:
+                raise UserError(f"{words[0]}: {cause_of(error)}") from None
+        try:
+            printed = _gathered(child, most, time.monotonic() + seconds)
+            status = child.wait(PATIENCE)
+        except subprocess.TimeoutExpired:
+            raise UserError(KEPT) from None
+        except BaseException:
+            _ended(child)
+            raise
+        finally:
+            for pipe in (child.stdout, child.stderr):
+                pipe.close()  # type: ignore[union-attr]
         return subprocess.CompletedProcess(list(words), status, *(it.decode(errors="replace") for it in printed))
 
     def call(self, function: Callable[[], int | None], told: Callable[[BaseException], str] = str,
@@ -298,7 +322,7 @@ class StoreUser:
     def _become(self, parent: int) -> None:
         """Makes this process the user's for good."""
         words = self.environment()
-        end_first()
+        _begin()
         os.setgroups(os.getgrouplist(self.name, self.group))
         os.setresgid(self.group, self.group, self.group)
         os.setresuid(self.number, self.number, self.number)
@@ -326,6 +350,17 @@ def _plugged(ends: list[int]) -> int:
         os.dup2(handle, number, inheritable=number < 3)
     os.closerange(len(high), os.sysconf("SC_OPEN_MAX"))
     return len(high) - 1
+
+
+def _reaped(child: int) -> int:
+    """The status of a process that has ended."""
+    end = time.monotonic() + PATIENCE
+    while time.monotonic() < end:
+        found, status = os.waitpid(child, os.WNOHANG)
+        if found:
+            return status
+        time.sleep(0.02)
+    raise UserError(KEPT)
 
 
 def _ended(child: "subprocess.Popen[bytes]") -> None:
@@ -422,12 +457,13 @@ def _waited(child: int, pipes: list[tuple[int, int]], mask: Collection[int], unt
         for kill in (os.killpg, os.kill):  # it may have no group of its own yet
             with contextlib.suppress(ProcessLookupError):
                 kill(child, signal.SIGKILL)
+        with contextlib.suppress(UserError):
+            _reaped(child)
         raise
     finally:
         for read in reads:
             os.close(read)
-        status = os.waitpid(child, 0)[1]
-    return shown(said), status
+    return shown(said), _reaped(child)
 
 
 # ---- Rooms.

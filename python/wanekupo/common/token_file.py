@@ -16,7 +16,8 @@ from dataclasses import asdict, dataclass, field, replace
 from pathlib import Path
 from typing import Optional
 
-from wanekupo.common.errors import PlantError
+from wanekupo.common.errors import PlantError, UnsafeFile
+from wanekupo.common.files import own_path
 from wanekupo.common.store_user import UserError, opened
 from wanekupo.common.files import hold_lock, replace_file, sync
 
@@ -36,6 +37,21 @@ LAST = "T23:59"
 
 # A time as nginx begins it: YYYY-MM-DDTHH:MM, by the machine's clock and time zone.
 MINUTE = "%Y-%m-%dT%H:%M"
+
+# The forms of what a record has: nothing else of it may reach nginx's file.
+NAME = r"[A-Za-z0-9._-]{1,32}"
+SERVER = r"[a-z][a-z0-9_]{0,31}|127\.0\.0\.1:[1-9][0-9]{0,4}"
+SUBJECT = r"[A-Za-z0-9 ._@:/=,+'()-]{3,400}"
+INNER = r"[!#%-\[\]-~]{1,1024}"
+HOLDER = r"[ -~]{0,80}"
+TIME = r"[0-9]{4}-[0-9]{2}-[0-9]{2}T[0-9]{2}:[0-9]{2}"
+FORMS = {
+    "seat": f"@?{NAME}", "customer": f"@?{NAME}", "inner": INNER, "server": SERVER, "given": "[0-9]{1,9}",
+    "token": f"@?{NAME}:[0-9]{{1,9}}", "number": "[1-9][0-9]{0,8}", "looks": "True|False", "mark": "[0-9a-f]{12}",
+    "since": TIME, "text": f"(?:{PREFIX}[0-9a-f]{{64}})?", "subject": f"(?:{SUBJECT})?", "until": f"(?:{TIME})?",
+    "holder": HOLDER, "ended": f"(?:{TIME})?",
+}  # fmt: skip
+KINDS = {"given": int, "number": int, "looks": bool}
 
 
 class TokenError(PlantError):
@@ -135,9 +151,18 @@ def _by_number(name: str, rows: list[tuple[int, str]]) -> str:
     return _map("$caller", name, [f'{number} "{text}"' for number, text in rows if text])
 
 
+def _test_form(record: dict[str, object]) -> None:
+    """Refuses a record of which a member has another form: as a file may have it that somebody handed over."""
+    for name, value in record.items():
+        if type(value) is not KINDS.get(name, str) or not re.fullmatch(FORMS[name], str(value)):
+            raise TokenError(1, f"a record of the tokens' file has another form than station-token writes: its {name}")
+
+
 def tokens_text(tokens: Tokens) -> str:
-    """The file."""
+    """The file. Each member of its records is held to its form, whether they were read or are written."""
     records = [asdict(it) for it in tokens.seats.values()] + [asdict(it) for it in tokens.outers]
+    for record in records:
+        _test_form(record)
     lines = "".join("#: " + json.dumps(record, separators=(",", ":")) + "\n" for record in records)
     outers = tokens.open_ones()
     seat_of = {it.number: tokens.seats[it.seat] for it in outers}
@@ -222,6 +247,17 @@ def check_folder(folder: Path) -> None:
         raise TokenError(1, f"{folder} is another user's, or others may write it: name a folder of your own")
 
 
+def own_file(file: str) -> Path:
+    """Where a file is that root reads and puts anew: his own, in a folder where nobody else puts another one."""
+    try:
+        path = own_path(file)
+    except UnsafeFile as error:
+        raise TokenError(1, str(error)) from None
+    check_folder(path.parent)
+    _check_owner(path)
+    return path
+
+
 @contextmanager
 def alone(path: Path, patience: float) -> Iterator[None]:
     """One run at a time, in a folder that nobody else may write: the next one waits, for so many seconds."""
@@ -235,6 +271,6 @@ def alone(path: Path, patience: float) -> Iterator[None]:
 def inner_of(file: str) -> str:
     """The token of a file, as a station keeps it."""
     text = Path(file).read_text(encoding="ascii").strip()
-    if not re.fullmatch(r"[!#%-\[\]-~]{1,1024}", text):
+    if not re.fullmatch(INNER, text):
         raise TokenError(1, f'{file}: a token is visible ASCII, here without ", $ and \\')
     return text

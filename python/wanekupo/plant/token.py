@@ -43,9 +43,10 @@ from wanekupo.common.process import end_tool, run_command
 from wanekupo.standby import living
 from wanekupo.standby.half import SETTINGS, Half, StandbyError, read_settings
 from wanekupo.common.token_file import (
-    HEALTH, LAST, MANAGER, MINUTE, PREFIX, Outer, TokenError, Tokens, TokenSeat, alone, check_folder, inner_of, is_past,
-    mark_of, current_minute, put, read, tokens_text, tokens_of,
+    HEALTH, HOLDER, LAST, MANAGER, MINUTE, NAME, PREFIX, SERVER, SUBJECT, Outer, TokenError, Tokens, TokenSeat, alone,
+    check_folder, inner_of, is_past, mark_of, current_minute, own_file, put, read, tokens_text, tokens_of,
 )  # fmt: skip
+from wanekupo.common.store_user import read_small
 from wanekupo.common.site_file import digest_of, read_site_file
 from wanekupo.common.files import make_file, replace_file
 from wanekupo.plant.site.growth import lines_of, with_seat
@@ -53,9 +54,6 @@ from wanekupo.plant.site.growth import lines_of, with_seat
 NAMED = "station-token"
 
 FILE, SITE, PID = "/etc/station/tokens.conf", "/etc/station/site.toml", "/run/nginx.pid"
-NAME = r"[A-Za-z0-9._-]{1,32}"
-SERVER = r"[a-z][a-z0-9_]{0,31}|127\.0\.0\.1:[1-9]\d{0,4}"
-SUBJECT = r"[A-Za-z0-9 ._@:/=,+'()-]{3,400}"
 # How long nginx may take to start its workers anew, in seconds.
 TAKEN = 30.0
 
@@ -171,7 +169,7 @@ def put_site(args: argparse.Namespace, done: Outcome) -> Optional[TokenError]:
     """A site file's new text, where a command has one."""
     try:
         if done.site:
-            replace_file(Path(args.into).resolve(), done.site, like=os.stat(args.into))
+            replace_file(args.into, done.site, like=args.into.stat())
         return None
     except OSError as error:
         told = f"`{NAMED} seat {args.seat}` prints the lines that it lacks"
@@ -253,7 +251,8 @@ def seat(args: argparse.Namespace, tokens: Tokens) -> Outcome:
     if args.into:
         if not os.access(args.into, os.W_OK):
             raise TokenError(1, f"{args.into} can't be written")
-        text = with_seat(Path(args.into).read_bytes().decode(), made, args.into)
+        args.into = own_file(args.into)
+        text = with_seat(read_small(args.into).decode(), made, str(args.into))
         return Outcome(told=f"{made.title()} is in {args.into}", site=text)
     return Outcome(lines_of(made), f"{made.title()}: these lines are for the site file")
 
@@ -287,7 +286,7 @@ def add_outer(args: argparse.Namespace, tokens: Tokens) -> Outcome:
     if subject and any(it.subject == subject for it in tokens.open_ones()):
         raise TokenError(1, f"the certificate {subject} has a seat already")
     until = minute_of(args.until) if args.until else ""
-    holder = of_form(r"[ -~]{0,80}", args.holder, "text of at most 80 letters")
+    holder = of_form(HOLDER, args.holder, "text of at most 80 letters")
     like = Outer("", 0, args.seat, args.look, "", "", subject=subject, until=until, holder=holder)
     made = new_one(tokens, like)
     return Outcome(told=outer_sentence(made), secret=made.text)

@@ -37,10 +37,9 @@ from wanekupo.plant.site.growth import with_customer, with_items
 from wanekupo.plant.site.place import Place, text_in
 from wanekupo.plant.site.plan import PREPARED, GrowthPlan, SeatWish, drop_plan, keep_plan, read_plan
 from wanekupo.plant.site.trials import checked, is_map, tested_growth, tested_others, tried_over_copy
-from wanekupo.common.store_user import ROOMS
-from wanekupo.common.token_file import HEALTH, TokenError, Tokens, alone, check_folder, put, read, tokens_of
+from wanekupo.common.store_user import ROOMS, STOPS
+from wanekupo.common.token_file import HEALTH, NAME, TokenError, Tokens, alone, check_folder, put, read, tokens_of
 from wanekupo.common.site_file import SiteCustomer, digest_of, read_site
-from wanekupo.plant.token import NAME
 
 NAMED = "station-site"
 
@@ -290,14 +289,8 @@ def parser() -> argparse.ArgumentParser:
     return made
 
 
-SIGNALS = (signal.SIGTERM, signal.SIGINT, signal.SIGHUP)
-
-
 def stopped(number: int, _: object) -> None:
-    """A signal ends a run as an error does; a second one does nothing, as the server may have to be started. It isn't
-    ignored, since what is started then would ignore it too."""
-    for other in SIGNALS:
-        signal.signal(other, lambda *_: None)
+    """A signal ends a run as an error does, and a second one what that waits for. The server is started then."""
     raise Stopped(number)
 
 
@@ -305,7 +298,7 @@ def main() -> int:
     args = parser().parse_args()
     if args.command == "add-pool":
         args.pools = [(args.first, args.count)]
-    for number in SIGNALS:
+    for number in STOPS:
         signal.signal(number, stopped)
     os.umask(0o077)
     return end_tool(NAMED, lambda: COMMANDS[args.command](args, Place(args)))

@@ -16,13 +16,13 @@ from pathlib import Path
 
 from wanekupo.plant.trial_copy import Backup, copy_files, copy_running, newest_backup
 from wanekupo.common.process import own_command
-from wanekupo.common.store_user import StoreFolder, StoreUser, readable, reader_for, room, shown
+from wanekupo.common.store_user import StoreFolder, StoreUser, read_small, readable, reader_for, room, shown
 from wanekupo.common.token_file import TokenError
 
 
 def text_in(path: Path) -> str:
-    """A text as it is, with its ends of lines."""
-    data = path.read_bytes()
+    """A text as it is, with its ends of lines: of a plain file, as another user may have put a pipe or a link there."""
+    data = read_small(path)
     try:
         return data.decode()
     except UnicodeDecodeError as error:
