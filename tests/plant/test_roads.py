@@ -18,8 +18,7 @@ OWN = ["unshare", "--mount", "--pid", "--fork", "--mount-proc", "--kill-child", 
 TIOCSTI = Path("/proc/sys/dev/tty/legacy_tiocsti")
 
 
-@pytest.mark.parametrize("road", roads.ROADS)
-@pytest.mark.parametrize("tool", roads.tools_of(Path()))
+@pytest.mark.parametrize("tool, road", roads.pairs())
 def test_road_is_shut(program: Path, open_folder: Path, tool: str, road: str) -> None:
     if road == "terminal" and TIOCSTI.exists() and TIOCSTI.read_text().strip() == "0":
         pytest.skip("this kernel takes no TIOCSTI")

@@ -3,7 +3,6 @@
 import argparse
 import http.client
 import os
-import signal
 import stat
 import subprocess
 from types import SimpleNamespace
@@ -13,7 +12,7 @@ from conftest import TOP
 from wanekupo.plant.site import apply as applying
 from wanekupo.plant.site.apply import Stopped, apply
 from wanekupo.plant.site.plan import PLACED, PREPARED, STOPPING, GrowthPlan, SeatWish, keep_plan, read_plan
-from wanekupo.common.store_user import STOPS, UserError
+from wanekupo.common.store_user import UserError
 from wanekupo.common.token_file import Outer, TokenSeat, TokenError, Tokens, put, tokens_text
 
 OLD, NEW = "customer = [] # old\r\n", "customer = [] # new\r\n"
@@ -214,7 +213,10 @@ def test_a_signal_leaves_the_server_started(place, monkeypatch, stage, status):
     assert place.next.exists(), "a run that is begun again needs it"
 
 
-@pytest.mark.parametrize("error", [TokenError(1, "t"), UserError("u"), OSError("o"), KeyboardInterrupt(), ValueError("v")])
+ERRORS = [TokenError(1, "t"), UserError("u"), OSError("o"), KeyboardInterrupt(), ValueError("v")]
+
+
+@pytest.mark.parametrize("error", ERRORS)
 @pytest.mark.parametrize("step", ["tried_over_backup", "put_in_place", "start", "give_token"])
 def test_whatever_fails_the_server_is_started(place, monkeypatch, step, error):
     monkeypatch.setattr(applying, step, lambda *_: (_ for _ in ()).throw(error))
@@ -222,22 +224,6 @@ def test_whatever_fails_the_server_is_started(place, monkeypatch, step, error):
     with pytest.raises(type(error)):
         apply(place, plan)
     assert [it for it in heads(place) if it[0] == "SERVICE"][-1] == ("SERVICE", "START")
-
-
-def test_no_signal_keeps_the_server_from_its_start(place, monkeypatch):
-    """And what is started ignores none of them."""
-    handlers, service = [signal.getsignal(it) for it in STOPS], place.service
-
-    def started(command):
-        for number in STOPS:
-            os.kill(os.getpid(), number)
-        words = ["sh", "-c", "kill -TERM $$"]
-        assert subprocess.run(words, check=False).returncode == -signal.SIGTERM
-        return service(command)
-
-    monkeypatch.setattr(place, "service", started)
-    applying.start_behind(place)
-    assert heads(place) == [("SERVICE", "START")] and [signal.getsignal(it) for it in STOPS] == handlers
 
 
 @pytest.mark.parametrize("fails, is_up", [({"START"}, True), (set(), False)])

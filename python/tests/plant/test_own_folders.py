@@ -55,8 +55,9 @@ def test_folder_of_another_user_above(tmp_path: Path, monkeypatch: pytest.Monkey
 
 
 def test_what_is_signed_is_not_what_another_put_there(tmp_path: Path) -> None:
-    words = "req -x509 -newkey ec -pkeyopt ec_paramgen_curve:prime256v1 -nodes -subj /CN=plant -days 1 -keyout key.pem -out cert.pem"
-    subprocess.run(["openssl", *words.split()], cwd=tmp_path, check=True, capture_output=True)
+    words = "req -x509 -newkey ec -pkeyopt ec_paramgen_curve:prime256v1 -nodes -subj /CN=plant -days 1"
+    words = f"openssl {words} -keyout key.pem -out cert.pem"
+    subprocess.run(words.split(), cwd=tmp_path, check=True, capture_output=True)
     signer, file = Signer(cms=tmp_path / "cert.pem", cms_key=str(tmp_path / "key.pem")), tmp_path / "o1.csv"
     file.write_bytes(b"serial\nFORGED\n")
     signer.sign(file, b"serial\nA1\n")

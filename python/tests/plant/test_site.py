@@ -1,12 +1,16 @@
 """The command that grows a site: what its words ask for, what is refused, and what is written when."""
 
+import os
+import signal
 import subprocess
 import sys
+from types import SimpleNamespace
 
 import pytest
 from scripts import script
 from wanekupo.common.site_file import read_site
-from wanekupo.plant.site.apply import Stopped
+from wanekupo.common.store_user import STOPS
+from wanekupo.plant.site.apply import Stopped, start_behind
 from wanekupo.plant.site.plan import PLACED, PREPARED, GrowthPlan, SeatWish, keep_plan, read_plan
 from wanekupo.common.token_file import TokenSeat, TokenError, Tokens, put, tokens_text
 
@@ -344,6 +348,19 @@ def test_a_second_signal_ends_what_the_first_waits_for(monkeypatch):
     for _ in range(2):
         with pytest.raises(Stopped, match="signal 15"):
             site.stopped(15, None)
+
+
+def test_no_signal_keeps_the_server_from_its_start():
+    """And what is started ignores none of them."""
+    calls, handlers = [], [signal.getsignal(it) for it in STOPS]
+
+    def started(command):
+        for number in STOPS:
+            os.kill(os.getpid(), number)
+        calls.append((command, subprocess.run(["sh", "-c", "kill -TERM $$"], check=False).returncode))
+
+    start_behind(SimpleNamespace(service=started, args=SimpleNamespace(start="START")))
+    assert calls == [("START", -signal.SIGTERM)] and [signal.getsignal(it) for it in STOPS] == handlers
 
 
 @pytest.mark.parametrize("error, status, told", [

@@ -268,7 +268,8 @@ def test_a_process_that_is_kept_is_given_up(monkeypatch):
     with pytest.raises(UserError, match="another one of his keeps it"):
         USER.run("find")
     monkeypatch.setattr(store_user, "PATIENCE", 0.1)
-    monkeypatch.setattr(store_user.os, "waitpid", lambda child, how: (0, 0) if how == os.WNOHANG else pytest.fail("waits"))
+    waits = lambda child, how: (0, 0) if how == os.WNOHANG else pytest.fail("waits")  # noqa: E731
+    monkeypatch.setattr(store_user.os, "waitpid", waits)
     with pytest.raises(UserError, match="another one of his keeps it"):
         called_as_another(monkeypatch, lambda: 0)
 

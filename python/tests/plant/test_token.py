@@ -217,12 +217,13 @@ def test_a_site_file_lies_where_nobody_else_puts_another(tmp_path):
     there.write_text(SITE)
     (shared / "link.toml").symlink_to(site)
     (tmp_path / "way").symlink_to(shared)
+    words = ["--file", str(path), "--no-reload", "seat", "a1", "--customer", "acme", "--into"]
     for name in (there, shared / "link.toml", tmp_path / "way/new.toml"):
         with pytest.raises(TokenError, match="others (may|can) write"):
-            token.run_token(args_of("--file", str(path), "--no-reload", "seat", "a1", "--customer", "acme", "--into", str(name)))
+            token.run_token(args_of(*words, str(name)))
     site.chmod(0o666)
     with pytest.raises(TokenError, match="others may write it"):
-        token.run_token(args_of("--file", str(path), "--no-reload", "seat", "a1", "--customer", "acme", "--into", str(site)))
+        token.run_token(args_of(*words, str(site)))
     assert there.read_text() == site.read_text() == SITE and not path.exists()
 
 

@@ -228,7 +228,8 @@ def test_no_member_of_a_record_has_another_form(monkeypatch, name, value, is_sea
     with monkeypatch.context() as before:
         before.setattr(token_file, "_test_form", lambda record: None, raising=False)
         handed = tokens_text(tokens)
-    for made in (lambda: parsed(handed, Path("f")), lambda: parsed(handed, Path("f"), True), lambda: tokens_text(tokens)):  # fmt: skip
+    readings = (lambda: parsed(handed, Path("f")), lambda: parsed(handed, Path("f"), True))
+    for made in (*readings, lambda: tokens_text(tokens)):
         with pytest.raises(TokenError, match=f"another form than station-token writes: its {name}$"):
             made()
 

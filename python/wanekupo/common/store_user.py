@@ -7,10 +7,10 @@ there, and hold each process of that user's. So nothing that he writes, names, p
   its owner can put another one in its place. Its owner is the store's user, whatever a file in it says, and never root.
   A file in it is opened by the folder's descriptor, and is a plain one of that user's.
 - Root reads, writes and removes nothing there by a name: a process of that user's does it (`StoreUser.run`, `call`).
-- That process has a session of its own, none of root's keys and no terminal, no descriptor of root's but its pipes, none
-  of root's words in its environment, and can't get rights again. It ends with root's. Behind its end root waits for
-  nobody who has its pipe or itself. Its time is bounded, and where memory runs out Linux ends it before the server. What
-  it prints is bounded, is a form or is nothing, and reaches a terminal without control characters (`shown`).
+- That process has a session of its own, none of root's keys and no terminal, no descriptor of root's but its pipes,
+  none of root's words in its environment, and can't get rights again. It ends with root's. Behind its end root waits
+  for nobody who has its pipe or itself. Its time is bounded, and where memory runs out Linux ends it before the server.
+  What it prints is bounded, is a form or is nothing, and reaches a terminal without control characters (`shown`).
 - A copy that is tried lies in a room: a folder of the user's in one of root's, which only root can name or remove.
 """
 

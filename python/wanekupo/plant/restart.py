@@ -184,7 +184,7 @@ def service(*words: str) -> bool:
 
 
 def is_healthy(args: argparse.Namespace) -> bool:
-    words = ["curl", "-q", "-s", "-m", "5", "-o", "/dev/null", "-w", "%{http_code}", "--cacert", str(args.ca), args.health]
+    words = ["curl", *"-q -s -m 5 -o /dev/null -w %{http_code}".split(), "--cacert", str(args.ca), args.health]
     return run_command(words).stdout == "200"
 
 
