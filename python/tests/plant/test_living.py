@@ -72,8 +72,9 @@ class Machine:
             until = until.strip("-") and until
             tokens.outers.append(
                 Outer(
-                    name, number, name[:2], may == "look", mark, "2026-11-01T00:00", f"wanekupo_{number:064x}", until=until
-                )
+                    name, number, name[:2], may == "look", mark, "2026-11-01T00:00",
+                    f"wanekupo_{number:064x}", until=until,
+                )  # fmt: skip
             )
         path = folder / "tokens.conf"
         path.write_text(tokens_text(tokens))
