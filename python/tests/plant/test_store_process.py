@@ -338,7 +338,7 @@ def test_a_process_that_stops_itself_ends_with_root(monkeypatch):
         raise Asked
 
     monkeypatch.setattr(store_user.os, "fork", lambda: made.append(fork()) or made[-1])
-    monkeypatch.setattr(store_user, "PATIENCE", 0.2)
+    monkeypatch.setattr(store_user, "PATIENCE", 0.6)
     monkeypatch.setattr(StoreUser, "is_own", lambda self: False)
     if os.geteuid():  # else it becomes that user
         monkeypatch.setattr(StoreUser, "_become", lambda self, parent: None)
