@@ -236,7 +236,7 @@ class Turns(SeatCase):
             store = self.store(1, "c1")
             _, journals = self.spans([[dropped, *behind]], store)
             store.orders, store.maps = {("acme", "o9"): {"name": "o9"}}, []
-            self.assertEqual(len(list(unasked(journals, store, {"acme"}))), meant)
+            self.assertEqual(len(list(unasked(journals, store, {"acme"}, set()))), meant)
 
     def test_times_of_what_stands_there_twice(self):
         """A request that goes on in another journal, or was refused first, was first asked at its first line."""

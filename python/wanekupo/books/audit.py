@@ -100,7 +100,7 @@ def audit_of(store: Books, books: Iterable[Book], period: Period, now: str, site
     audit.found += [Found("numbers", it.at, it.customer, it.seat, "", told) for it in spans for told in it.faults]
     audit.found += [Found("journal", at, it.customer, it.seat, "", told) for it in spans for at, told in it.lost]
     audit.found += [Found(kind, at, customer, "", chip, told) for kind, at, customer, chip, told in twice(store)]
-    rows = chain(papers(journals, store, period), unasked(journals, store, whole), given_twice(journals))
+    rows = chain(papers(journals, store, period), unasked(journals, store, whole, laid.taken()), given_twice(journals))
     audit.found += [Found(*it) for it in chain(rows, asked_faults(journals, store, laid.taken(), whole))]
     if site not in ("", store.site):
         told = f"the site's text isn't the given file: its SHA-256 is {store.site} in the store, and {site} of the file"

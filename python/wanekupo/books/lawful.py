@@ -2,6 +2,7 @@
 
 from __future__ import annotations
 
+import re
 from collections import defaultdict
 from typing import Any, Iterator, Mapping, Optional, Sequence
 
@@ -10,10 +11,29 @@ from wanekupo.chips.layout import Field, Layout, Place
 Places = frozenset[Place]
 Keys = Mapping[str, str]
 
+# The forms of wishes, by their kinds, and how many a plan has (docs/reference/api.md#requests).
+WISHES: dict[str, tuple[str, re.Pattern[str]]] = {
+    "bit": ("index", re.compile("[0-9]{1,16}")),
+    "value": ("value", re.compile("[0-9A-Fa-f]{1,64}")),
+    "key": ("key_sha256", re.compile("[0-9A-Fa-f]{64}")),
+    "wlock": ("field", re.compile(".*")),
+    "rlock": ("field", re.compile(".*")),
+}
+MOST_WISHES = 64
+
 # The numbers of refusals (docs/reference/api.md#refusals).
+BAD_MEMBER = 10
 UNKNOWN_FIELD, UNMAPPED_BIT, VALUE_TOO_WIDE, CLEARS_BURNT, CONTRADICTION = 19, 20, 21, 22, 23
 WRONG_KIND, OTHER_KEY, WRITE_PROTECTED, HIDDEN, NO_LOCK = 24, 25, 26, 27, 28
 CODING_SCHEME, BAD_READBACK = 36, 41
+
+
+def _is_wish(wish: Mapping[str, Any]) -> bool:
+    """Whether a wish has a kind's form."""
+    member, form = WISHES.get(str(wish.get("kind")), ("", re.compile("$.")))
+    is_number = member == "index" and type(wish.get(member)) is int
+    text = str(wish[member]) if is_number else wish.get(member) if member != "index" else None
+    return isinstance(wish.get("field"), str) and isinstance(text, str) and form.fullmatch(text) is not None
 
 
 class WantedPlan:
@@ -24,8 +44,8 @@ class WantedPlan:
         self.ones: set[Place] = set()
         self.zeros: set[Place] = set()
         self.keys: dict[str, set[str]] = defaultdict(set)
-        self.refused: set[int] = set()
-        for wish in wishes:
+        self.refused: set[int] = {BAD_MEMBER} if len(wishes) > MOST_WISHES or not all(map(_is_wish, wishes)) else set()
+        for wish in filter(_is_wish, wishes):
             name, kind = wish["field"], wish["kind"]
             if kind == "key":
                 self.keys[name].add(wish["key_sha256"].lower())

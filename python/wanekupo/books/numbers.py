@@ -18,7 +18,7 @@ from typing import Any, Iterable, Iterator, NamedTuple, Optional, Sequence, Unio
 from wanekupo.books.clocks import NEVER, is_behind, longest_run
 from wanekupo.books.matches import Seated
 from wanekupo.books.shift import Period
-from wanekupo.books.steps import Book, Step, odd_members, part_text
+from wanekupo.books.steps import Book, Step, is_other_reply, odd_members
 from wanekupo.books.store_rows import Books, StoredSeat
 from wanekupo.common.texts import compact_json
 from wanekupo.seat.journal_lines import form_fault
@@ -227,6 +227,8 @@ def _settle(seat: StoredSeat, steps: Sequence[Step], turns: Sequence[Turn], span
             span.lost.append((it.at, told))
         elif first is not it:
             gone.add(id(it))
+            if is_other_reply(first.reply, it.reply):
+                span.lost.append((it.at, f"{it.place()} has another reply than {first.place()}, the same request"))
     asked = Counter((it.turn, it.number) for it in steps if not it.is_done())
     least = list(accumulate((turn.number for turn in reversed(turns)), min))  # of the last turns, by how many
     for it in steps:
@@ -339,6 +341,6 @@ def _last_fault(seat: StoredSeat, steps: list[Step]) -> Optional[str]:
     if not done:
         return None
     odd, told = odd_members(done[-1].path, kept or {}), f"the reply that the store keeps of number {seat.last} isn't"
-    if kept and not all(it in (kept.get(name), part_text(kept.get(name))) for name, it in done[-1].reply.items()):
+    if kept and is_other_reply({name: kept.get(name) for name in done[-1].reply}, done[-1].reply):
         return f"{told} that of {done[-1].place()}"
     return f"{told} as a server writes it{f': {odd}' if kept else ''}" if odd or not kept else None

@@ -44,7 +44,7 @@ class Replayed(NamedTuple):
 def ask_again(name: str, books: Iterable[Book], store: Books) -> Replayed:
     """Has a program answer the lines of all journals, and holds it to the store."""
     program, lines = program_named(name), defaultdict[str, dict[int, list[Step]]](lambda: defaultdict(list))
-    for own, step in ((seated(book, store), step) for book in books for step in book.steps):
+    for own, step in ((seated(book, store), step) for book in books for step in book.steps if not step.is_lost):
         lines[own.seat][step.number].append(step)
     found, counts, not_whole = list[Found](), dict[str, int](), list[str]()
     with tempfile.TemporaryDirectory(prefix="wanekupo-replay.") as folder:

@@ -63,8 +63,8 @@ def _candidates(seat: StoredSeat, lines: Sequence[Step]) -> list[Step]:
         told = f"{done[0].place()} and {other.place()} have the number {other.number} of {seat.name}"
         raise NotWhole(f"{told}, so the store became an older one")
     kept = [it for it in lines if (it.number, it.digest) == (seat.last, seat.digest)]
-    maybe = [it for it in reversed(lines) if not it.is_stop()]
-    return done[:1] or kept or sorted(maybe, key=lambda it: it.status is not None) or list(lines)
+    bare = [it for it in reversed(lines) if it.status is None]
+    return done[:1] or kept or bare or [it for it in reversed(lines) if not it.is_stop()] or list(lines)
 
 
 @lru_cache
@@ -99,6 +99,7 @@ class Requests:
                 self._importers[row].append(it)
         self._pools = [list(it) for it in store.pools.get(customer, ())]
         self._made, self._given, self._to_come = set[str](), set[tuple[str, str]](), set[str]()
+        self._own: dict[str, deque[LedgerRow]] = defaultdict(deque)
         self._next, self._order_of = dict[str, int](), dict[str, str]()
 
     def left(self) -> int:
@@ -117,9 +118,12 @@ class Requests:
         """One after another, in an order in which they may have been done. `entries` come in theirs."""
         steps = iter(entries)
         self._to_come = {it.row["note"] for it in entries if it.row["event"] == "identified"}
+        for it in entries:
+            self._own[it.row["seat"]].append(it)
         entry = next(steps, None)
         while entry or self.left():
-            heads = [self._head(seat, queue[0], entry) for seat, queue in self._queues.items() if queue]
+            heads = [self._head(seat, queue[0]) for seat, queue in self._queues.items() if queue]
+            heads = [it for it in heads if it and it.entry in (None, entry)]
             free = [it for it in heads if it]
             if not free:
                 raise self._not_laid(entry)
@@ -127,14 +131,17 @@ class Requests:
             self._queues[first.seat].popleft()
             yield first
             self._take(first)
-            entry = next(steps, None) if first.entry else entry
+            if first.entry:
+                self._own[first.seat].popleft()
+                entry = next(steps, None)
 
-    def _head(self, seat: str, lines: list[Step], entry: Optional[LedgerRow]) -> Optional[Done]:
-        """Which of the lines of a seat's next number was done, unless others have to be done before it."""
-        said = (entry.chip, entry.row["event"]) if entry and entry.row["seat"] == seat else None
-        step = next((it for it in lines if (it.chip, it.event) == said), None)
+    def _head(self, seat: str, lines: list[Step]) -> Optional[Done]:
+        """Which of the lines of a seat's next number was done: the one that its next entry is of, else one without an
+        entry."""
+        own = next(iter(self._own[seat]), None)
+        step = next((it for it in lines if own and (it.chip, it.event) == (own.chip, own.row["event"])), None)
         paper = next((it for it in lines if not it.event), None)
-        return Done(seat, step, entry) if step else Done(seat, paper) if paper else None
+        return Done(seat, step, own) if step else Done(seat, paper) if paper else None
 
     def _not_laid(self, entry: Optional[LedgerRow]) -> NotLaid:
         heads = {seat: queue[0][0] for seat, queue in self._queues.items() if queue}

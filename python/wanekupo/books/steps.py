@@ -12,7 +12,7 @@ import io
 import sys
 from dataclasses import dataclass, field
 from pathlib import Path
-from typing import Any, Iterable, Iterator, Optional, Union
+from typing import Any, Iterable, Iterator, Mapping, Optional, Union
 
 from wanekupo.common.errors import BadJournal, StationError
 from wanekupo.seat.forms import REPLIES, wrong_in
@@ -81,6 +81,12 @@ def part_text(it: Any) -> str:
         return sys.intern(compact_json(it, sort_keys=True))
     except (ValueError, RecursionError):
         return "0"
+
+
+def is_other_reply(one: Mapping[str, Any], other: Mapping[str, Any]) -> bool:
+    """Whether a member that two replies have isn't the same. A part of one may be there as its text."""
+    both = ((one[name], other[name]) for name in one.keys() & other.keys())
+    return any(a != b and part_text(a) != b and a != part_text(b) for a, b in both)
 
 
 @dataclass(slots=True)
