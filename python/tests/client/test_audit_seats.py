@@ -238,6 +238,24 @@ class Turns(SeatCase):
             store.orders, store.maps = {("acme", "o9"): {"name": "o9"}}, []
             self.assertEqual(len(list(unasked(journals, store, {"acme"}, set()))), meant)
 
+    def test_a_line_beside_one_that_has_an_entry(self):
+        """Of two lines of a number without a reply one was done: a ledger's entry says which."""
+        order = asked("07:01:00", 1, "", "/v1/order", name="o9")
+        store = self.store(2, "c2")
+        lines = [order, goes_on("07:02:00", 1), asked("07:03:00", 1, "c1"), goes_on("07:04:00", 2)]
+        _, (journal,) = self.spans([[*lines, *done("07:05:00", 2, "c2")]], store)
+        store.orders, store.maps = {("acme", "o9"): {"name": "o9"}}, []
+        for laid, meant in ((set(), 0), ({id(journal.book.steps[1])}, 1)):
+            self.assertEqual(len(list(unasked([journal], store, {"acme"}, laid))), meant)
+
+    def test_a_request_with_two_replies(self):
+        """A copy of a request gets the reply that the server keeps; a line with another one was changed."""
+        one = [asked("07:00:00", 1, "c"), answered("07:00:01", 1, chip="c", state="shipped")]
+        for state, meant in (("shipped", 0), ("scrapped", 1)):
+            two = [asked("07:05:00", 1, "c"), answered("07:05:01", 1, chip="c", state=state)]
+            found, _ = self.spans([one, two], self.store(1, "c"))
+            self.assertEqual(sum("has another reply than" in it for it in found), meant, found)
+
     def test_times_of_what_stands_there_twice(self):
         """A request that goes on in another journal, or was refused first, was first asked at its first line."""
         first = [*row(1, 1, "07"), asked("07:02:00", 2, "c2")]

@@ -425,6 +425,9 @@ class Rules(unittest.TestCase):
             ([bit("JTAG_DISABLE", 0)], {layout.write_lock("JTAG_DISABLE")}, {}, 26),
             ([{"kind": "wlock", "field": "WR_DIS"}], set(), {}, None),
             ([{"kind": "rlock", "field": "WR_DIS"}], set(), {}, 28),
+            ([{"kind": "burn", "field": "WR_DIS"}], set(), {}, 10), ([bit("JTAG_DISABLE", -1)], set(), {}, 10),
+            ([value("JTAG_DISABLE", "0x0")], set(), {}, 10), ([value("JTAG_DISABLE", " 0")], set(), {}, 10),
+            ([{**key, "key_sha256": "a"}], set(), {}, 10), (64 * [lock], set(), {}, None), (65 * [lock], set(), {}, 10),
         ):
             with self.subTest(wishes=wishes, burnt=burnt):
                 self.assertEqual(plan_refusal(layout, wishes, frozenset(burnt), known), meant)

@@ -149,6 +149,21 @@ def test_of_lines_without_a_reply_the_later_one():
 
 
 @pytest.mark.parametrize(
+    "first",
+    [
+        line(1, "06:00", "order", {"no": 34}, 409, name="x"),  # it was refused, and takes no number
+        line(1, "06:00", "import", status=None, issuer="ca", csv="serial,key_sha256\n"),  # it never came
+    ],
+)
+def test_of_lines_of_a_number_the_one_of_the_next_entry(first):
+    """Another seat's step between them doesn't have the first one done."""
+    lost, other = line(1, "06:01", "ship", status=None, chip="c"), line(1, "06:02", "ship", chip="d")
+    store, entries = Books({"a1": 1, "a2": 1}), [entry(1, "a2", "d", "shipped"), entry(2, "a1", "c", "shipped")]
+    done = list(Requests("acme", store, {"a1": {1: [first, lost]}, "a2": lines(other)}).in_order(entries))
+    assert [it.step for it in done] == [other, lost]
+
+
+@pytest.mark.parametrize(
     ("entries", "told"),
     [
         ([], "line 1 of j, shipped, has no entry"),
