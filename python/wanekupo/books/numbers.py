@@ -229,7 +229,7 @@ def _settle(seat: StoredSeat, steps: Sequence[Step], turns: Sequence[Turn], span
             gone.add(id(it))
             if is_other_reply(first.reply, it.reply):
                 span.lost.append((it.at, f"{it.place()} has another reply than {first.place()}, the same request"))
-    asked = Counter((it.turn, it.number) for it in steps if not it.is_done())
+    asked = Counter((it.turn, it.number) for it in steps if it.status is None)  # a refused one takes no number
     least = list(accumulate((turn.number for turn in reversed(turns)), min))  # of the last turns, by how many
     for it in steps:
         done = accepted.get((it.turn, it.number))
@@ -239,7 +239,7 @@ def _settle(seat: StoredSeat, steps: Sequence[Step], turns: Sequence[Turn], span
         it.is_lost = it.turn > 0 or it.number >= (least[-it.turn - 1] if is_older else seat.last + 1)
         is_sure = it.is_done() or it.status is None and asked[it.turn, it.number] == 1
         it.is_stored = is_sure and not it.is_lost
-        it.is_either = not (done or it.is_lost) and asked[it.turn, it.number] > 1
+        it.is_either = it.status is None and not (done or it.is_lost) and asked[it.turn, it.number] > 1
         if it.status is None and (done or is_older and it.is_lost):
             gone.add(id(it))
     return gone
