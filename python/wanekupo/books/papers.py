@@ -57,7 +57,8 @@ def _asked(journals: Iterable[Seated], laid: set[int]) -> set[tuple[str, ...]]:
     taken = {(it.seat, step.turn, step.number) for it, step in own if id(step) in laid}
     asked: set[tuple[str, ...]] = set()
     for it, step in sorted(own, key=lambda line: line[1].is_either):
-        place, names = (it.seat, step.turn, step.number), {(it.customer, step.path, *name) for name in given_names(step)}
+        place = it.seat, step.turn, step.number
+        names = {(it.customer, step.path, *name) for name in given_names(step)}
         if step.is_either and place not in taken and not names <= asked:
             taken.add(place)
             asked |= names
