@@ -244,7 +244,7 @@ class Turns(SeatCase):
         store = self.store(2, "c2")
         lines = [order, goes_on("07:02:00", 1), asked("07:03:00", 1, "c1"), goes_on("07:04:00", 2)]
         _, (journal,) = self.spans([[*lines, *done("07:05:00", 2, "c2")]], store)
-        store.orders, store.maps = {("acme", "o9"): {"name": "o9"}}, []
+        store.orders, store.maps = {("acme", "o9"): {"name": "o9", "not_before": None}}, []
         for laid, meant in ((set(), 0), ({id(journal.book.steps[1])}, 1)):
             self.assertEqual(len(list(unasked([journal], store, {"acme"}, laid))), meant)
 

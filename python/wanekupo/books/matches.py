@@ -7,10 +7,10 @@ beside each other from the first to the last.
 from __future__ import annotations
 
 import difflib
-from collections import defaultdict
+from collections import Counter, defaultdict
 from dataclasses import dataclass, field
 from itertools import takewhile
-from typing import Iterable, Optional
+from typing import Iterable, Optional, Sequence
 
 from wanekupo.books.steps import Book, Step
 from wanekupo.books.store_rows import Books, LedgerRow
@@ -109,10 +109,23 @@ def _fits(both: tuple[LedgerRow, Told]) -> bool:
     return entry.row["event"] == step.event and (not step.is_done() or entry.row["note"] == step.note)
 
 
+def _own_lines(entries: Iterable[LedgerRow], steps: Sequence[Told]) -> list[Told]:
+    """The lines that the store has: those that it surely has, and where entries of their event lack a line those of
+    which the number may be another's."""
+    lacking = Counter(it.row["event"] for it in entries)
+    lacking.subtract(it.event for _, it in steps if it.is_stored and it.status in (None, 200))
+    own: list[Told] = []
+    for it in steps:
+        is_maybe = it[1].is_either and lacking[it[1].event] > 0
+        lacking[it[1].event] -= is_maybe
+        own += [it] if is_maybe or it[1].is_stored and it[1].status in (None, 200) else []
+    return own
+
+
 def _lay(found: Matched, entries: list[LedgerRow], steps: list[Told]) -> None:
     """Lays the entries and lines of one chip and seat beside each other: from the first ones on as far as they fit,
     then those that were answered, those whose reply was lost, and those that were refused."""
-    own = [it for it in steps if it[1].is_stored and it[1].status in (None, 200)]
+    own = _own_lines(entries, steps)
     first = [Pair(entry, step) for entry, (_, step) in takewhile(_fits, zip(entries, own))]
     found.pairs += first
     rest, own = entries[len(first) :], own[len(first) :]
@@ -127,7 +140,7 @@ def _lay(found: Matched, entries: list[LedgerRow], steps: list[Told]) -> None:
     refused = [it for it in steps if it[1].status not in (None, 200)]
     found.entries += _lay_unanswered(found, rest, refused, laid, "late_copy")
     lost = (it for it in steps if it[1].is_done() and it[1].is_lost)
-    found.steps += [*(it for it in own if id(it[1]) not in laid), *lost]
+    found.steps += [*(it for it in own if id(it[1]) not in laid and it[1].is_stored), *lost]
 
 
 def _lay_unanswered(

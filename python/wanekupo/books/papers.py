@@ -36,7 +36,7 @@ def papers(journals: Iterable[Seated], store: Books, period: Period) -> Iterator
 def unasked(journals: Iterable[Seated], store: Books, whole: set[str], laid: set[int]) -> Iterator[Row]:
     """Orders, maps and imported numbers that no line asked for as they are, of customers whose journals are whole: a
     store has no time of them. `laid` are the lines that have an entry of a ledger, by `id`."""
-    asked = _asked(journals, laid)
+    asked = _asked(journals, store, laid)
     for customer, name in store.orders:
         if customer in whole and (customer, "/v1/order", *_order_words(store.orders[customer, name])) not in asked:
             yield "order", "", customer, "", "", f"no line asked for the order {name} as it is"
@@ -50,16 +50,16 @@ def unasked(journals: Iterable[Seated], store: Books, whole: set[str], laid: set
             yield "import", "", customer, "", "", told
 
 
-def _asked(journals: Iterable[Seated], laid: set[int]) -> set[tuple[str, ...]]:
+def _asked(journals: Iterable[Seated], store: Books, laid: set[int]) -> set[tuple[str, ...]]:
     """What lines asked for that may have been done. Of several lines of a number that have no reply one was done: the
-    one that has an entry, else one that asks for what no other line does."""
+    one that has an entry, else one that asks for what is there and no other line does."""
     own = [(it, step) for it in journals for step in it.book.steps if step.status in (None, 200) and not step.is_lost]
     taken = {(it.seat, step.turn, step.number) for it, step in own if id(step) in laid}
     asked: set[tuple[str, ...]] = set()
     for it, step in sorted(own, key=lambda line: line[1].is_either):
         place = it.seat, step.turn, step.number
         names = {(it.customer, step.path, *name) for name in given_names(step)}
-        if step.is_either and place not in taken and not names <= asked:
+        if step.is_either and place not in taken and not names <= asked and is_there(it, step, store):
             taken.add(place)
             asked |= names
         asked |= set() if step.is_either else names
