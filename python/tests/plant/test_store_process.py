@@ -13,7 +13,7 @@ import time
 from types import SimpleNamespace
 
 import pytest
-from wanekupo.common import store_user
+from wanekupo.common import rooms, store_user
 from wanekupo.common.store_user import StoreFolder, StoreUser, UserError, opened, user_named
 
 USER = StoreUser("station", 4242, 4243, "/home/station")
@@ -391,9 +391,9 @@ def test_the_sizes_of_a_store(store):
 
 def test_a_room_that_is_too_small(tmp_path, monkeypatch):
     monkeypatch.setattr(store_user, "_held", lambda *_: None)
-    monkeypatch.setattr(store_user.shutil, "disk_usage",
-        lambda path: SimpleNamespace(free=5_000_000 + store_user.BESIDE - 1))
-    with pytest.raises(UserError, match="a copy needs 5 MB in .*--room"), store_user.room(USER, 5_000_000, tmp_path):
+    monkeypatch.setattr(rooms.shutil, "disk_usage",
+        lambda path: SimpleNamespace(free=5_000_000 + rooms.BESIDE - 1))
+    with pytest.raises(UserError, match="a copy needs 5 MB in .*--room"), rooms.room(USER, 5_000_000, tmp_path):
         pytest.fail("there is no room")
     assert os.listdir(tmp_path) == []
 
@@ -401,15 +401,15 @@ def test_a_room_that_is_too_small(tmp_path, monkeypatch):
 def test_a_room_is_roots_and_goes(tmp_path, monkeypatch):
     owned, removed = [], []
     monkeypatch.setattr(store_user, "_held", lambda *_: None)
-    monkeypatch.setattr(store_user.os, "chown", lambda path, *ids: owned.append((path.name, ids)))
-    monkeypatch.setattr(store_user, "_removed", lambda room: removed.append(room))
-    with pytest.raises(ValueError), store_user.room(USER, 5, tmp_path) as own:
+    monkeypatch.setattr(rooms.os, "chown", lambda path, *ids: owned.append((path.name, ids)))
+    monkeypatch.setattr(rooms, "_removed", lambda room: removed.append(room))
+    with pytest.raises(ValueError), rooms.room(USER, 5, tmp_path) as own:
         assert own.is_dir() and own.name == "own" and stat.S_IMODE(own.stat().st_mode) == 0o700
         assert stat.S_IMODE(own.parent.stat().st_mode) == 0o711 and owned == [("own", (4242, 4243))]
-        assert store_user.clear_rooms(tmp_path) == [], "one that a run holds stays"
+        assert rooms.clear_rooms(tmp_path) == [], "one that a run holds stays"
         raise ValueError
     assert removed == [own.parent]
     removed.clear()
     before = len(os.listdir("/proc/self/fd"))
-    assert store_user.clear_rooms(tmp_path) == [own.parent.name], "one that nobody holds goes"
+    assert rooms.clear_rooms(tmp_path) == [own.parent.name], "one that nobody holds goes"
     assert removed == [own.parent] and len(os.listdir("/proc/self/fd")) == before

@@ -3,6 +3,7 @@
 from __future__ import annotations
 
 import contextlib
+import re
 from collections import defaultdict
 from typing import Any, Callable, Iterable, Iterator, Mapping
 
@@ -11,11 +12,15 @@ from wanekupo.books.numbers import counts
 from wanekupo.books.shift import Period
 from wanekupo.books.steps import Step
 from wanekupo.books.store_rows import Books
+from wanekupo.common.texts import brief
 from wanekupo.seat.import_rows import rows_of
 
 # The kind, the time, the customer, the seat, the chip, and what it is in words.
 Row = tuple[str, str, str, str, str, str]
 Judge = Callable[[Seated, Step, Books], Iterator[tuple[str, str]]]
+
+# A serial number as the server takes one.
+SERIAL = re.compile("[A-Z0-9-]{1,64}")
 
 ORDER = ("name", "issuer", "prefix", "width", "first", "quantity", "macs", "not_before")
 RECORD = ("chip", "issuer", "serial", "key_sha256", "mac", "not_after", "not_before")
@@ -150,6 +155,8 @@ def _import(it: Seated, step: Step, store: Books) -> Iterator[tuple[str, str]]:
     if step.is_done() and not (is_count and sum(counted) == len(rows)):
         yield "import", f"{len(rows)} rows were imported for {issuer}, and the reply has {counted[0]} and {counted[1]}"
     for serial, digest in rows:
+        if not SERIAL.fullmatch(serial):
+            yield "import", f"{brief(serial)} was imported for {issuer}, which the server refuses as 30"
         record = store.record(issuer, serial)
         if record is None or record["key_sha256"] != digest.lower():
             yield "import", f"the imported serial number {serial} of {issuer} isn't in the store with its key"

@@ -230,6 +230,8 @@ def _answered(last: Optional[Step], line: Members) -> str:
         return f"answers number {line['nr']} otherwise than before" if is_other else ""
     last.answered, last.status, last.reply = line["at"], line["status"], line["reply"]
     last.odd = odd_members(last.path, last.reply) if last.is_done() else ""
+    if not last.is_done() and not 400 <= line["status"] <= 599:
+        return f"answers number {line['nr']} with the status {line['status']}, which the server never does"
     return f"accepts {last.path}, which the server doesn't have" if last.is_done() and last.path not in PATHS else ""
 
 

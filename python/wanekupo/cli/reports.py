@@ -11,6 +11,7 @@ from wanekupo.seat.settings import Settings, looking_station_of
 from wanekupo.common.errors import NotTheServer, StationError
 from wanekupo.seat.journal import issued, merged
 from wanekupo.seat.journal_lines import add_folders, named_folders
+from wanekupo.books.pages import write
 from wanekupo.books.lost import LOST, given_up, lost_csv, lost_formulas, lost_text
 from wanekupo.common.moments import moment_of
 from wanekupo.common.printing import Formulas, Progress, print_shown, table_lines, warn
@@ -68,7 +69,7 @@ def _lost(_: Settings, args: argparse.Namespace) -> int:
     lines, unanswered = given_up(args.journals, args.from_time, args.to_time, folders)
     warn(*(f"warning: {it}" for it in [*unanswered, *(lost_formulas(lines) if args.csv else [])]))
     if args.csv:
-        Path(args.csv).write_text(lost_csv(lines), encoding="utf-8")
+        write(Path(args.csv), lost_csv(lines))
     print_shown(table_lines(LOST, lines, True) if args.json else lost_text(lines))
     return 0
 
@@ -108,7 +109,7 @@ def _yield(settings: Settings, args: argparse.Namespace) -> int:
     difference = difference_of(earlier, later)
     if args.csv:
         warn(*(f"warning: {it}" for it in formulas_of(difference)))
-        Path(args.csv).write_text(as_csv(difference), encoding="utf-8")
+        write(Path(args.csv), as_csv(difference))
     print_shown(as_text(difference))
     return 0
 

@@ -7,7 +7,8 @@ import tempfile
 import time
 from pathlib import Path
 
-from wanekupo.common.store_user import ROOMS, UserError, opened
+from wanekupo.common.rooms import ROOMS
+from wanekupo.common.store_user import UserError, opened
 
 # What stays of an environment, as a whole: how texts are written and shown. A locale with a slash is a folder.
 GOOD = re.compile(r"(?:TERM|LANG|LC_[A-Z]+)=[A-Za-z0-9_.@+-]*")

@@ -38,9 +38,8 @@ from pathlib import Path
 from wanekupo.common.process import end_tool, run_command, succeeds
 from wanekupo.common.errors import PlantError
 from wanekupo.plant.trial_copy import Backup, copy_files, copy_running, newest_backup
-from wanekupo.common.store_user import (
-    LONGEST, MINUTE, ROOMS, STOPS, StoreFolder, UserError, clear_rooms, read_small, room, shown,
-)  # fmt: skip
+from wanekupo.common.rooms import ROOMS, clear_rooms, room
+from wanekupo.common.store_user import LONGEST, MINUTE, STOPS, StoreFolder, UserError, read_small, shown
 
 # Bytes a second that a start reads, at the least (docs/reference/program.md). How old metrics may be, and how far ahead
 # their clock, in seconds.

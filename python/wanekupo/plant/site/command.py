@@ -37,7 +37,8 @@ from wanekupo.plant.site.growth import with_customer, with_items
 from wanekupo.plant.site.place import Place, text_in
 from wanekupo.plant.site.plan import PREPARED, GrowthPlan, SeatWish, drop_plan, keep_plan, read_plan
 from wanekupo.plant.site.trials import checked, is_map, tested_growth, tested_others, tried_over_copy
-from wanekupo.common.store_user import ROOMS, STOPS
+from wanekupo.common.rooms import ROOMS
+from wanekupo.common.store_user import STOPS
 from wanekupo.common.token_file import HEALTH, NAME, TokenError, Tokens, alone, check_folder, put, read, tokens_of
 from wanekupo.common.site_file import SiteCustomer, digest_of, read_site
 

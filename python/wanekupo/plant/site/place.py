@@ -16,7 +16,8 @@ from pathlib import Path
 
 from wanekupo.plant.trial_copy import Backup, copy_files, copy_running, newest_backup
 from wanekupo.common.process import own_command
-from wanekupo.common.store_user import StoreFolder, StoreUser, read_small, readable, reader_for, room, shown
+from wanekupo.common.rooms import room
+from wanekupo.common.store_user import StoreFolder, StoreUser, read_small, readable, reader_for, shown
 from wanekupo.common.token_file import TokenError
 
 
