@@ -172,7 +172,7 @@ def add_requests(
 
 def backup_unit_failed() -> bool:
     """Whether the backups' unit failed when it ran last. A note that says otherwise is the store user's word."""
-    return properties_of(BACKUP_UNIT, "Result").get("Result") != "success"
+    return properties_of(BACKUP_UNIT, "Result").get("Result", "success") != "success"
 
 
 def add_backup(samples: Samples, folder: Path, has_unit: bool) -> None:
