@@ -1,4 +1,4 @@
-"""Rooms for copies that are tried: folders of the store user's in one of root's, which root alone can name or remove."""
+"""Rooms for copies that are tried: folders of the store user's in one of root's, which root alone names or removes."""
 
 import contextlib
 import fcntl
