@@ -18,7 +18,8 @@ over a half that is mounted; DRBD isn't there. Whoever has the rights of the use
 - `words`: root's environment leads to that user's folder, as behind `su` without a dash: what curl, LVM and OpenSSL
   read and write, and where folders for a moment are made.
 - `keys`: by ptrace each process asks for its session keyring, where root's login has one.
-- `held`: by ptrace each process is kept behind its end, so that nobody can wait for it.
+- `held`: by ptrace each process is kept behind its end, so that nobody can wait for it. Of the tools that have minutes
+  for such a process: one that waits for its own child has all of its time, which is a day of a backup.
 - `into`, `record`: of `station-token` alone: the site file that it grows lies in that user's folder, who puts a link in
   its place; the tokens' file that it lists is that user's, and has a directive of nginx in a record.
 - `python`: root stands in that user's folder, which has modules by Python's names and programs by those of root's
@@ -205,7 +206,8 @@ def pairs() -> list[tuple[str, str]]:
     """Each tool with its roads."""
     own = {"into", "record"}
     tools = [it for it in tools_of(Path()) if it not in own]
-    return [(tool, road) for tool in tools for road in ROADS if road not in own] + [(it, it) for it in sorted(own)]
+    both = ((tool, road) for tool in tools for road in ROADS if road not in own)
+    return [it for it in both if it[1] != "held" or it[0] in ("site", "restart")] + [(it, it) for it in sorted(own)]
 
 
 # ---- The roads: what is done as the store's user, in the store's folder. Each gives the processes that go on.

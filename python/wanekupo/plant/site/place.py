@@ -17,7 +17,7 @@ from pathlib import Path
 from wanekupo.plant.trial_copy import Backup, copy_files, copy_running, newest_backup
 from wanekupo.common.process import own_command
 from wanekupo.common.rooms import room
-from wanekupo.common.store_user import StoreFolder, StoreUser, read_small, readable, reader_for, shown
+from wanekupo.common.store_user import MINUTE, StoreFolder, StoreUser, read_small, readable, reader_for, shown
 from wanekupo.common.token_file import TokenError
 
 
@@ -81,7 +81,7 @@ class Place:
         with readable(text) as new, readable(old or "") as before:
             more = [] if old is None else ["--from", f"/proc/self/fd/{before}"]
             words = [self.program, command, f"/proc/self/fd/{new}", *more]
-            return refused(self.reader.run(*words, fds=(new, before)))
+            return refused(self.reader.run(*words, fds=(new, before), seconds=MINUTE))
 
     def store_refusal(self, text: str, copy: Path) -> str:
         """What the program says of a copy of the store under a text; nothing where it opens it."""
