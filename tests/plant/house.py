@@ -10,6 +10,7 @@ heed it. What root has another user do isn't counted, as root gives it none of i
 import hashlib
 import json
 import os
+import shlex
 import shutil
 import signal
 import subprocess
@@ -26,6 +27,7 @@ OWNER, GROUP = "nobody", "nogroup"
 SERVICE = r"""#!/bin/bash
 # {start,stop,restarts}: one at a time, and in a session of its own.
 here=$(dirname "$(realpath "$0")")
+. "$here/words"
 if [ -z "$INSIDE" ]; then INSIDE=yes exec setsid -w flock -o "$here/service.lock" "$0" "$@"; fi
 words=(--site "$here/site.toml" --db "$here/store/books.db" --existing)
 is_up() { [ -s "$here/pid" ] && kill -0 "$(cat "$here/pid")" 2> /dev/null; }
@@ -127,7 +129,11 @@ class House:
         return ["setpriv", "--reuid", OWNER, "--regid", GROUP, "--clear-groups", "--"] if self.owner else []
 
     def environment(self) -> dict[str, str]:
-        return os.environ | {"PROGRAM": str(self.program), "PORT": str(self.port), "AS": " ".join(self.as_owner())}
+        """What a tool is started with. The service has its words in a file, as root's tools pass on none of these."""
+        words = {"PROGRAM": self.program, "PORT": self.port, "AS": " ".join(self.as_owner())}
+        lines = "".join(f"{name}={shlex.quote(str(it))}\n" for name, it in words.items())
+        (self.folder / "words").write_text(lines, encoding="utf-8")
+        return dict(os.environ)
 
     def service(self, word: str) -> None:
         subprocess.run([self.folder / "service", word], env=self.environment(), check=True)

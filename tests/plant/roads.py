@@ -62,7 +62,7 @@ it._test_form = lambda record: None
 evil = 'x" 0;\\n}\\naccess_log /etc/cron.d/evil;\\nmap $uri $zz {\\n    "y'
 tokens = it.Tokens({"a1": it.TokenSeat("a1", "acme", "abc", given=1)})
 tokens.outers.append(it.Outer("a1:1", 1, "a1", True, "0" * 12, "2026-11-01T00:00", evil))
-open(sys.argv[1], "w").write(it.text_of(tokens))
+open(sys.argv[1], "w").write(it.tokens_text(tokens))
 """
 SEQUENCE = "\x1b]0;owned\x07"
 SECONDS = 300
@@ -82,9 +82,9 @@ def mounted(_):
     yield pathlib.Path(sys.argv[1])
 look.mounted = mounted
 def main():
-    half.tell(str(look.contents(Half()).numbers))
+    half.print_told(str(look.contents(Half()).numbers))
     return 0
-sys.exit(half.ended("look", main))
+sys.exit(half.end_script("look", main))
 """
 
 

@@ -36,9 +36,10 @@ LEADING = ("LD_PRELOAD", "PYTHONPATH", "BASH_ENV", "ENV", "IFS", "TMPDIR", "TEMP
 
 
 def test_root_has_clean_words(monkeypatch: pytest.MonkeyPatch) -> None:
-    good = {"LC_ALL": "C.UTF-8", "LC_CTYPE": "de_DE@euro", "LANG": "", "TERM": "xterm-256color"}
+    good = {"LC_ALL": "C.UTF-8", "LC_CTYPE": "de_DE@euro", "LANG": "", "TERM": "xterm-256color", "TZ": "CET-1:00"}
     words = {"PATH": "/of/root:/of/his:.:/of/root2", "HOME": "/home/his", **good, "LC_TIME": "/home/his/locale"}
-    words |= dict.fromkeys(LEADING, "x")
+    words |= dict.fromkeys(LEADING, "x") | {"TZ": good["TZ"]}
+    assert not store_words.GOOD.fullmatch("TZ=:/home/his/zone") and not store_words.GOOD.fullmatch("TZ=his/zone")
     monkeypatch.setattr(store_words, "_is_roots", lambda folder: folder.startswith("/of/root"))
     monkeypatch.setattr(store_words.pwd, "getpwuid", lambda number: SimpleNamespace(pw_dir="/root"))
     monkeypatch.setattr(tempfile, "tempdir", None)

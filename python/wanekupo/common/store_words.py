@@ -10,8 +10,9 @@ from pathlib import Path
 from wanekupo.common.rooms import ROOMS
 from wanekupo.common.store_user import UserError, opened
 
-# What stays of an environment, as a whole: how texts are written and shown. A locale with a slash is a folder.
-GOOD = re.compile(r"(?:TERM|LANG|LC_[A-Z]+)=[A-Za-z0-9_.@+-]*")
+# What stays of an environment, as a whole: how texts and times are shown. A locale with a slash is a folder, and a zone
+# with one a file.
+GOOD = re.compile(r"(?:TERM|LANG|LC_[A-Z]+)=[A-Za-z0-9_.@+-]*|TZ=[A-Za-z]{3,8}[0-9:+-]*")
 
 
 def clean_words() -> None:
