@@ -434,7 +434,8 @@ GROWTH = ["add-customer", "core", "--issuer", "core-ca", "--pool", "020000010000
 @pytest.mark.sizes(4, 1000)
 def test_killed(made: House, size: int) -> None:
     """A growth that is killed right before some of its deeds, or before each, and begun again."""
-    made.project, kills, at = copy_project(made.folder.parent), 0, 1
+    made.project = made.project if made.project != PROJECT else copy_project(made.folder.parent)
+    kills, at = 0, 1
     deeds = killed_at(made, 0)
     expect("deeds are counted, those of programs that it starts too", deeds > 20, True)
     while killed_at(made, at):
