@@ -39,6 +39,7 @@ ASKED = "'SELECT * FROM orders'"
 
 # Runs sqlite3 over the crafted store, whichever a command names, and notes that it was asked for.
 SHIM = """#!/bin/bash
+. "$(dirname "$0")/words"  # of root's environment station-backup passes on nothing of this
 words=() named=
 for word; do
     case $word in
@@ -104,10 +105,13 @@ class Bench:
         for made, path in zip((self.folder / "made.db", store_at(self.real)[1]), store_at(self.crafted), strict=True):
             shutil.copyfile(made, path)
         room = {"ASKED": str(self.asked), "CRAFTED": str(crafted), "IS_PLAIN": "1" if is_plain else ""}
-        room |= {"SQLITE3": shutil.which("sqlite3"), "PATH": f"{self.folder / 'bin'}:{os.environ['PATH']}"}
+        room |= {"SQLITE3": shutil.which("sqlite3")}
+        lines = "".join(f"{name}={shlex.quote(str(it))}\n" for name, it in room.items())
+        (self.folder / "bin/words").write_text(lines, encoding="utf-8")
+        path = f"{self.folder / 'bin'}:{os.environ['PATH']}"
         with tempfile.TemporaryDirectory(dir=self.folder) as at:
             done = subprocess.run(
-                words, cwd=at, env=os.environ | room, stdin=subprocess.DEVNULL,
+                words, cwd=at, env=os.environ | {"PATH": path}, stdin=subprocess.DEVNULL,
                 capture_output=True, text=True, timeout=SECONDS, check=False,
             )  # fmt: skip
         return done, self.asked.exists(), self.ran.exists()

@@ -12,7 +12,7 @@ from machines.standby.pair import SAMPLE, SECRET
 STANDBY = "usr/lib/python3/dist-packages/wanekupo/standby"
 RESOURCE = "etc/drbd.d/station.res"
 # Takes away the takeover's test of what DRBD runs with.
-UNTESTED: Edit = (f"{STANDBY}/takeover.py", "    needs.test(half)\n", "")
+UNTESTED: Edit = (f"{STANDBY}/takeover.py", "    needs.test_resource(half)\n", "")
 # DRBD itself refuses A beside this fencing, and takes B.
 PROTOCOL_A: Edit = (RESOURCE, "protocol C;", "protocol A;")
 PROTOCOL_B: Edit = (RESOURCE, "protocol C;", "protocol B;")
@@ -56,7 +56,7 @@ PLANTS = {
         "the address still",
     ),
     "address-stays": Plant(
-        ((f"{STANDBY}/fence_peer.py", "    run(shlex.split(settings.leave_address))\n", ""),),
+        ((f"{STANDBY}/fence_peer.py", "    run_bounded(shlex.split(settings.leave_address))\n", ""),),
         "cable",
         "the address still",
     ),

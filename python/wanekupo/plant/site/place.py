@@ -17,13 +17,13 @@ from pathlib import Path
 from wanekupo.plant.trial_copy import Backup, copy_files, copy_running, newest_backup
 from wanekupo.common.process import own_command
 from wanekupo.common.rooms import room
-from wanekupo.common.store_user import MINUTE, StoreFolder, StoreUser, read_small, readable, reader_for, shown
+from wanekupo.common.store_user import MINUTE, SMALL, StoreFolder, StoreUser, read_small, readable, reader_for, shown
 from wanekupo.common.token_file import TokenError
 
 
 def text_in(path: Path) -> str:
     """A text as it is, with its ends of lines: of a plain file, as another user may have put a pipe or a link there."""
-    data = read_small(path)
+    data = read_small(path, most=SMALL + 1)  # of one that is too long the program says so
     try:
         return data.decode()
     except UnicodeDecodeError as error:
