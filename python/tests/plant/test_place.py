@@ -52,7 +52,7 @@ def test_a_text_as_it_is(tmp_path, data, text):
 def test_a_text_is_a_plain_files(tmp_path):
     """Another user may have put a pipe, a link or an endless file where root looks."""
     (tmp_path / "link").symlink_to("f")
-    # A site may have 1,048,576 bytes (docs/reference/program.md); of one more the program says so, and more aren't read.
+    # A site may have 1,048,576 bytes (docs/reference/program.md): the program refuses one more, and more isn't read.
     (tmp_path / "f").write_bytes(bytes((1 << 20) + 2))
     os.mkfifo(tmp_path / "pipe")
     signal.signal(signal.SIGALRM, lambda *_: pytest.fail("waited for ever"))
