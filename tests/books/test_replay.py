@@ -1,6 +1,7 @@
 """An audit that has the program answer the lines once more: it finds what the store and the lines say alike, and the
 program doesn't, and accuses no honest plant."""
 
+import hashlib
 import json
 import shutil
 
@@ -9,6 +10,7 @@ import pytest
 from books.replay_plant import change_reply, change_store, morning, move_addresses, write_lines
 from books.seal_places import run
 from books.seal_plant import chip_of
+from wanekupo.seat.journal import request_digest
 
 ALWAYS = ["--from", "2000-01-01", "--to", "2099-01-01"]
 KEPT = '{"batch1":{"bits":[],"keys":{}},"batch2":{"bits":[],"keys":{}},"state":"settled"}'
@@ -106,6 +108,17 @@ def test_journals_that_begin_later(folder, program):
     status, text, rows = audited(folder, program)
     assert (status, rows) == (0, []), text
     assert "lines of acme once more. Not replayed: bolt (these journals lack the number 1 of b1)." in text
+
+
+def test_an_older_file_turns_nothing_off(folder, program):
+    """One accepted line of before the period makes the store an older one there. The program answers the others."""
+    asked, own = {"nr": 1, "text": "x"}, {"seat": "a1", "at": "2020-01-01T06:00:00Z"}
+    line = {**own, "path": "/v1/map", "asked": asked, "digest": request_digest("/v1/map", asked)}
+    reply = {**own, "nr": 1, "status": 200, "reply": {"map": hashlib.sha256(b"x").hexdigest()}}
+    write_lines(folder / "acme/a1-2020-01-01.journal", [line, reply])
+    words = [folder / "books.db", folder / "acme", folder / "bolt", "--from", "2026-01-01", "--to", "2099-01-01"]
+    status, text = run("audit", *words, "--program", program)
+    assert (status, "Not replayed" in text, "lines of acme, bolt once more." in text) == (0, False, True), text
 
 
 def test_no_program(folder):

@@ -9,7 +9,6 @@ from __future__ import annotations
 
 import hashlib
 import json
-import re
 from itertools import chain
 from typing import Any, Iterator, Mapping, Optional, Sequence
 
@@ -18,8 +17,7 @@ from wanekupo.books.sequence import Done
 from wanekupo.books.store_rows import Books
 from wanekupo.books.verdicts import BLANK
 from wanekupo.chips.layout import Layout
-
-DIGEST = re.compile("[0-9a-f]{64}")
+from wanekupo.seat.forms import DIGEST
 
 # Bits of a block, the lowest one first, and those of each block.
 Bits = list[int]

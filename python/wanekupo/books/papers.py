@@ -3,7 +3,6 @@
 from __future__ import annotations
 
 import contextlib
-import re
 from collections import defaultdict
 from typing import Any, Callable, Iterable, Iterator, Mapping
 
@@ -13,14 +12,12 @@ from wanekupo.books.shift import Period
 from wanekupo.books.steps import Step
 from wanekupo.books.store_rows import Books
 from wanekupo.common.texts import brief
+from wanekupo.seat.forms import SERIAL
 from wanekupo.seat.import_rows import rows_of
 
 # The kind, the time, the customer, the seat, the chip, and what it is in words.
 Row = tuple[str, str, str, str, str, str]
 Judge = Callable[[Seated, Step, Books], Iterator[tuple[str, str]]]
-
-# A serial number as the server takes one.
-SERIAL = re.compile("[A-Z0-9-]{1,64}")
 
 ORDER = ("name", "issuer", "prefix", "width", "first", "quantity", "macs", "not_before")
 RECORD = ("chip", "issuer", "serial", "key_sha256", "mac", "not_after", "not_before")

@@ -5,12 +5,12 @@ An order never changes and never goes, so no address is ever free again.
 
 from __future__ import annotations
 
-import re
 from itertools import groupby
 from typing import Any, Callable, Iterable, Iterator, NamedTuple, Sequence
 
 from wanekupo.books.matches import Told
 from wanekupo.books.store_rows import Books
+from wanekupo.seat.forms import PREFIX
 
 Row = dict[str, Any]
 
@@ -19,7 +19,6 @@ Block = tuple[int, int]
 
 # The greatest quantity of an order, and how many orders and maps a customer has (docs/reference/program.md#limits).
 MOST_QUANTITY = 10_000
-PREFIX = re.compile("[A-Z0-9-]{1,32}")
 
 
 def order_faults(store: Books) -> Iterator[tuple[str, str]]:
