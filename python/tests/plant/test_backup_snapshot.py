@@ -119,6 +119,17 @@ def test_mounted_at(machine):
         "--target", "/a"]]
 
 
+@pytest.mark.parametrize("kind", ["fuse", "fuse./home/station/x", "fuseblk"])
+def test_a_users_own_mount_runs_nothing(machine, kind):
+    """Of a mount by fusermount(1) the user chooses source and kind: no command of root's gets either."""
+    mounted(machine, fstype=kind, source="--config=log{file=/etc/x}")
+    logical(machine)
+    for volume in (Lvm, Btrfs, Zfs):
+        with pytest.raises(BackupError, match="own program serves /var/lib/station"):
+            volume(DB, "")
+    assert {it[0] for it in machine.calls} == {"findmnt"}
+
+
 def test_unmounted(machine):
     assert unmounted(Path("/a")) is False and machine.calls == []
     machine.mounts.add("/a")

@@ -61,9 +61,12 @@ def command_output(*words: str) -> str:
 
 
 def mounted_at(folder: Path) -> dict[str, str]:
-    """The file system that has a folder."""
+    """The file system that has a folder. Where a user's own program serves it, whose mount `fusermount` makes, both
+    words are that user's: mount(8) would run what its kind names, as root."""
     words = ("findmnt", "--json", "--nofsroot", "--output", "SOURCE,FSTYPE,FSROOT,TARGET", "--target", str(folder))
     found: dict[str, str] = json.loads(command_output(*words))["filesystems"][0]
+    if found["fstype"].startswith("fuse"):
+        raise BackupError(f"some user's own program serves {folder}: look who mounted it, and umount {folder}")
     return found
 
 
