@@ -9,7 +9,7 @@ from __future__ import annotations
 
 import re
 from pathlib import Path
-from typing import Any, Optional
+from typing import Any, Iterator, Optional
 
 from wanekupo.common.errors import BadJournal, UnsafeFile
 from wanekupo.metrics.exposition import Samples
@@ -26,6 +26,9 @@ NAME = re.compile(r"[A-Za-z0-9._-]{1,32}")
 
 OUT_OF_STEP = (11, 12)
 
+# The most bytes of a folder that a run reads: who writes there could keep it from its end for ever. The next reads on.
+MOST_NEW = 1 << 26
+
 # How many seats have metrics of their own; a site has 64 of each of 64 customers. The others are counted as one.
 MOST_SEATS = 500
 OTHERS = "others"
@@ -38,6 +41,7 @@ class Counts:
         self.read: dict[str, int] = kept.setdefault("read", {})
         self.seats: dict[str, dict[str, Any]] = kept.setdefault("seats", {})
         self.now = now_text()
+        self.left = MOST_NEW  # of the folder that is read
 
     def seat(self, name: str) -> dict[str, Any]:
         known = name if name in self.seats or len(self.seats) < MOST_SEATS else OTHERS
@@ -87,6 +91,10 @@ def read_on(counts: Counts, file: Path, seats: Optional[frozenset[str]]) -> Opti
     otherwise = next(iter(seats)) if seats and len(seats) == 1 else seat_named(file)
     try:
         for line in lines_of(file, end, follows_links=False):
+            counts.left -= line.end - (end if line.end > end else 0)
+            if counts.left < 0:
+                told = f"{file.parent} has more than {MOST_NEW >> 20} MB that are new"
+                return BadJournal(told, "Look who wrote them. The next runs read on.")
             if line.fault:
                 told = f"the line behind byte {end} of {file} is no line of a journal"
                 return BadJournal(told, "Look at it in a copy: the rest of that file isn't counted.")
@@ -101,6 +109,16 @@ def read_on(counts: Counts, file: Path, seats: Optional[frozenset[str]]) -> Opti
     return None
 
 
+def _read_place(counts: Counts, files: list[Path], seats: Optional[frozenset[str]]) -> Iterator[BadJournal]:
+    """Reads what is new in a folder, and gives what is wrong there."""
+    counts.left = MOST_NEW
+    for file in files:
+        if fault := read_on(counts, file, seats):
+            yield fault
+        if counts.left < 0:
+            return
+
+
 def add_journals(samples: Samples, kept: dict[str, Any], folders: list[Path], owners: Path) -> None:
     """The counts of all journals in folders and in the folders in them. Where one can't be read it is told, and the
     others count. Where there is a file of whose the folders are, no seat has counts but by its own folder."""
@@ -113,7 +131,7 @@ def add_journals(samples: Samples, kept: dict[str, Any], folders: list[Path], ow
     counts.forget([file for own in files.values() for file in own])
     for place, own in files.items():
         seats = known.get(place.name, frozenset()) if known else None
-        for fault in filter(None, [read_on(counts, file, seats) for file in own]):
+        for fault in _read_place(counts, own, seats):
             faults.setdefault(place, fault)
     for name, seat in counts.seats.items():
         _add_seat(samples, name, seat)
