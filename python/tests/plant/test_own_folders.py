@@ -7,8 +7,9 @@ from pathlib import Path
 import pytest
 
 from wanekupo.common import files
-from wanekupo.common.errors import UnsafeFile
+from wanekupo.common.errors import BadSettings, UnsafeFile
 from wanekupo.common.signing import BadSignature, Signer, verify
+from wanekupo.lots.authority import Authority
 
 
 def _folder(above: Path, mode: int) -> Path:
@@ -52,6 +53,20 @@ def test_folder_of_another_user_above(tmp_path: Path, monkeypatch: pytest.Monkey
     monkeypatch.setattr(os, "stat", lambda it, **words: other if Path(it) == own.parent else stat(it, **words))
     with pytest.raises(UnsafeFile, match="others can write"):
         files.tested_folder(own)
+
+
+@pytest.mark.parametrize("name", ["ca.cnf", "ca.pem"])
+@pytest.mark.parametrize("mode, is_taken", [(0o644, True), (0o664, False), (0o646, False)])
+def test_file_by_which_a_ca_signs(tmp_path: Path, name: str, mode: int, is_taken: bool) -> None:
+    """Who writes ca.cnf has openssl load a library as the CA's user: an authority takes none that others write."""
+    for it in ("ca.cnf", "ca.pem"):
+        (tmp_path / it).write_text("")
+        (tmp_path / it).chmod(mode if it == name else 0o644)
+    if is_taken:
+        Authority(tmp_path).close()
+        return
+    with pytest.raises(BadSettings, match=f"others can write {tmp_path / name}, by which the CA signs"):
+        Authority(tmp_path)
 
 
 def test_what_is_signed_is_not_what_another_put_there(tmp_path: Path) -> None:

@@ -22,7 +22,7 @@ from typing import Any, Iterator, Mapping, Optional, Sequence
 from urllib.parse import unquote
 
 from wanekupo.common.errors import PAGES, BadKey, BadSettings, StationError
-from wanekupo.common.files import IS_POSIX, locked, opened_lock, replace_bytes, sync, tested_folder
+from wanekupo.common.files import IS_POSIX, OTHERS_WRITE, locked, opened_lock, replace_bytes, sync, tested_folder
 from wanekupo.lots.idevid import TIME, chain_fault, certificate_faults, late_fault, moment_now
 from wanekupo.lots.spools import CertificateRequest, certificates_of, der_of, pem_of
 
@@ -68,6 +68,8 @@ class Authority:
         self.issued.mkdir(mode=0o755, exist_ok=True)
         for its in (folder, self.issued):
             tested_folder(its)
+        for file in needed:
+            _tested_own(file)
         for secret in self._secrets():
             _tested_secret(secret)
         self._lock = opened_lock(folder / "certify.lock")
@@ -290,6 +292,14 @@ class Authority:
             told = f"Put it back from a backup. Only if nobody ever got that one {_taken_away(number)}."
             raise NotCertified(f"index.txt has a certificate of {serial}, and there is no {file}", told)
         return certificates_of(file.read_bytes(), file)[0]
+
+
+def _tested_own(file: Path) -> None:
+    """Whether nobody else writes a file by which the CA signs: openssl loads the libraries that `ca.cnf` names."""
+    found = file.stat()
+    if IS_POSIX and (found.st_uid not in (os.geteuid(), 0) or found.st_mode & OTHERS_WRITE):
+        told = f"Look whether it is as it was, then chmod go-w {file}."
+        raise BadSettings(f"others can write {file}, by which the CA signs", told)
 
 
 def _tested_secret(file: Path) -> None:
