@@ -66,6 +66,17 @@ def shown(text: str, most: int = SAID) -> str:
     return "".join(it if it.isprintable() or it == "\n" else "?" for it in text)
 
 
+@contextlib.contextmanager
+def signals_waiting() -> Iterator[None]:
+    """A signal that would end this run waits: of a command that is killed in the middle a volume may stand still, or
+    nginx not know what its file says."""
+    before = signal.pthread_sigmask(signal.SIG_BLOCK, STOPS)
+    try:
+        yield
+    finally:
+        signal.pthread_sigmask(signal.SIG_SETMASK, before)
+
+
 def end_first() -> None:
     """Has Linux end this process and those that it begins first where memory runs out: they read files of the store
     user's. What root says of it that user can't take back."""

@@ -46,7 +46,7 @@ from wanekupo.common.token_file import (
     HEALTH, HOLDER, LAST, MANAGER, MINUTE, NAME, PREFIX, SERVER, SUBJECT, Outer, TokenError, Tokens, TokenSeat, alone,
     check_folder, inner_of, is_past, mark_of, current_minute, own_file, put, read, tokens_text, tokens_of,
 )  # fmt: skip
-from wanekupo.common.store_user import read_small
+from wanekupo.common.store_user import read_small, signals_waiting
 from wanekupo.common.site_file import digest_of, read_site_file
 from wanekupo.common.files import make_file, replace_file
 from wanekupo.plant.site.growth import lines_of, with_seat
@@ -418,13 +418,14 @@ def run_token(args: argparse.Namespace) -> None:
         if to:
             check_folder(to.parent)
             make_file(to, done.secret + "\n")
-        try:
-            late = commit(args, tokens, before) if done.is_change else None
-        except BaseException:
-            if to:
-                to.unlink()
-            raise
-        missed = left_to_the_other(path, tokens) if done.is_change else None
+        with signals_waiting():  # where a run ended in between a token would go on, though its file says no
+            try:
+                late = commit(args, tokens, before) if done.is_change else None
+            except BaseException:
+                if to:
+                    to.unlink()
+                raise
+            missed = left_to_the_other(path, tokens) if done.is_change else None
         wrong = [it for it in (late, put_site(args, done), missed) if it]
     wrong += print_outcome(args, done, done.shown + (f"{done.secret}\n" if done.secret and not to else ""))
     if wrong:

@@ -10,7 +10,6 @@ import contextlib
 import json
 import os
 import shutil
-import signal
 import subprocess
 import time
 from collections.abc import Callable, Iterator
@@ -18,7 +17,7 @@ from pathlib import Path
 
 from wanekupo.plant.backup.copies import BackupError
 from wanekupo.common.process import run_command
-from wanekupo.common.store_user import STOPS, opened
+from wanekupo.common.store_user import opened, signals_waiting
 
 NAME = "station_backup"
 MARK = "station:backup"  # a property of a snapshot of ZFS that a backup made
@@ -29,16 +28,6 @@ TRIES = 50
 
 class SnapshotStaysError(BackupError):
     """A snapshot that was whole to its end, and can't be removed."""
-
-
-@contextlib.contextmanager
-def signals_waiting() -> Iterator[None]:
-    """A signal that would end this run waits: of a command that is killed in the middle a volume may stand still."""
-    before = signal.pthread_sigmask(signal.SIG_BLOCK, STOPS)
-    try:
-        yield
-    finally:
-        signal.pthread_sigmask(signal.SIG_SETMASK, before)
 
 
 def called(*words: str) -> subprocess.CompletedProcess[str]:
