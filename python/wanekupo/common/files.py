@@ -145,6 +145,19 @@ def unpacked(file: str | os.PathLike[str], most: int, follows_links: bool = True
         return data
 
 
+def small_bytes(file: str | os.PathLike[str], most: int) -> bytes:
+    """The bytes of a plain file that a person names, through links. Where it is none, or has more, an OSError says so:
+    whoever handed a pipe, or a link to what never ends, would keep its reader for ever."""
+    try:
+        with open(opened_plain(file, os.O_RDONLY, follows_links=True), "rb") as source:
+            data = source.read(most + 1)
+    except UnsafeFile as error:
+        raise OSError(errno.EINVAL, "it is no plain file", str(file)) from error
+    if len(data) > most:
+        raise OSError(errno.EFBIG, f"it has more than {most} bytes", str(file))
+    return data
+
+
 def opened_own(file: str | os.PathLike[str], flags: int) -> int:
     """The same of a file that has to be this user's, and that nobody else can write."""
     opened = opened_plain(file, flags)

@@ -12,7 +12,9 @@ from pathlib import Path
 from typing import Any
 
 from wanekupo.common.errors import PlantError
+from wanekupo.common.files import small_bytes
 
+MOST_BYTES = 1 << 20  # of a text
 MARK = "\ufeff"  # of the order of bytes, which may stand in front of a text
 
 # The first address of a pool, and how many it has.
@@ -65,7 +67,7 @@ def read_site(text: str, title: str) -> Site:
 
 def read_site_file(path: str | Path) -> Site:
     try:
-        return read_site(Path(path).read_text(encoding="utf-8"), str(path))
+        return read_site(small_bytes(path, MOST_BYTES).decode(), str(path))
     except UnicodeDecodeError:
         raise SiteFileError(f"{path} is no site file: it isn't UTF-8") from None
 

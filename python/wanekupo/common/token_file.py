@@ -19,7 +19,7 @@ from typing import Optional
 from wanekupo.common.errors import PlantError, UnsafeFile
 from wanekupo.common.files import own_path
 from wanekupo.common.store_user import UserError, opened
-from wanekupo.common.files import hold_lock, replace_file, sync
+from wanekupo.common.files import hold_lock, replace_file, small_bytes, sync
 
 HEAD = """# The outer tokens, the inner ones behind them, and what nginx makes of both. It has the tokens: root's alone.
 # station-token(8) writes this file, and takes none that was changed by hand.
@@ -42,6 +42,7 @@ MINUTE = "%Y-%m-%dT%H:%M"
 NAME = r"[A-Za-z0-9._-]{1,32}"
 SERVER = r"[a-z][a-z0-9_]{0,31}|127\.0\.0\.1:[1-9][0-9]{0,4}"
 SUBJECT = r"[A-Za-z0-9 ._@:/=,+'()-]{3,400}"
+MOST_INNER = 4096  # bytes of a file with one
 INNER = r"[!#%-\[\]-~]{1,1024}"
 HOLDER = r"[ -~]{0,80}"
 TIME = r"[0-9]{4}-[0-9]{2}-[0-9]{2}T[0-9]{2}:[0-9]{2}"
@@ -270,7 +271,7 @@ def alone(path: Path, patience: float) -> Iterator[None]:
 
 def inner_of(file: str) -> str:
     """The token of a file, as a station keeps it."""
-    text = Path(file).read_text(encoding="ascii").strip()
+    text = small_bytes(file, MOST_INNER).decode("ascii").strip()
     if not re.fullmatch(INNER, text):
         raise TokenError(1, f'{file}: a token is visible ASCII, here without ", $ and \\')
     return text

@@ -16,6 +16,7 @@ from dataclasses import dataclass
 from datetime import datetime, timedelta, timezone
 from pathlib import Path
 
+from wanekupo.common.files import small_bytes
 from wanekupo.standby.half import StandbyError, run_bounded, print_told
 from wanekupo.standby.look import SEAT
 
@@ -26,8 +27,9 @@ NAMED = re.compile(r"([^/=\s]+)=(.+)", re.DOTALL)
 MADE = re.compile(r"at (\d{4}-\d\d-\d\dT\d\d:\d\d:\d\dZ)")
 # How far ahead the clock of a station's PC may be.
 AHEAD = timedelta(minutes=1)
-# How a witness's command is run, whose other end may be a station's PC: what it prints is bounded.
-BOUNDED = ["bash", "-o", "pipefail", "-c", '"$@" 2> >(head -c 4096 >&2) | head -c 1048576', "bash"]
+# The most bytes of a witness. How its command is run, whose other end may be a station's PC: what it prints is bounded.
+MOST = 1 << 20
+BOUNDED = ["bash", "-o", "pipefail", "-c", f'"$@" 2> >(head -c 4096 >&2) | head -c {MOST}', "bash"]
 
 
 @dataclass(frozen=True, order=True)
@@ -147,9 +149,12 @@ def printed(command: str) -> str:
 
 def read_witness(name: str) -> str:
     try:
-        return sys.stdin.read() if name == "-" else Path(name).read_text(encoding="ascii")
+        text = sys.stdin.read(MOST + 1) if name == "-" else small_bytes(name, MOST).decode("ascii")
     except (OSError, UnicodeDecodeError) as error:
         raise StandbyError(f"The witness {name} can't be read: {error}.") from None
+    if len(text) > MOST:
+        raise StandbyError(f"The witness {name} has more than {MOST} bytes.")
+    return text
 
 
 def compare_numbers(store: dict[str, int], witness: dict[str, Reply]) -> None:
