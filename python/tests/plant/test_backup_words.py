@@ -48,9 +48,10 @@ def test_wrong_words(monkeypatch, capsys, text):
 
 
 def test_paths_are_whole_ones(tmp_path, monkeypatch):
-    """The user's process begins in another folder."""
+    """The user's process begins in another folder. A file by a public key's name is somebody's, and isn't that key."""
     monkeypatch.chdir(tmp_path)
-    (tmp_path / "keys").write_text("")
+    for name in ("keys", "age1abc"):
+        (tmp_path / name).write_text("")
     args = args_of(Path("all"), site="s.toml", db="d/books.db", recipient=["keys", "age1abc"], folder=Path("f"))
     backup.make_whole(args, "bin/P")
     assert (args.program, args.site, args.db) == tuple(str(tmp_path / it) for it in ("bin/P", "s.toml", "d/books.db"))

@@ -187,6 +187,8 @@ def test_encrypted(tmp_path, age, monkeypatch):
     monkeypatch.setattr(backup_kept, "sync", lambda path: synced.append((path.name, path.stat().st_size > 0)))
     begun = backup(tmp_path, f".new-{NAME}")
     keys = put(tmp_path / "keys.txt", "age1..")
+    monkeypatch.chdir(tmp_path)
+    put(tmp_path / "age1abc", "age1another's")
     path = encrypted(begun, NAME, ["age1abc", str(keys), "age1def"])
     assert path == tmp_path / f".new-{NAME}.tar.age" and synced == [(path.name, True)]
     assert age.words == ["age", "-r", "age1abc", "-R", str(keys), "-r", "age1def"]

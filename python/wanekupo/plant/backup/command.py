@@ -59,7 +59,8 @@ from pathlib import Path
 from wanekupo.common.errors import cause_of
 from wanekupo.plant.backup.copies import BackupError, copy_for_trial, copy_store, name_of_user
 from wanekupo.plant.backup.folder import (
-    LAST, LOCK, NEW, backup_bytes, copy_off, last_snapshot, new_name, note, placed, remove_begun, sole_backup, tidy,
+    LAST, LOCK, NEW, PUBLIC_KEYS, backup_bytes, copy_off, last_snapshot, new_name, note, placed, remove_begun,
+    sole_backup, tidy,
 )  # fmt: skip
 from wanekupo.plant.backup.snapshot import KINDS, SnapshotStaysError, hold_snapshot, volume_of
 from wanekupo.common.store_user import DAY, MINUTE, StoreFolder, StoreUser, UserError, opened, shown, user_of
@@ -347,7 +348,7 @@ def make_whole(args: argparse.Namespace, program: str) -> None:
     args.site = os.path.abspath(args.site) if args.site else None
     if os.geteuid() == 0:
         args.into, args.folder = (it and it.absolute() for it in (args.into, args.folder))
-    args.recipient = [os.path.abspath(it) if os.path.exists(it) else it for it in args.recipient]
+    args.recipient = [it if it.startswith(PUBLIC_KEYS) else os.path.abspath(it) for it in args.recipient]
 
 
 def main() -> int:

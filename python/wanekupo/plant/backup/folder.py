@@ -36,6 +36,9 @@ FORM = "%Y-%m-%dT%H%M%SZ"
 NEW, LAST, LOCK = ".new-", "last-backup.json", "backup.lock"
 # The copies of a trial start, and from which age on in seconds nobody is at work on one; the most bytes of LAST.
 TRIALS, LEFT, LARGEST = ("trial.*", "tried-by-site.*"), 3600, 65536
+# How age's public keys begin; any other recipient is a file of some. So a file by a key's name is none, as it would be
+# somebody's who writes the folder in which root stands.
+PUBLIC_KEYS = ("age1", "ssh-")
 SIZE = re.compile(r"\d{1,9}[bskmgtBSKMGT]?")
 
 
@@ -85,7 +88,7 @@ def new_name(folder: Path) -> str:
 
 def encrypted(begun: Path, name: str, recipients: list[str]) -> Path:
     """The backup as a tar that age encrypts for these recipients, or for those of a file, beside the backup begun."""
-    words = [word for it in recipients for word in (("-R", it) if os.path.exists(it) else ("-r", it))]
+    words = [word for it in recipients for word in ("-r" if it.startswith(PUBLIC_KEYS) else "-R", it)]
     path = begun.with_name(f"{begun.name}.tar.age")
     try:
         with open(path, "xb") as out:
