@@ -1,6 +1,5 @@
 """The script of the page back-up-and-restore that keeps each day's journals: what a station's key ships fills no disk."""
 
-import os
 import shutil
 import subprocess
 import textwrap
@@ -11,21 +10,44 @@ from conftest import TOP
 
 PAGE = TOP / "docs/how-to/back-up-and-restore.md"
 
+pytestmark = pytest.mark.skipif(not shutil.which("rsync"), reason="there is no rsync")
+SIZE = "#!/bin/sh\ncase $2 in *pc7) echo 2000001 $2;; *) echo 2000000 $2;; esac | tr ' ' '\\t'\n"
 
-@pytest.mark.skipif(not shutil.which("rsync"), reason="there is no rsync")
-def test_a_folder_that_is_too_large_is_named_and_left_out(tmp_path: Path) -> None:
-    text = PAGE.read_text(encoding="utf-8")
-    found = text[text.index("       #!/bin/sh\n       PATH=") : text.index("   cron mails what it says")]
-    script = textwrap.dedent(found).replace("PATH=/usr", f"PATH={tmp_path}/bin:/usr").replace("/var/", f"{tmp_path}/")
+
+@pytest.fixture
+def kept(tmp_path: Path) -> Path:
+    """The folder of all days, and two stations' folders, of which du(1) has it that one is above the bound."""
     for name in ("pc7", "pc8"):
         (tmp_path / "lib/journals/all" / name / "x").mkdir(parents=True)
         (tmp_path / "lib/journals/all" / name / "x/a.journal").write_text(name)
     for name in ("backups/journals", "bin"):
         (tmp_path / name).mkdir(parents=True)
-    size = tmp_path / "bin/du"  # in the place of two gigabytes
-    size.write_text('#!/bin/sh\ncase $2 in *pc7) echo "2000001 $2";; *) echo "2000000 $2";; esac | tr " " "\\t"\n')
-    size.chmod(0o755)
-    done = subprocess.run(["sh", "-c", script], env=dict(os.environ), capture_output=True, text=True, check=False)
-    made = (tmp_path / "backups/journals").rglob("*.journal")
-    kept = sorted(it.relative_to(tmp_path / "backups/journals").parts[1:] for it in made)
-    assert kept == [("pc8", "x", "a.journal")] and "too much in pc7\n" in done.stderr
+    (tmp_path / "bin/du").write_text(SIZE)
+    (tmp_path / "bin/du").chmod(0o755)
+    return tmp_path / "backups/journals"
+
+
+def run(kept: Path) -> str:
+    """Runs the page's script over these, and gives what it tells."""
+    top, text = kept.parents[1], PAGE.read_text(encoding="utf-8")
+    found = text[text.index("       #!/bin/sh\n       PATH=") : text.index("   cron mails what it says")]
+    script = textwrap.dedent(found).replace("PATH=/usr", f"PATH={top}/bin:/usr").replace("/var/", f"{top}/")
+    return subprocess.run(["sh", "-c", script], capture_output=True, text=True, check=False).stderr
+
+
+def test_a_folder_that_is_too_large_is_named_and_left_out(kept: Path) -> None:
+    told = run(kept)
+    found = [it.relative_to(kept).parts[1:] for it in kept.rglob("*.journal")]
+    assert found == [("pc8", "x", "a.journal")] and "too much in pc7\n" in told
+
+
+def test_a_day_of_a_clock_that_was_ahead_is_not_the_last_one(kept: Path) -> None:
+    """What is old is linked to the day before, else each day would have all of it anew."""
+    file = kept.parents[1] / "lib/journals/all/pc8/x/a.journal"
+    for day in ("2000-01-01", "2099-01-01"):
+        (kept / day / "pc8/x").mkdir(parents=True)
+    shutil.copy2(file, kept / "2000-01-01/pc8/x/a.journal")
+    run(kept)
+    before = kept / "2000-01-01/pc8/x/a.journal"
+    (today,) = {*kept.glob("*/pc8/x/a.journal")} - {before}
+    assert today.samefile(before)
