@@ -1,4 +1,4 @@
-"""The script of the page back-up-and-restore that keeps each day's journals: what a station's key ships fills no disk."""
+"""The script of the page back-up-and-restore that keeps each day's journals: what one station ships fills no disk."""
 
 import shutil
 import subprocess
