@@ -45,6 +45,12 @@ def replaced(path, pairs):
     return text
 
 
+def rules_in(folder):
+    """The rules of nftables with another user as the server's: this machine may have no `station`."""
+    (folder / "station.nft").write_text(replaced(ROOT / "deploy/station.nft", [("server = station", "server = nobody")]))
+    return folder / "station.nft"
+
+
 def certify(folder, days="2", name="localhost", names="DNS:localhost"):
     """A key and a certificate in a folder: key.pem and cert.pem."""
     words = ["req", "-x509", *CURVE, "-days", days, "-subj", f"/CN={name}", "-addext", f"subjectAltName={names}"]

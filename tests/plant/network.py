@@ -18,7 +18,7 @@ import urllib.request
 from pathlib import Path
 
 from common.commands import PYTHON
-from common.deployed import Place, expect, ran, replaced
+from common.deployed import Place, expect, ran, replaced, rules_in
 from common.needs import ROOT
 from common.ports import HOST
 from common.program import Failed
@@ -156,14 +156,14 @@ class Network:
 def tried(network):
     network.watch(is_bound=False)
     expect("Debian's units alone, open to another machine", network.open_ports(), {PORT, *WATCHING})
-    done("nft", "-f", str(ROOT / "deploy/station.nft"))
+    done("nft", "-f", str(rules_in(network.folder)))
     expect("with station.nft", network.open_ports(), {PORT})
     network.rest()
     done("nft", "flush", "ruleset")
     network.watch(is_bound=True)
     expect("with the drop-ins, by ss", network.listening(), {PORT})
     expect("with the drop-ins, open to another machine", network.open_ports(), {PORT})
-    done("nft", "-f", str(ROOT / "deploy/station.nft"))
+    done("nft", "-f", str(rules_in(network.folder)))
     expect("with both", network.open_ports(), {PORT})
     for port, path in WATCHING.items():
         if path:

@@ -9,7 +9,7 @@ from concurrent.futures import ThreadPoolExecutor
 
 import pytest
 
-from common.deployed import CERTIFICATES, CONF, INNER, ROOT, expect, ran, refusal
+from common.deployed import CERTIFICATES, CONF, INNER, expect, ran, refusal, rules_in
 from common.ports import HOST
 from plant.test_tokens import (
     ASKING, LATER, NO_ORDER, ORDER, STRANGER, by, by_python, client_of, seats, told, until, working,
@@ -442,6 +442,7 @@ ip link set lo up
 until grep -q listening port.said; do sleep 0.05; done
 asked() { setpriv --reuid "$1" --clear-groups curl -s -o /dev/null -m 3 -w "$1 %{http_code}\n" http://127.0.0.1:880/; }
 asked nobody
+sleep 0.5  # its last packets are no part of what is counted below
 nft -f "$2"
 nft -f "$2"
 for user in root www-data; do asked $user; done
@@ -456,13 +457,20 @@ kill $!; wait $! 2> /dev/null
 bound='import socket; socket.socket().bind(("127.0.0.1", 880))'
 setpriv --reuid nobody --clear-groups /usr/bin/python3 -c "$bound" 2>&1 | tail -n 1
 /usr/bin/python3 -c "$3"
+/usr/bin/python3 -m http.server --bind 127.0.0.1 9093 > /dev/null 2>&1 &
+until curl -s -o /dev/null http://127.0.0.1:9093/; do sleep 0.05; done
+for user in root www-data nobody; do
+    setpriv --reuid $user --clear-groups curl -s -o /dev/null -m 3 -w "$user %{http_code}\n" http://127.0.0.1:9093/
+done
+kill $!
 """
 
 
 @pytest.mark.needs("ip", "nft", "setpriv", "mounts")
 def test_port(place):
-    """who on this machine reaches the server's port, and can be the server; what an address holds of nginx"""
-    rule = ROOT / "deploy/station.nft"
+    """who on this machine reaches the server's port, and can be the server; what an address holds of nginx; that the
+    server's user reaches nothing that watches, as he could silence it"""
+    rule = rules_in(place.folder)
     words = ["unshare", "-n", "sh", "-c", ASKS, "sh", place.program, rule, HOLDS, BEGUN]
     said = ran(words, place.folder).stdout.splitlines()
     wanted = ["nobody 401", "root 401", "www-data 401"]
@@ -473,4 +481,5 @@ def test_port(place):
     expect("none of theirs is refused; the last rule asks for no user", said[3:5], told)
     wanted = ["nobody 000", "begun before: ConnectionResetError", "PermissionError: [Errno 13] Permission denied"]
     expect("nobody with the rules, and over a connection of before; nobody as the server", said[5:8], wanted)
-    expect("74 connections of one address, and 10 of another", said[8:], ["127.0.0.1 64", "127.0.0.2 74"])
+    expect("74 connections of one address, and 10 of another", said[8:10], ["127.0.0.1 64", "127.0.0.2 74"])
+    expect("who reaches alertmanager, without the server's user", said[10:], ["root 200", "www-data 200", "nobody 000"])
