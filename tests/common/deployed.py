@@ -47,8 +47,9 @@ def replaced(path, pairs):
 
 def rules_in(folder):
     """The rules of nftables with another user as the server's: this machine may have no `station`."""
-    (folder / "station.nft").write_text(replaced(ROOT / "deploy/station.nft", [("server = station", "server = nobody")]))
-    return folder / "station.nft"
+    made = folder / "station.nft"
+    made.write_text(replaced(ROOT / "deploy/station.nft", [("server = station", "server = nobody")]))
+    return made
 
 
 def certify(folder, days="2", name="localhost", names="DNS:localhost"):
