@@ -235,16 +235,7 @@ class Endings(BenchCase):
     def test_espefuse_that_fails(self):
         """No chip, no command, no chip of the family, a port that went, one that is silent behind its
         burning, and one that is pulled out while it is burnt. The log has what espefuse said, without a key."""
-        tool(self.folder / "silent", "echo 'A fatal error occurred: Failed to connect to ESP32'; exit 2\n")
-        tool(self.folder / "other", "echo 'espefuse v9'\n")
-        gone = tool(self.folder / "gone", "exit 2\n")
-        for name, text, status in (("c3", C3, 2), ("c3_of_5", C3_OF_5, 2), ("went", WENT, 2), ("own", OWN, 2)):
-            tool(self.folder / name, f"cat <<'END'\n{text}END\nexit {status}\n")
-        chip = " ".join(self.socket_of("left"))
-        torn = f"case \"$*\" in *scripts*) cat <<'END' >&2\n{TORN}END\nexit 1;; esac"
-        tool(self.folder / "pulled", f'{torn}\nexec {chip} "$@"\n')
-        late = 'case "$*" in *dump*) [ ! -e burnt ] || { echo "A fatal error occurred: Timed out"; exit 2; };;'
-        tool(self.folder / "breaks", f'{late} *) touch burnt;; esac\nexec {" ".join(self.socket_of("left"))} "$@"\n')
+        self.failing_tools()
         again = "put it in once more, and where that fails too, red box."
         cases = [
             ("./silent", MAC, "no_chip", "(Failed to connect to ESP32): press it in, and begin again."),
@@ -261,21 +252,38 @@ class Endings(BenchCase):
         self.order()
         begun = []
         for command, mac, reason, sentence in cases:
-            bench = self.run_bench(self.recipe(sockets={"left": [command]}))
-            if command == "./gone":
-                os.unlink(gone)
-            self.put("left", mac)
-            bench.said("left")
-            word, found, told = bench.ended("left")
             begun += [mac] if reason in ("no_read", "no_burn") else []
-            self.assertEqual((word, found, [it["chip"] for it in bench.board()["under_way"]]), ("FAIL", reason, begun))
-            self.assertTrue(told.endswith(sentence), told)
-            bench.end()
+            self.assert_fails(command, mac, reason, sentence, begun)
         outputs = {it["result"]: it.get("output", "") for it in self.logged() if "result" in it}
         self.assertIn("BLOCK1 : [a key]\n", outputs["no_burn"])
         self.assertIn("Traceback (most recent call last):", outputs["no_burn"])
         self.assertNotIn("a0a1a2", "".join(outputs.values()).replace(" ", ""))
         self.assertIn("Wrong chip argument?", outputs["no_dump"])
+
+    def failing_tools(self):
+        """Commands of a socket by their names, each of which fails in one way."""
+        tool(self.folder / "silent", "echo 'A fatal error occurred: Failed to connect to ESP32'; exit 2\n")
+        tool(self.folder / "other", "echo 'espefuse v9'\n")
+        tool(self.folder / "gone", "exit 2\n")
+        for name, text, status in (("c3", C3, 2), ("c3_of_5", C3_OF_5, 2), ("went", WENT, 2), ("own", OWN, 2)):
+            tool(self.folder / name, f"cat <<'END'\n{text}END\nexit {status}\n")
+        chip = " ".join(self.socket_of("left"))
+        torn = f"case \"$*\" in *scripts*) cat <<'END' >&2\n{TORN}END\nexit 1;; esac"
+        tool(self.folder / "pulled", f'{torn}\nexec {chip} "$@"\n')
+        late = 'case "$*" in *dump*) [ ! -e burnt ] || { echo "A fatal error occurred: Timed out"; exit 2; };;'
+        tool(self.folder / "breaks", f'{late} *) touch burnt;; esac\nexec {chip} "$@"\n')
+
+    def assert_fails(self, command, mac, reason, sentence, begun):
+        """A chip in a socket of this command fails so, and these chips are begun then."""
+        bench = self.run_bench(self.recipe(sockets={"left": [command]}))
+        if command == "./gone":
+            (self.folder / "gone").unlink()
+        self.put("left", mac)
+        bench.said("left")
+        word, found, told = bench.ended("left")
+        self.assertEqual((word, found, [it["chip"] for it in bench.board()["under_way"]]), ("FAIL", reason, begun))
+        self.assertTrue(told.endswith(sentence), told)
+        bench.end()
 
     def test_chips_of_another_family(self):
         """Each fails and counts once while it is in, also where a chip begins by itself, and three stop the line."""
