@@ -47,6 +47,8 @@ README = HERE.parents[1] / "README.md"
 
 
 class Commands(StationCase):
+    over_office = True
+
     def test_the_life_of_a_chip(self):
         """Each reply is as the API says, over a chip behind the words of espefuse."""
         station = self.station()
@@ -275,6 +277,8 @@ class Commands(StationCase):
 
 class Quarantine(StationCase):
     """How a chip is lost, and how it isn't."""
+
+    over_office = True
 
     def setUp(self):
         super().setUp()
