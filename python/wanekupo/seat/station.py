@@ -408,14 +408,10 @@ class Station(Seat):
             behind = following
 
     def report(self, path: str = "/v1/report") -> dict[str, dict[str, int]]:
-        """The counts of each order, by its name."""
+        """The counts of each order, by its name; of the site's report, the manager's alone, those of each customer."""
         rows = csv.reader(io.StringIO(self.get(path)))
         _, *names = next(rows)
         return {name: dict(zip(names, map(int, counts))) for name, *counts in rows}
-
-    def site_report(self) -> dict[str, dict[str, int]]:
-        """The counts of each customer, by its name; the manager's alone."""
-        return self.report("/v1/site/report")
 
     def settle(self, chip: str, chip_io: Burner, tries: int = 3) -> Device:
         """Burns and reads back what a device awaits. It is then settled or quarantined, or still awaits what the chip
