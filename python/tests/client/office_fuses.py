@@ -132,7 +132,9 @@ class Fuses:
             masks[field["block"]] |= self.mask(field)
         return masks, {it["name"] for it in fields if it.get("key")}
 
-    def is_other_key(self, name, shown, known, awaited, is_hidden):
+    def is_other_key(self, shown, known, awaited, is_hidden):
+        """Whether a block shows a key where it is hidden; else another one than is known or awaited, or none of those
+        that are known."""
         if is_hidden or shown is None:
             return shown is not None if is_hidden else known is not None
         return shown != (known or awaited)

@@ -413,6 +413,11 @@ class StationCase(unittest.TestCase):
         (self.folder / "flash.key").write_bytes(FLASH_KEY)
         self.keys = {"BLOCK1": KeyFile(str(self.folder / "flash.key"), "flash_encryption")}
 
+    def needs_program(self):
+        """For a test of what the office hasn't, as a store of SQLite."""
+        if not IS_BUILT:
+            self.skipTest(f"there is no program {PROGRAM}")
+
     def site(self):
         """The site file: acme has the seat a1 with the token abc, bolt the seat b1 with the token hello."""
         return SITE

@@ -78,6 +78,8 @@ class Refusing(Proxy):
 class Endings(BenchCase):
     """How a chip's stay may end, and what is said then."""
 
+    over_office = True
+
     def begun(self, name="left", mac=MAC, text="", **recipe):
         """A bench over an order, with a chip in a socket that is begun."""
         self.order()
