@@ -147,7 +147,7 @@ class Fuses:
         masks, hidden = self.hidden([it | more for it, more in zip(known, awaited)])
         rest = [it & ~there & ~mask for it, there, mask in zip(awaited, shown, masks)]
         lacking = {name: it for name, it in batch["keys"].items() if name not in keys and name not in hidden}
-        by_field = [(it.get(name) for it in (keys, burnt["keys"], batch["keys"])) for name in self.keys.values()]
+        by_field = [[it.get(name) for it in (keys, burnt["keys"], batch["keys"])] for name in self.keys.values()]
         if any(it & ~mask & ~there for it, mask, there in zip(known, masks, shown)):
             outcome = "lost"
         elif any(there & ~(it | more) or there & mask for there, it, more, mask in zip(shown, known, awaited, masks)):
