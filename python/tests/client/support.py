@@ -414,7 +414,7 @@ class StationCase(unittest.TestCase):
         self.keys = {"BLOCK1": KeyFile(str(self.folder / "flash.key"), "flash_encryption")}
 
     def needs_program(self):
-        """For a test of what the office hasn't, as a store of SQLite."""
+        """For a test of what the office hasn't, as a store of SQLite, and for one that nobody tried over it."""
         if not IS_BUILT:
             self.skipTest(f"there is no program {PROGRAM}")
 

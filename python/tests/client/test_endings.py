@@ -90,6 +90,7 @@ class Endings(BenchCase):
 
     def test_the_facts_that_hooks_have(self):
         """CHIP, ORDER, SERIAL, MAC, MACS and KEY_SHA256; what they print is in the log, and no key is."""
+        self.needs_program()
         self.order(quantity=2, macs=2)
         seen = self.folder / "seen"
         hook = script(self.folder / "hook", f'{FACTS}exec >> {seen}\n{FACTS}')
@@ -114,6 +115,7 @@ class Endings(BenchCase):
 
     def test_hooks_that_fail(self):
         """Each says so; the chip isn't lost, and goes on where it was, with the same serial number."""
+        self.needs_program()
         slow = script(self.folder / "slow", "sleep 100 & sleep 100\n")
         broken = script(self.folder / "broken", "echo 'no \x1b[31mpaper' >&2; exit 3\n")
         nothing = script(self.folder / "nothing", "exit 0\n")
@@ -155,6 +157,7 @@ class Endings(BenchCase):
 
     def test_what_read_backs_find(self):
         """Each outcome that isn't `match`, of a chip that was burnt otherwise than it was told."""
+        self.needs_program()
         (self.folder / "7.key").write_bytes(bytes(32 * [7]))
         lost = "and the chip is lost"
         cases = [
@@ -334,6 +337,7 @@ class Endings(BenchCase):
 
     def test_what_stops_a_line_at_its_start(self):
         """A certificate that isn't trusted, what isn't the server, another token, and an order that isn't made."""
+        self.needs_program()
         self.order()
         tls = TlsProxy(self.program, self.folder)
         self.addCleanup(tls.close)
@@ -356,6 +360,7 @@ class Endings(BenchCase):
     def test_three_in_a_row(self):
         """The line stops, and says what the three chips have in common; a person has it go on. One that is put in again
         counts once."""
+        self.needs_program()
         broken = script(self.folder / "broken", "exit 3\n")
         self.order()
         bench = self.run_bench(self.recipe(hooks={"before_ship": {"command": [broken]}}))
@@ -384,6 +389,7 @@ class Endings(BenchCase):
 
     def test_a_crash(self):
         """What was begun is shown, and goes on in another socket."""
+        self.needs_program()
         self.order()
         wait = script(self.folder / "wait", f"[ -e {self.folder}/go ] || sleep 100\n")
         recipe = self.recipe(hooks={"before_ship": {"command": [wait]}})
@@ -465,6 +471,7 @@ class Endings(BenchCase):
 
     def test_keys_that_a_command_makes(self):
         """Each chip gets its own, whose file is there before the plan; a chip whose file is gone isn't burnt."""
+        self.needs_program()
         make = script(self.folder / "make-key", 'head -c 32 /dev/urandom > "$KEY_FILE"\n')
         short = script(self.folder / "short", 'head -c 31 /dev/urandom > "$KEY_FILE"\n')
         wish = {"kind": "key", "field": "BLOCK1", "command": [make], "burnt_as": "flash_encryption"}
