@@ -118,8 +118,7 @@ class Endings(BenchCase):
         self.needs_program()
         slow = script(self.folder / "slow", "sleep 100 & sleep 100\n")
         broken = script(self.folder / "broken", "echo 'no \x1b[31mpaper' >&2; exit 3\n")
-        nothing = script(self.folder / "nothing", "exit 0\n")
-        gone = script(self.folder / "gone", "exit 0\n")
+        nothing, gone = (script(self.folder / name, "exit 0\n") for name in ("nothing", "gone"))
         forged = script(self.folder / "forged", 'head -c 99 /dev/urandom > "$FOLDER/identity.csr"\n')
         good = {"before_identity": {"command": [self.csr]}}
         again = "(no \\x1b[31mpaper): put it in once more, and where that fails too, red box."
