@@ -1,4 +1,4 @@
-"""What is measured for each size of a store's pages, by the functions of other scripts, for `sizes`."""
+"""What is measured for each size of a store's pages, by what the other scripts measure with, for `sizes`."""
 
 import argparse
 import json
@@ -11,12 +11,15 @@ import sys
 import tempfile
 import threading
 from collections.abc import Callable
-from importlib.machinery import SourceFileLoader
-from importlib.util import module_from_spec, spec_from_loader
 from pathlib import Path
-from types import ModuleType
 from typing import NamedTuple
 
+import instruction_counts
+import list_times
+import order_times
+import report_times
+import store_lives
+import store_starts
 from common.chip import empty_page
 from common.lives import SITE, STEPS
 from common.program import Failed, Program, send
@@ -37,16 +40,6 @@ STARTS = {
 }
 
 Measures = dict[str, float]
-
-
-def script(name: str) -> ModuleType:
-    """A script of this folder as a module."""
-    sys.dont_write_bytecode = True
-    loader = SourceFileLoader(f"{name}_script", os.path.join(HERE, name))
-    module = module_from_spec(spec_from_loader(loader.name, loader))
-    sys.modules[loader.name] = module
-    loader.exec_module(module)
-    return module
 
 
 class Task(NamedTuple):
@@ -105,16 +98,16 @@ class Largest:
 
 def lives_once(task: Task) -> Measures:
     """Lives over a new file, a start over it, and C's SQLite with pages of the same size and of its own."""
-    store, size = script("store"), task.sizes[0]
+    size = task.sizes[0]
     command, path = task.new_store("books.db")
     with Largest(f"{path}-wal") as log:
         times, replies = run_lives(command, task.seconds, size, "without")
     start, peak = start_of(command, task.seconds)
-    books = store.Books(path, size, replies)
+    books = store_lives.Books(path, size, replies)
     books.test()
     peers = [task.new_store("same.db")[1], os.path.join(task.folder, "own.db")]
-    runs = [times, *(store.run_peer(peer, books) for peer in peers)]
-    rate, same, own = (store.rates_of(run, size)[0] for run in runs)
+    runs = [times, *(store_lives.run_peer(peer, books) for peer in peers)]
+    rate, same, own = (store_lives.rates_of(run, size)[0] for run in runs)
     return {
         "requests a second": rate,
         "C's SQLite, pages of the same size": same,
@@ -148,7 +141,7 @@ def lives(task: Task) -> Measures:
 def imports(task: Task) -> Measures:
     """Imports into an empty table and into one with rows."""
     command, path = task.new_store("imports.db")
-    rates = script("store").imports_over(command, task.seconds, ROWS)
+    rates = store_lives.imports_over(command, task.seconds, ROWS)
     os.remove(path)
     os.remove(f"{path}-wal")
     return dict(zip(["imports: rows a second from none on", f"imports: rows a second from {ROWS:,} on"], rates))
@@ -159,19 +152,19 @@ def imports(task: Task) -> Measures:
 
 def make_starts(task: Task) -> None:
     """A store of copied lives, and the same as a program of schema 1 left it."""
-    starts = script("starts")
     command, path = task.new_store("made.db")
-    starts.make(command, path, "bare", task.devices, task.seconds, task.devices > starts.PATTERN)
+    is_copied = task.devices > store_starts.PATTERN
+    store_starts.make(command, path, "bare", task.devices, task.seconds, is_copied)
     take_back(path, task.new_store("old.db")[1], 1)
 
 
 def starts_of(task: Task) -> Measures:
     """A start, one under a text of the site that grew, and one over the store of schema 1."""
-    starts, asked = script("starts"), script("starts").shown("bare")
+    asked = store_starts.shown("bare")
     found = {"the file, MB": os.path.getsize(os.path.join(task.folder, "made.db")) / MILLION}
     for name, (of, text) in STARTS.items():
         command = task.copied("books.db", of, text)
-        took, used, peak = starts.start_of(command, asked, task.seconds)
+        took, used, peak = store_starts.start_of(command, asked, task.seconds)
         found |= {f"{name}, s": took, f"{name}, s of a processor": used, f"{name}, MB of memory": peak * 1024 / MILLION}
         test_schema(command[-1])
     return {f"{task.devices:,} lives: {key}": value for key, value in found.items()}
@@ -186,18 +179,16 @@ def test_schema(path: str) -> None:
 
 
 def make_reports(task: Task) -> None:
-    reports = script("reports")
-    shape = reports.shape_of(0)
-    command, path = task.new_store("made.db", reports.site_text(shape))
-    reports.make_file(command, task.seconds, shape, task.devices, path, None)
+    shape = report_times.shape_of(0)
+    command, path = task.new_store("made.db", report_times.site_text(shape))
+    report_times.make_file(command, task.seconds, shape, task.devices, path, None)
 
 
 def reports_of(task: Task) -> Measures:
     """The reports of the site and of a customer, each of a new start, and those of C's SQLite over the same file."""
-    reports = script("reports")
-    shape = reports.shape_of(0)
-    command = task.copied("books.db", "made.db", reports.site_text(shape))
-    found, peers = reports.over_file(command, task.seconds, shape), reports.run_peer(command[-1], shape)
+    shape = report_times.shape_of(0)
+    command = task.copied("books.db", "made.db", report_times.site_text(shape))
+    found, peers = report_times.over_file(command, task.seconds, shape), report_times.run_peer(command[-1], shape)
     measures = {}
     for report in peers:
         name = f"{task.devices:,} devices: the report of {'the site' if report == 'site' else 'one customer'}"
@@ -207,22 +198,21 @@ def reports_of(task: Task) -> Measures:
 
 
 def make_listing(task: Task) -> None:
-    listing = script("listing")
-    command, _ = task.new_store("books.db", listing.BOTH)
+    command, _ = task.new_store("books.db", list_times.BOTH)
     with Program(command, task.seconds) as program:
-        for part in listing.parts_of(task.devices):
+        for part in list_times.parts_of(task.devices):
             send(program, part)
         program.end()
 
 
 def listing_of(task: Task) -> Measures:
     """The pages of all devices of a customer, by a new start and by C's SQLite over the same file."""
-    listing, name = script("listing"), f"{task.devices:,} devices beside as many: a page"
-    command, path = task.store("books.db", listing.BOTH)
+    name = f"{task.devices:,} devices beside as many: a page"
+    command, path = task.store("books.db", list_times.BOTH)
     with Program(command, task.seconds) as program:
-        own = listing.best_of(lambda: listing.listed_by(program), task.devices)
+        own = list_times.best_of(lambda: list_times.listed_by(program), task.devices)
         program.end()
-    peer = listing.best_of(lambda: listing.listed_by_sqlite(path), task.devices)
+    peer = list_times.best_of(lambda: list_times.listed_by_sqlite(path), task.devices)
     return {f"{name}, ms": 1000 * statistics.median(own), f"{name} by C's SQLite, ms": 1000 * statistics.median(peer)}
 
 
@@ -234,41 +224,41 @@ class Kind(NamedTuple):
     asked: list[bytes]
 
 
-def order_kinds(orders: ModuleType) -> dict[str, Kind]:
+def order_kinds() -> dict[str, Kind]:
     """The kinds of single requests."""
-    kinds, (before, identity) = {}, orders.behind()
-    for how, macs in orders.ADDRESSES.items():
-        others, asked = orders.beside(OTHERS, macs)
+    kinds, (before, identity) = {}, order_times.behind()
+    for how, macs in order_times.ADDRESSES.items():
+        others, asked = order_times.beside(OTHERS, macs)
         kinds[f"an order {how} addresses beside {OTHERS:,}"] = Kind(others, [], asked)
     # What these walk is read from the file once.
-    kinds["an order shown behind 9,999 imported numbers"] = Kind(before, [orders.SHOWN], [orders.SHOWN] * orders.TIMES)
-    return kinds | {"an identity behind them": Kind(before, [orders.SHOWN], [identity])}
+    shown = [order_times.SHOWN]
+    kinds["an order shown behind 9,999 imported numbers"] = Kind(before, shown, shown * order_times.TIMES)
+    return kinds | {"an identity behind them": Kind(before, shown, [identity])}
 
 
 def make_orders(task: Task) -> None:
-    orders = script("orders")
-    for place, kind in enumerate(order_kinds(orders).values()):
-        orders.measured(task.new_store(f"made{place}.db")[0], task.seconds, kind.before, [])
+    for place, kind in enumerate(order_kinds().values()):
+        order_times.measured(task.new_store(f"made{place}.db")[0], task.seconds, kind.before, [])
 
 
 def orders_of(task: Task) -> Measures:
     """The single requests, over copies of their stores."""
-    orders, found = script("orders"), {}
-    for place, (name, kind) in enumerate(order_kinds(orders).items()):
+    found = {}
+    for place, (name, kind) in enumerate(order_kinds().items()):
         command = task.copied("books.db", f"made{place}.db")
-        used = orders.measured(command, task.seconds, kind.first, kind.asked)[1]
+        used = order_times.measured(command, task.seconds, kind.first, kind.asked)[1]
         found[f"{name}, ms of a processor"] = 1000 * used
     return found
 
 
 def instructions_of(task: Task) -> Measures:
     """The instructions of a request over a file, and of a start over a small store."""
-    instructions, how = script("instructions"), {"addresses": False, "lives": 300, "starts": 1000, "out": None}
+    how = {"addresses": False, "lives": 300, "starts": 1000, "out": None}
     words = argparse.Namespace(program=task.program, seconds=task.seconds, **how)
     for name in ("before", "lives", "starts"):
         task.new_store(f"{name}.db")
-    request = instructions.counted(words, "file", task.folder).total / (words.lives * STEPS)
-    start = instructions.start_counted(words, task.folder).total / MILLION
+    request = instruction_counts.counted(words, "file", task.folder).total / (words.lives * STEPS)
+    start = instruction_counts.start_counted(words, task.folder).total / MILLION
     return {
         "instructions of a request": request,
         f"a start over {words.starts:,} lives, millions of instructions": start,

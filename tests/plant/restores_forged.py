@@ -176,6 +176,10 @@ def test_lost(bench):
         _, said = bench.refuses(told, journals=[journals])
         if str(own) not in said.stderr:
             raise Failed(f"no file is named: {said}")
+
+
+def test_lost_is_distrusted(bench):
+    """A lost store that is older than the lines is refused, but for customers that a person distrusts in it."""
     older = bench.place()
     for name in ("books.db", "books.db-wal"):
         shutil.copy(bench.backup / name, older / name)

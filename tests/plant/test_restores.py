@@ -22,10 +22,12 @@ from common.chip import Failed
 from common.commands import PROJECT, PYTHON, command
 from common.users import AS_USER, USER, another_user, umask
 from plant.gameday_plant import CUSTOMERS, KILLED, Plant
-from plant.restores_forged import first_of, signed, test_folders, test_foreign, test_left_out, test_lost, written
+from plant.restores_forged import (
+    first_of, signed, test_folders, test_foreign, test_left_out, test_lost, test_lost_is_distrusted, written,
+)  # fmt: skip
 
 # Those of journals that were forged or damaged are run with the bench that is here.
-__all__ = ["test_folders", "test_foreign", "test_left_out", "test_lost"]
+__all__ = ["test_folders", "test_foreign", "test_left_out", "test_lost", "test_lost_is_distrusted"]
 pytestmark = pytest.mark.needs("reader", "sqlite3", "rsync")
 
 # The tables that a restore brings back, without the numbers that the keeper draws.

@@ -36,6 +36,8 @@ def made_ca(folder):
 class CertificateCase(StationCase):
     """The program with two orders, the CA of acme-ca, and a spool."""
 
+    over_office = True
+
     def setUp(self):
         super().setUp()
         self.spool, self.pairs = self.folder / "spool", self.folder / "pairs"

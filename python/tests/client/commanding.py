@@ -56,6 +56,8 @@ def digest_by_openssl(folder, name):
 
 
 class CommandCase(StationCase):
+    over_office = True
+
     def setUp(self):
         super().setUp()
         config = self.folder / ".config"

@@ -35,6 +35,7 @@ from wanekupo.seat.replies import Word, Work  # noqa: E402
 from wanekupo.seat.station import Station  # noqa: E402
 
 PROGRAM = os.environ.get("STATION_PROGRAM", str(ROOT / "crates" / "station" / "out" / "station"))
+IS_BUILT = os.access(PROGRAM, os.X_OK)
 SIMULATED = ROOT / "python" / "tests" / "client" / "simulated_chip.py"
 SITE = ROOT / "crates" / "station" / "data" / "site.toml"
 MAP = (ROOT / "python/wanekupo/chips/families/esp32/map.toml").read_text(encoding="utf-8")
@@ -80,15 +81,22 @@ def free_port():
         return listener.getsockname()[1]
 
 
+# Without a program some tests run over the office of the API's page, and the others are skipped.
+OFFICE = ROOT / "python" / "tests" / "client" / "office.py"
+
+
 class Program:
     """`station serve` over a store in a folder. It has one port, also when it is started again."""
 
-    def __init__(self, folder, site=SITE):
+    def __init__(self, folder, site=SITE, over_office=False):
+        if not IS_BUILT and not over_office:
+            raise unittest.SkipTest(f"there is no program {PROGRAM}")
         self.db, self.port, self.process, self.site = Path(folder) / "books.db", free_port(), None, site
         self.start()
 
     def start(self):
-        words = [PROGRAM, "serve", "--site", str(self.site), "--db", str(self.db), "--port", str(self.port)]
+        program = [PROGRAM] if IS_BUILT else [sys.executable, "-B", str(OFFICE)]
+        words = [*program, "serve", "--site", str(self.site), "--db", str(self.db), "--port", str(self.port)]
         words += ["--connections", "1000000"]
         self.process = subprocess.Popen(words, stdout=subprocess.PIPE, stdin=subprocess.DEVNULL)
         ready, _, _ = select.select([self.process.stdout], [], [], 60)
@@ -391,16 +399,24 @@ def life(station, chip_io, public_key=PUBLIC_KEY, order=ORDER["name"]):
 
 
 class StationCase(unittest.TestCase):
-    """A folder with a program, a key's file, and a seat with an order and the map."""
+    """A folder with a program, a key's file, and a seat with an order and the map. With `over_office` the tests run
+    over the office of the API's page too, where no program is built."""
+
+    over_office = False
 
     def setUp(self):
         folder = tempfile.TemporaryDirectory()
         self.addCleanup(folder.cleanup)
         self.folder = Path(folder.name)
-        self.program = Program(self.folder, self.site())
+        self.program = Program(self.folder, self.site(), self.over_office)
         self.addCleanup(lambda: self.program.kill())
         (self.folder / "flash.key").write_bytes(FLASH_KEY)
         self.keys = {"BLOCK1": KeyFile(str(self.folder / "flash.key"), "flash_encryption")}
+
+    def needs_program(self):
+        """For a test of what the office hasn't, as a store of SQLite, and for one that nobody tried over it."""
+        if not IS_BUILT:
+            self.skipTest(f"there is no program {PROGRAM}")
 
     def site(self):
         """The site file: acme has the seat a1 with the token abc, bolt the seat b1 with the token hello."""

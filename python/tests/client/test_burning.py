@@ -32,6 +32,8 @@ def jtag_of(family):
 class Burning(CommandCase):
     """A chip of each family in the file `chip`, behind simulated words of espefuse or its own."""
 
+    over_office = False
+
     def setUp(self):
         super().setUp()
         (self.folder / "a key").write_bytes(KEY)

@@ -210,21 +210,40 @@ class Words(CommandCase):
         self.made_by(["plan", OTHER_MAC], {"state": "settled"})
         self.assertEqual(self.ran("register", "o1", digests["none"])[0], 2)
 
-    def test_errors_are_sentences(self):
-        """What happened and what to do, with no name of a class, and with the status of the table."""
+    def assert_sentences(self, *cases):
+        """Each case's words end with its status, and say what happened and what to do, with no name of a class."""
+        for words, status, told in cases:
+            found, out, err = self.ran(*words)
+            self.assertEqual((found, told.lower() in err.lower()), (status, True), (words, err))
+            self.assertNotRegex(err, NO_SENTENCE)
+            self.assertNotIn("\x1b", err)
+            self.assertRegex(err, r"^$|^[^\n]+[.]\n$", words)
+
+    def test_what_the_server_refuses_is_a_sentence(self):
         self.made()
         self.taken_over()
-        (self.folder / "notes").write_bytes(b"\xff\xfe\0")
         (self.folder / "text").write_text("no map\n", encoding="ascii")
-        (self.folder / "open.token").write_text("abc\n", encoding="ascii")
-        (self.folder / "open.token").chmod(0o644)
-        nobody = ["--url", f"http://{HOST}:{free_port()}", "--patience", "0"]
-        page = ["--url", self.canned(502, "text/html", b"<html>\x1b[2J"), "--patience", "0"]
-        for words, status, told in (
+        self.assert_sentences(
             (["ship", MAC], 1, "the device's state doesn't allow it"),
             (["device", "240ac4000009"], 1, "no device of this chip"),
             (["order", "o9"], 1, "no order of this name"),
             (["map", self.folder / "text"], 1, "no fuse map"),
+        )
+
+    def test_no_reply_is_a_sentence(self):
+        nobody = ["--url", f"http://{HOST}:{free_port()}", "--patience", "0"]
+        page = ["--url", self.canned(502, "text/html", b"<html>\x1b[2J"), "--patience", "0"]
+        self.assert_sentences(
+            ([*nobody, "report"], 3, "no reply"),
+            ([*nobody, "number"], 3, "no reply"),
+            ([*page, "report"], 3, "another's reply"),
+        )
+
+    def test_settings_that_are_wrong_are_sentences(self):
+        (self.folder / "text").write_text("no map\n", encoding="ascii")
+        (self.folder / "open.token").write_text("abc\n", encoding="ascii")
+        (self.folder / "open.token").chmod(0o644)
+        self.assert_sentences(
             (["--token", self.folder / "text", "report"], 2, "visible ASCII"),
             (["--token", self.folder / "none", "report"], 2, "there is no token file"),
             (["--config", self.folder / "none", "report"], 2, "no configuration file"),
@@ -232,10 +251,17 @@ class Words(CommandCase):
             (["--url", "ftp://127.0.0.1", "report"], 2, "neither http nor https"),
             (["--url", "station.example", "report"], 2, "write it as https://station.example:8443"),
             (["--url", "http://127.0.0.1:x", "report"], 2, "is no number up to 65535"),
+            (["--token", self.folder / "open.token", "report"], 2, f"chmod 600 {self.folder / 'open.token'}"),
+        )
+
+    def test_files_that_are_wrong_are_sentences(self):
+        self.made()
+        self.taken_over()
+        (self.folder / "notes").write_bytes(b"\xff\xfe\0")
+        (self.folder / "text").write_text("no map\n", encoding="ascii")
+        self.assert_sentences(
             (["map", self.folder / "none"], 2, "no file or command"),
             (["map", self.folder / "none" / "map"], 2, f"there is no folder {self.folder / 'none'}."),
-            (["issued", self.folder / "open.token"], 2, "no line of a journal"),
-            (["--token", self.folder / "open.token", "report"], 2, f"chmod 600 {self.folder / 'open.token'}"),
             (["seal", "--verify", self.folder / "none"], 2, f"there is no folder {self.folder / 'none'}"),
             (["seal", "--verify", "000002.rows", "000001.rows"], 2, "the earlier one first: 000001.rows 000002.rows"),
             ([], 2, "there are run, order, device"),
@@ -246,15 +272,7 @@ class Words(CommandCase):
             (["identity", MAC, "--csr", self.folder / "text"], 2, "spool"),
             (["issued", self.folder / "text"], 2, "no line of a journal"),
             (["issued", self.folder / ".config"], 2, "has no journal"),
-            ([*nobody, "report"], 3, "no reply"),
-            ([*nobody, "number"], 3, "no reply"),
-            ([*page, "report"], 3, "another's reply"),
-        ):
-            found, out, err = self.ran(*words)
-            self.assertEqual((found, told.lower() in err.lower()), (status, True), (words, err))
-            self.assertNotRegex(err, NO_SENTENCE)
-            self.assertNotIn("\x1b", err)
-            self.assertRegex(err, r"^$|^[^\n]+[.]\n$", words)
+        )
 
     def test_the_help_of_each_command(self):
         """It has an example that the command takes, and not the settings, which stand in the help of all."""

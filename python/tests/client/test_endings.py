@@ -78,6 +78,8 @@ class Refusing(Proxy):
 class Endings(BenchCase):
     """How a chip's stay may end, and what is said then."""
 
+    over_office = True
+
     def begun(self, name="left", mac=MAC, text="", **recipe):
         """A bench over an order, with a chip in a socket that is begun."""
         self.order()
@@ -88,6 +90,7 @@ class Endings(BenchCase):
 
     def test_the_facts_that_hooks_have(self):
         """CHIP, ORDER, SERIAL, MAC, MACS and KEY_SHA256; what they print is in the log, and no key is."""
+        self.needs_program()
         self.order(quantity=2, macs=2)
         seen = self.folder / "seen"
         hook = script(self.folder / "hook", f'{FACTS}exec >> {seen}\n{FACTS}')
@@ -112,10 +115,10 @@ class Endings(BenchCase):
 
     def test_hooks_that_fail(self):
         """Each says so; the chip isn't lost, and goes on where it was, with the same serial number."""
+        self.needs_program()
         slow = script(self.folder / "slow", "sleep 100 & sleep 100\n")
         broken = script(self.folder / "broken", "echo 'no \x1b[31mpaper' >&2; exit 3\n")
-        nothing = script(self.folder / "nothing", "exit 0\n")
-        gone = script(self.folder / "gone", "exit 0\n")
+        nothing, gone = (script(self.folder / name, "exit 0\n") for name in ("nothing", "gone"))
         forged = script(self.folder / "forged", 'head -c 99 /dev/urandom > "$FOLDER/identity.csr"\n')
         good = {"before_identity": {"command": [self.csr]}}
         again = "(no \\x1b[31mpaper): put it in once more, and where that fails too, red box."
@@ -153,6 +156,7 @@ class Endings(BenchCase):
 
     def test_what_read_backs_find(self):
         """Each outcome that isn't `match`, of a chip that was burnt otherwise than it was told."""
+        self.needs_program()
         (self.folder / "7.key").write_bytes(bytes(32 * [7]))
         lost = "and the chip is lost"
         cases = [
@@ -235,16 +239,7 @@ class Endings(BenchCase):
     def test_espefuse_that_fails(self):
         """No chip, no command, no chip of the family, a port that went, one that is silent behind its
         burning, and one that is pulled out while it is burnt. The log has what espefuse said, without a key."""
-        tool(self.folder / "silent", "echo 'A fatal error occurred: Failed to connect to ESP32'; exit 2\n")
-        tool(self.folder / "other", "echo 'espefuse v9'\n")
-        gone = tool(self.folder / "gone", "exit 2\n")
-        for name, text, status in (("c3", C3, 2), ("c3_of_5", C3_OF_5, 2), ("went", WENT, 2), ("own", OWN, 2)):
-            tool(self.folder / name, f"cat <<'END'\n{text}END\nexit {status}\n")
-        chip = " ".join(self.socket_of("left"))
-        torn = f"case \"$*\" in *scripts*) cat <<'END' >&2\n{TORN}END\nexit 1;; esac"
-        tool(self.folder / "pulled", f'{torn}\nexec {chip} "$@"\n')
-        late = 'case "$*" in *dump*) [ ! -e burnt ] || { echo "A fatal error occurred: Timed out"; exit 2; };;'
-        tool(self.folder / "breaks", f'{late} *) touch burnt;; esac\nexec {" ".join(self.socket_of("left"))} "$@"\n')
+        self.failing_tools()
         again = "put it in once more, and where that fails too, red box."
         cases = [
             ("./silent", MAC, "no_chip", "(Failed to connect to ESP32): press it in, and begin again."),
@@ -261,21 +256,38 @@ class Endings(BenchCase):
         self.order()
         begun = []
         for command, mac, reason, sentence in cases:
-            bench = self.run_bench(self.recipe(sockets={"left": [command]}))
-            if command == "./gone":
-                os.unlink(gone)
-            self.put("left", mac)
-            bench.said("left")
-            word, found, told = bench.ended("left")
             begun += [mac] if reason in ("no_read", "no_burn") else []
-            self.assertEqual((word, found, [it["chip"] for it in bench.board()["under_way"]]), ("FAIL", reason, begun))
-            self.assertTrue(told.endswith(sentence), told)
-            bench.end()
+            self.assert_fails(command, mac, reason, sentence, begun)
         outputs = {it["result"]: it.get("output", "") for it in self.logged() if "result" in it}
         self.assertIn("BLOCK1 : [a key]\n", outputs["no_burn"])
         self.assertIn("Traceback (most recent call last):", outputs["no_burn"])
         self.assertNotIn("a0a1a2", "".join(outputs.values()).replace(" ", ""))
         self.assertIn("Wrong chip argument?", outputs["no_dump"])
+
+    def failing_tools(self):
+        """Commands of a socket by their names, each of which fails in one way."""
+        tool(self.folder / "silent", "echo 'A fatal error occurred: Failed to connect to ESP32'; exit 2\n")
+        tool(self.folder / "other", "echo 'espefuse v9'\n")
+        tool(self.folder / "gone", "exit 2\n")
+        for name, text, status in (("c3", C3, 2), ("c3_of_5", C3_OF_5, 2), ("went", WENT, 2), ("own", OWN, 2)):
+            tool(self.folder / name, f"cat <<'END'\n{text}END\nexit {status}\n")
+        chip = " ".join(self.socket_of("left"))
+        torn = f"case \"$*\" in *scripts*) cat <<'END' >&2\n{TORN}END\nexit 1;; esac"
+        tool(self.folder / "pulled", f'{torn}\nexec {chip} "$@"\n')
+        late = 'case "$*" in *dump*) [ ! -e burnt ] || { echo "A fatal error occurred: Timed out"; exit 2; };;'
+        tool(self.folder / "breaks", f'{late} *) touch burnt;; esac\nexec {chip} "$@"\n')
+
+    def assert_fails(self, command, mac, reason, sentence, begun):
+        """A chip in a socket of this command fails so, and these chips are begun then."""
+        bench = self.run_bench(self.recipe(sockets={"left": [command]}))
+        if command == "./gone":
+            (self.folder / "gone").unlink()
+        self.put("left", mac)
+        bench.said("left")
+        word, found, told = bench.ended("left")
+        self.assertEqual((word, found, [it["chip"] for it in bench.board()["under_way"]]), ("FAIL", reason, begun))
+        self.assertTrue(told.endswith(sentence), told)
+        bench.end()
 
     def test_chips_of_another_family(self):
         """Each fails and counts once while it is in, also where a chip begins by itself, and three stop the line."""
@@ -324,6 +336,7 @@ class Endings(BenchCase):
 
     def test_what_stops_a_line_at_its_start(self):
         """A certificate that isn't trusted, what isn't the server, another token, and an order that isn't made."""
+        self.needs_program()
         self.order()
         tls = TlsProxy(self.program, self.folder)
         self.addCleanup(tls.close)
@@ -346,6 +359,7 @@ class Endings(BenchCase):
     def test_three_in_a_row(self):
         """The line stops, and says what the three chips have in common; a person has it go on. One that is put in again
         counts once."""
+        self.needs_program()
         broken = script(self.folder / "broken", "exit 3\n")
         self.order()
         bench = self.run_bench(self.recipe(hooks={"before_ship": {"command": [broken]}}))
@@ -374,6 +388,7 @@ class Endings(BenchCase):
 
     def test_a_crash(self):
         """What was begun is shown, and goes on in another socket."""
+        self.needs_program()
         self.order()
         wait = script(self.folder / "wait", f"[ -e {self.folder}/go ] || sleep 100\n")
         recipe = self.recipe(hooks={"before_ship": {"command": [wait]}})
@@ -455,6 +470,7 @@ class Endings(BenchCase):
 
     def test_keys_that_a_command_makes(self):
         """Each chip gets its own, whose file is there before the plan; a chip whose file is gone isn't burnt."""
+        self.needs_program()
         make = script(self.folder / "make-key", 'head -c 32 /dev/urandom > "$KEY_FILE"\n')
         short = script(self.folder / "short", 'head -c 31 /dev/urandom > "$KEY_FILE"\n')
         wish = {"kind": "key", "field": "BLOCK1", "command": [make], "burnt_as": "flash_encryption"}

@@ -172,6 +172,8 @@ class Lines(StationCase):
 class Restore(StationCase):
     """A store is lost behind a backup, and made again by the journal."""
 
+    over_office = True
+
     MACS = [f"240ac400000{place}" for place in range(1, 7)]
     OTHER = {**ORDER, "name": "o2", "prefix": "B", "first": 1}
 
@@ -279,6 +281,8 @@ class Restore(StationCase):
 class Days(StationCase):
     """A folder with a file a day, by a clock that the test sets, and what reads it."""
 
+    over_office = True
+
     def setUp(self):
         super().setUp()
         self.days = self.folder / "journals"
@@ -364,6 +368,8 @@ class Days(StationCase):
 
 class Records(StationCase):
     """Two records of one serial number: a store that was an older one gave it once more."""
+
+    over_office = True
 
     def written(self, name, *requests):
         """A journal of requests, each its path, its members, and its reply where it has one."""

@@ -91,6 +91,8 @@ def cells_of(file):
 class Manifest(StationCase):
     """Devices of two orders in each state: what is listed has a serial number."""
 
+    over_office = True
+
     def setUp(self):
         super().setUp()
         (self.folder / "look").write_text("abc", encoding="ascii")

@@ -13,7 +13,7 @@ import unittest
 
 from simulated_chip import MAP as PATH
 from simulated_chip import WORDS, SimulatedChip, map_fields
-from support import DIGEST, MAP, PROGRAM, SITE
+from support import DIGEST, IS_BUILT, MAP, PROGRAM, SITE
 
 FIELDS = {field["name"]: field for field in map_fields()}
 LOCK_FIELDS = (FIELDS["WR_DIS"], FIELDS["RD_DIS"])
@@ -98,7 +98,11 @@ class Table:
                 self.ask("/v1/readback", {"chip": mac.hex(), "blocks": words(chip)}, match)
 
 
+NEEDS_PROGRAM = unittest.skipUnless(IS_BUILT, f"there is no program {PROGRAM}")
+
+
 class Esp32(unittest.TestCase):
+    @NEEDS_PROGRAM
     def test_the_program_takes_it(self):
         done = subprocess.run([PROGRAM, "check-map", str(PATH)], capture_output=True, text=True)
         self.assertEqual((done.stdout, done.stderr), ("ok esp32 4 54\n", ""))
@@ -112,6 +116,7 @@ class Esp32(unittest.TestCase):
             taken[field["block"]] |= positions(field)
         self.assertEqual(taken[1:], [(1 << 256) - 1] * 3)
 
+    @NEEDS_PROGRAM
     def test_each_wish_is_burnt_in_full(self):
         table = Table()
         for number, wish in enumerate(wishes(), 1):

@@ -52,6 +52,8 @@ def stray(station, held):
 
 
 class Metrics(StationCase):
+    over_office = True
+
     def setUp(self):
         super().setUp()
         self.tokens = self.folder / "tokens"
@@ -117,6 +119,7 @@ class Metrics(StationCase):
 
     def test_a_part_that_is_missing(self):
         """It is absent, a metric says so, a sentence too, and the others are there."""
+        self.needs_program()
         (self.tokens / "bolt.token").write_text("strange", encoding="ascii")
         found, told = self.metrics("--tokens", self.tokens, "--site", SITE, "--db", self.folder / "none.db")
         missing = {'{part="store"}', '{customer="bolt",part="report"}', '{customer="bolt",part="addresses"}'}
@@ -140,6 +143,7 @@ class Metrics(StationCase):
     def test_the_store_and_the_process(self):
         """What a start takes, by the page of the program: the files and 6 MB, or with pages of 4,096 bytes 1.1 times
         these and 11 MB. And what systemd and the kernel say of the process."""
+        self.needs_program()
         pid = self.program.process.pid
         subprocess.run(["prlimit", f"--pid={pid}", "--fsize=123456789:"], check=True)
         environment = self.systemctl(MainPID=pid, NRestarts=3, MemoryMax=50_000_000)
@@ -251,6 +255,8 @@ class Metrics(StationCase):
 
 class Journals(StationCase):
     """What is read of journals, and only once."""
+
+    over_office = True
 
     def setUp(self):
         super().setUp()

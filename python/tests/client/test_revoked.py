@@ -12,6 +12,8 @@ from commanding import NEEDS_KEYS
 
 @NEEDS_KEYS
 class Revoked(CertificateCase):
+    over_office = False
+
     def test_what_is_revoked(self):
         """It is in no list and in no cloud's file, also where it begins later; and a list of another CA is none."""
         self.seat.make_order(**ORDER | {"name": "o3", "prefix": "C"}, not_before="20990101000000Z")

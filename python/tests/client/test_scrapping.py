@@ -23,6 +23,8 @@ ASK_NAME = "Scan or type the name of the chip to be scrapped, its twelve digits,
 class Scrapping(BenchCase):
     """Chips of the red box."""
 
+    over_office = True
+
     def failed(self, **recipe):
         """A bench whose first chip failed, and was taken out."""
         self.order()

@@ -47,6 +47,8 @@ README = HERE.parents[1] / "README.md"
 
 
 class Commands(StationCase):
+    over_office = True
+
     def test_the_life_of_a_chip(self):
         """Each reply is as the API says, over a chip behind the words of espefuse."""
         station = self.station()
@@ -163,7 +165,7 @@ class Commands(StationCase):
             (lambda: station.plan(MAC, [bit("NONE", 0)]), 19, "unknown_field", 422, {}),
             (lambda: station.import_map(overlapping), 29, "bad_map", 422, {"fault": 5}),
             (lambda: station.import_serials("acme-ca", twice), 38, "import_conflict", 409, {"serial": "Z1"}),
-            (station.site_report, 8, "wrong_caller", 403, {}),
+            (lambda: station.report("/v1/site/report"), 8, "wrong_caller", 403, {}),
         ]
         for call, *told in cases:
             with self.assertRaises(Refused) as found:
@@ -252,7 +254,8 @@ class Commands(StationCase):
         counts |= {"quarantined": 0, "scrapped": 0, "serials_left": 1}
         self.assertEqual(station.report(), {"o1": counts})
         nothing = dict.fromkeys(counts, 0)
-        self.assertEqual(manager.site_report(), {"acme": {"orders": 1, **counts}, "bolt": {"orders": 0, **nothing}})
+        found = manager.report("/v1/site/report")
+        self.assertEqual(found, {"acme": {"orders": 1, **counts}, "bolt": {"orders": 0, **nothing}})
 
     def test_not_before(self):
         """A server that knows it shows it and refuses other texts as 42; one that doesn't passes it over."""
@@ -275,6 +278,8 @@ class Commands(StationCase):
 
 class Quarantine(StationCase):
     """How a chip is lost, and how it isn't."""
+
+    over_office = True
 
     def setUp(self):
         super().setUp()

@@ -17,6 +17,8 @@ BOLT = {**ORDER, "issuer": "bolt-ca", "macs": 0}
 class Tokens(StationCase):
     """`old` and `new` are tokens of the seat a1, `other` is one of b1."""
 
+    over_office = True
+
     def setUp(self):
         super().setUp()
         self.proxy_of = self.proxy(kind=TokenProxy)

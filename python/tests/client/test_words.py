@@ -25,6 +25,8 @@ class Terminal(io.StringIO):
 class Words(StationCase):
     """The command line."""
 
+    over_office = True
+
     def ran(self, *words, url=None):
         (self.folder / "a1.token").write_text("abc\n", encoding="ascii")
         common = ["--url", url or self.program.url, "--token", self.folder / "a1.token"]

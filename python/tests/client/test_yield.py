@@ -83,6 +83,8 @@ class Subtracted(unittest.TestCase):
 class Yield(StationCase):
     """The command, over the program where a test says so."""
 
+    over_office = True
+
     def written(self, name, text):
         (self.folder / name).write_text(text, encoding="utf-8")
         return self.folder / name
@@ -135,6 +137,8 @@ class Yield(StationCase):
 
 class Lost(StationCase):
     """The chips that were given up, by the journals of two seats' stations."""
+
+    over_office = True
 
     STRAY, SCRAPPED, OTHER = (f"240ac400000{place}" for place in (1, 2, 3))
 

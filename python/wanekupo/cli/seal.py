@@ -140,6 +140,4 @@ def _told(found: list[str], *more: str, pairs: int = 1) -> int:
     return FOUND if found else DONE if pairs else NOT_COMPARED
 
 
-COMMANDS = [
-    Command("seal", "seal all books, or compare two seals", _add_arguments, _seal, MORE),
-]
+COMMANDS = [Command("seal", "seal all books, or compare two seals", _add_arguments, _seal, MORE)]

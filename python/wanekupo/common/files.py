@@ -249,9 +249,7 @@ def replace_bytes(file: Path, data: bytes, mode: int, is_exact: bool = False) ->
 
 
 @contextlib.contextmanager
-def replaced(
-    file: Path, mode: int, is_exact: bool = False, like: os.stat_result | None = None
-) -> Iterator[IO[bytes]]:
+def replaced(file: Path, mode: int, is_exact: bool = False, like: os.stat_result | None = None) -> Iterator[IO[bytes]]:
     """The same of what is written to the file that this gives: it takes the other one's place once all is written, and
     goes where that fails. What stands in the new one's place goes first, so that it is this call's, with its owner and
     its mode."""

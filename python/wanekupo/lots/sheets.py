@@ -17,9 +17,7 @@ from wanekupo.common.errors import BadSettings
 from wanekupo.common.texts import FORMULA
 
 # A number to each of them, in English or in German, and how one is written that all of them leave as it is.
-NUMBER = re.compile(
-    r"-?(?:[0-9]+\.?[0-9]*|\.[0-9]+)(?:E[+-]?[0-9]+)?-?|-?[0-9]+E[+-]?[0-9]+\.", re.IGNORECASE
-)
+NUMBER = re.compile(r"-?(?:[0-9]+\.?[0-9]*|\.[0-9]+)(?:E[+-]?[0-9]+)?-?|-?[0-9]+E[+-]?[0-9]+\.", re.IGNORECASE)
 KEPT = re.compile(r"-?(?:0|[1-9][0-9]{0,15})(?:\.[0-9]*[1-9])?|-?[1-9](?:\.[0-9]*[1-9])?E-[1-9][0-9]{2}")
 SHORT = re.compile(r"-?[0-9]{1,11}")
 

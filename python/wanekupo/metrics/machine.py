@@ -153,14 +153,9 @@ def requests_since(kept: dict[str, Any], start: str, seen: int) -> int:
 
 
 def add_requests(
-    samples: Samples,
-    kept: dict[str, Any],
-    url: str,
-    context: Optional[ssl.SSLContext],
-    passed: Path,
-    start: str,
+    samples: Samples, kept: dict[str, Any], url: str, context: Optional[ssl.SSLContext], passed: Path, start: str,
     connections: int,
-) -> None:
+) -> None:  # fmt: skip
     counted = requests_since(kept, start, passed_by(passed))
     samples.add("wanekupo_http_requests_total", nginx_requests(url, context))
     samples.add("wanekupo_server_requests_total", counted)

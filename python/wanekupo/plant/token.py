@@ -395,15 +395,9 @@ def write_file(args: argparse.Namespace, tokens: Tokens) -> Outcome:
 
 
 COMMANDS = {
-    "seat": seat,
-    "add": add_outer,
-    "revoke": revoke,
-    "rotate": rotate,
-    "list": show,
-    "inner": inner,
-    "check": check_file,
-    "write": write_file,
-}
+    "seat": seat, "add": add_outer, "revoke": revoke, "rotate": rotate, "list": show, "inner": inner,
+    "check": check_file, "write": write_file,
+}  # fmt: skip
 
 
 def run_token(args: argparse.Namespace) -> None:

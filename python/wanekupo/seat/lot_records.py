@@ -21,18 +21,8 @@ from wanekupo.seat.station import Station
 
 # The columns of a list, in their order.
 COLUMNS = (
-    "serial",
-    "issuer",
-    "chip",
-    "mac",
-    "addresses",
-    "key_sha256",
-    "not_before",
-    "not_after",
-    "state",
-    "map",
-    "order",
-)
+    "serial", "issuer", "chip", "mac", "addresses", "key_sha256", "not_before", "not_after", "state", "map", "order",
+)  # fmt: skip
 
 # How often the list is read where devices get on meanwhile, and how many rows are asked for at a time: two seconds' by
 # nginx's usual shares, so that a list that is cut loses no more.

@@ -91,17 +91,9 @@ def _seconds(given: Any, _: Path) -> float:
 
 
 READERS: dict[str, Callable[[Any, Path], Any]] = {
-    "url": _text,
-    "token": _path,
-    "state": _path,
-    "journal": _path,
-    "ca": _path,
-    "insecure": _truth,
-    "patience": _seconds,
-    "seat": _name,
-    "operator": _text,
-    "spool": _path,
-}
+    "url": _text, "token": _path, "state": _path, "journal": _path, "ca": _path, "insecure": _truth,
+    "patience": _seconds, "seat": _name, "operator": _text, "spool": _path,
+}  # fmt: skip
 
 
 def changed(settings: Settings, table: Mapping[str, Any], folder: Path, where: str) -> Settings:

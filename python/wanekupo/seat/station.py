@@ -23,24 +23,9 @@ from wanekupo.chips.espefuse import Burner
 from wanekupo.chips.families import Blocks
 from wanekupo.common.printing import warn
 from wanekupo.seat.replies import (
-    Device,
-    LastRequest,
-    Entry,
-    Identity,
-    Imported,
-    Listed,
-    Order,
-    Plan,
-    Verdict,
-    accepted,
-    device_of,
-    devices_of,
-    entries_of,
-    identity_of,
-    imported_of,
-    order_of,
-    work_of,
-)
+    Device, LastRequest, Entry, Identity, Imported, Listed, Order, Plan, Verdict, accepted, device_of, devices_of,
+    entries_of, identity_of, imported_of, order_of, work_of,
+)  # fmt: skip
 from wanekupo.seat.import_rows import LONGEST_BODY, Rows, csv_of, import_parts
 from wanekupo.seat.state_file import StateFile, members_of
 
@@ -321,16 +306,9 @@ class Station(Seat):
     """A seat, with a call for each of its requests."""
 
     def make_order(
-        self,
-        name: str,
-        issuer: str,
-        prefix: str,
-        width: int,
-        first: int,
-        quantity: int,
-        macs: int = 0,
+        self, name: str, issuer: str, prefix: str, width: int, first: int, quantity: int, macs: int = 0,
         not_before: Optional[str] = None,
-    ) -> Order:
+    ) -> Order:  # fmt: skip
         """`not_before`, as 20260101000000Z, is for servers that know it: others leave it out of the order."""
         members = {"name": name, "issuer": issuer, "prefix": prefix, "width": width, "first": first}
         start = {} if not_before is None else {"not_before": not_before}
@@ -430,14 +408,10 @@ class Station(Seat):
             behind = following
 
     def report(self, path: str = "/v1/report") -> dict[str, dict[str, int]]:
-        """The counts of each order, by its name."""
+        """The counts of each order, by its name; of the site's report, the manager's alone, those of each customer."""
         rows = csv.reader(io.StringIO(self.get(path)))
         _, *names = next(rows)
         return {name: dict(zip(names, map(int, counts))) for name, *counts in rows}
-
-    def site_report(self) -> dict[str, dict[str, int]]:
-        """The counts of each customer, by its name; the manager's alone."""
-        return self.report("/v1/site/report")
 
     def settle(self, chip: str, chip_io: Burner, tries: int = 3) -> Device:
         """Burns and reads back what a device awaits. It is then settled or quarantined, or still awaits what the chip

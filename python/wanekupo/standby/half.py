@@ -40,17 +40,9 @@ GATHERED = timedelta(hours=2)
 TABLE = Path("/proc/drbd")
 # What DRBD calls the states of a machine that doesn't speak with the other one.
 ALONE = (
-    "StandAlone",
-    "Disconnecting",
-    "Unconnected",
-    "Timeout",
-    "BrokenPipe",
-    "NetworkFailure",
-    "ProtocolError",
-    "TearDown",
-    "WFConnection",
-    "WFReportParams",
-)
+    "StandAlone", "Disconnecting", "Unconnected", "Timeout", "BrokenPipe", "NetworkFailure", "ProtocolError",
+    "TearDown", "WFConnection", "WFReportParams",
+)  # fmt: skip
 
 
 FROZEN = (

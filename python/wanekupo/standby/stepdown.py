@@ -11,15 +11,8 @@ from collections.abc import Sequence
 
 
 from wanekupo.standby.half import (
-    FROZEN,
-    SERVER_SECONDS,
-    Half,
-    StandbyError,
-    done,
-    end_script,
-    read_settings,
-    print_told,
-)
+    FROZEN, SERVER_SECONDS, Half, StandbyError, done, end_script, read_settings, print_told,
+)  # fmt: skip
 
 
 def step_down(is_alone: bool) -> int:

@@ -21,21 +21,9 @@ from datetime import datetime
 
 from wanekupo.standby import living, look, needs, witness
 from wanekupo.standby.half import (
-    FROZEN,
-    SERVER_SECONDS,
-    Half,
-    StandbyError,
-    DrbdState,
-    alone_since,
-    done,
-    end_script,
-    fenced_by_command,
-    forget_alone,
-    give_word,
-    read_settings,
-    take_word,
-    print_told,
-)
+    FROZEN, SERVER_SECONDS, Half, StandbyError, DrbdState, alone_since, done, end_script, fenced_by_command,
+    forget_alone, give_word, read_settings, take_word, print_told,
+)  # fmt: skip
 
 # Why a half with this state isn't fit.
 UNFIT = {
