@@ -5,6 +5,7 @@ import hashlib
 import pytest
 
 from wanekupo.books.bodies import Keys, Shown
+from wanekupo.books.replay import _is_near
 from wanekupo.books.sequence import NotLaid, NotWhole, Requests
 from wanekupo.books.steps import Step
 from wanekupo.books.store_rows import LedgerRow, StoredSeat
@@ -88,7 +89,7 @@ class Books:
 
 
 def line(number, at, path, reply=None, status=200, **asked):
-    reply = reply or {}
+    reply, at = reply or {}, f"2026-11-27T{at}:00Z"
     return Step("j", number, at, f"/v1/{path}", {"nr": number, **asked}, f"{path}{asked}", "", "", at, status, reply)
 
 
@@ -130,6 +131,29 @@ def test_what_a_device_rests_on():
     }
     entries = [entry(1, "a1", "c", "registered"), entry(2, "a1", "c", "identified", "S002")]
     assert in_order(store, journals, entries) == [("a2", 1), ("a2", 2), ("a1", 1), ("a2", 3), ("a1", 2)]
+    told = {(it.seat, it.step.number): it.later for it in Requests("acme", store, journals).in_order(entries)}
+    assert [place for place, later in told.items() if later] == [("a1", 1), ("a1", 2)], "clocks that can't be"
+    assert (told["a1", 1], told["a1", 2]) == (journals["a2"][1][0], journals["a2"][3][0])
+
+
+def test_what_was_asked_again():
+    """A map and rows that are there change nothing; rows of which one isn't do."""
+    csv = ["serial,key_sha256\n", f"S1,{64 * '0'}\n", f"S2,{64 * '1'}\n"]
+    steps = [line(1, "06:00", "map", text="x"), line(2, "06:01", "import", issuer="ca", csv="".join(csv[:2]))]
+    steps += [line(3, "06:02", "map", text="x"), line(4, "06:03", "import", issuer="ca", csv="".join(csv))]
+    steps.append(line(5, "06:04", "import", issuer="ca", csv="".join(csv[:2])))
+    requests = Requests("acme", Books({"a1": 5}), {"a1": lines(*steps)})
+    assert [it.number for it in requests.papers] == [] and len(list(requests.in_order([]))) == 5
+    assert [it.number for it in requests.repeated] == [3, 5]
+
+
+@pytest.mark.parametrize(
+    ("added", "present", "unsure", "is_near"),
+    [(2, 1, 1, True), (1, 2, 1, False), (3, 1, 2, False), (3, 0, 0, True), (True, 2, 3, False), (None, 1, 3, False)],
+)
+def test_counts_of_an_import(added, present, unsure, is_near):
+    """Of three rows the program found none. Another seat imported some of them at the same time."""
+    assert _is_near({"added": 3, "present": 0}, {"added": added, "present": present}, unsure) is is_near
 
 
 def test_what_lacks_a_number_or_has_it_twice():

@@ -44,9 +44,9 @@ HELD_TO = (
     "entry. A line counts at the time at which it was asked, by its station's clock; an entry has the time of its line."
 )
 ALWAYS = (
-    "The proved program answered all accepted lines once more, over an empty store: each reply, and each order, device, "
-    "ledger and record of the store, is held to its own. Over the whole journals: each line as it was written, and no "
-    "number missing."
+    "The proved program answered the accepted lines once more, over an empty store: each reply, and each order, "
+    "device, ledger and record of the store, is held to its own. Over the whole journals: each line as it was "
+    "written, and no number missing."
 )
 NOT_SHOWN = (
     "What a store and all journals of a seat say alike isn't found by this: compare a seal of that time. Nor is a "

@@ -1,5 +1,5 @@
-"""What of a store no reply of the program shows: where it goes on, imports, columns, its file, and what is the site's. A
-hardware address stands there but once."""
+"""What of a store no reply of the program shows: where orders go on, imports, columns, its file, and what the site says.
+A hardware address stands there but once."""
 
 from __future__ import annotations
 

@@ -67,7 +67,7 @@ def _ask_customer(
     finally:
         audit.add(answers.told())
         audit.repeated += answers.repeated
-        audit.replayed[customer] = answers.count
+        audit.replayed |= {customer: answers.count} if answers.count else {}
 
 
 def _entries(store: Books) -> dict[str, list[LedgerRow]]:
