@@ -14,7 +14,7 @@ from wanekupo.books.coherence import faults_of
 from wanekupo.books.given import given_twice
 from wanekupo.books.matches import Matched, Seated, matched, seated, steps_by_chip
 from wanekupo.books.numbers import Span, begun_customers, counts, spans_of
-from wanekupo.books.once import twice
+from wanekupo.books.once import store_faults
 from wanekupo.books.shift import Period
 from wanekupo.books.steps import Book, Step
 from wanekupo.books.store_rows import Books, LedgerRow, StoredChip
@@ -89,14 +89,13 @@ def audit_of(store: Books, books: Iterable[Book], period: Period, now: str, site
     laid.pairs.sort(key=lambda it: it[0])
     audit.found += _journal_faults(journals, store)
     audit.found += _clock_faults(journals, laid.pairs, period, now)
-    audit.found += _out_of_turn(laid.pairs, store)
     window = window_of(laid.pairs, period)
     audit.found += laid.found()
     audit.found += _left_faults(audit, laid, window, spans, lost, begun_customers(spans, store))
     audit.found += _idle_faults(lost, counted, store)
     audit.found += [Found("numbers", it.at, it.customer, it.seat, "", told) for it in spans for told in it.faults]
     audit.found += [Found("journal", at, it.customer, it.seat, "", told) for it in spans for at, told in it.lost]
-    audit.found += [Found(kind, at, customer, "", chip, told) for kind, at, customer, chip, told in twice(store)]
+    audit.found += [Found(kind, at, customer, "", chip, told) for kind, at, customer, chip, told in store_faults(store)]
     audit.found += [Found(*it) for it in given_twice(journals)]
     if site not in ("", store.site):
         told = f"the site's text isn't the given file: its SHA-256 is {store.site} in the store, and {site} of the file"
@@ -268,27 +267,11 @@ def _clock_faults(journals: Iterable[Seated], pairs: list[Timed], period: Period
             yield Found("clock", first.step.at, own.customer, own.seat, first.step.chip, told)
 
 
-def _out_of_turn(pairs: Iterable[Timed], store: Books) -> Iterator[Found]:
-    """Entries of a seat that come in another order than the numbers of their lines."""
-    last: dict[str, Step] = {}
-    for _, step in pairs:
-        before = last.setdefault(step.seat or step.file, step)
-        if (step.turn, step.number) >= (before.turn, before.number):
-            last[step.seat or step.file] = step
-        elif step.is_stored and before.is_stored:
-            customer = store.seats[step.seat].customer if step.seat in store.seats else ""
-            told = f"the entry of {step.place()} was written behind that of {before.place()}, whose number is greater"
-            yield Found("exchanged", step.at, customer, step.seat, step.chip, told)
-
-
 def _contradictions(life: StoredChip) -> Iterator[Found]:
     """What of a chip's device, ledger and records says something else. Its entries were committed in their order."""
     for device in life.devices:
         for told in faults_of(device, [entry.row for entry in life.entries], life.records):
             yield Found("device", "", life.customer, "", life.chip, told)
-    for record in () if life.devices else life.records:
-        told = f"the record of {record['serial']} is of a chip that has no device"
-        yield Found("record", "", life.customer, "", life.chip, told)
     for before, entry in zip(life.entries, life.entries[1:]):
         if entry.id <= before.id:
             told = f"its entry {entry.row['n']} was written before its entry {before.row['n']}"

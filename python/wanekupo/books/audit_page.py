@@ -18,7 +18,6 @@ KINDS = {
     "station's clock was wrong",
     "device": "a device, its ledger and its record contradict each other: somebody wrote to the store by hand",
     "exchanged": "an entry is at another place in its ledger than its line in the journal",
-    "import": "an imported serial number has what an import never has",
     "journal": "a line is none, was changed, answers what isn't asked, has no reply or one of another form, another's "
     "number or an earlier time: get the journal anew",
     "late_copy": "a request that was refused was accepted later: look at what it did",
@@ -32,7 +31,6 @@ KINDS = {
     "order": "an order goes on at another number than its least free one",
     "other_note": "an entry says something else than its line",
     "other_seat": "an entry is under another seat than its line",
-    "record": "a record has no device, or isn't of its issuer's customer",
     "replay": "the program makes something else of the stations' lines than these or the store say",
     "store": "rows that no server opens, or of a customer or a seat that the site doesn't have so, or another site's "
     "text than the given file",
@@ -72,14 +70,11 @@ def held_table(audit: Audit) -> Table:
 
 
 def verdict(audit: Audit) -> str:
-    """What was found. Nothing was, where the program answered all."""
-    found = f"{len(audit.found)} found." if audit.found else "" if audit.unfinished else "Nothing found."
-    return f"{found} {unfinished(audit)}".strip()
-
-
-def unfinished(audit: Audit) -> str:
-    """Why the program didn't answer all lines, in a sentence; nothing where it did."""
-    return f"The audit could not be finished: {'; '.join(audit.unfinished)}." if audit.unfinished else ""
+    """What was found, and why the program didn't answer all lines. Nothing was found where it did."""
+    if not audit.unfinished:
+        return f"{len(audit.found)} found." if audit.found else "Nothing found."
+    told = f"The audit could not be finished: {'; '.join(audit.unfinished)}."
+    return f"{len(audit.found)} found. {told}" if audit.found else told
 
 
 def counted(audit: Audit) -> str:

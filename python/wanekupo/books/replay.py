@@ -25,6 +25,7 @@ from wanekupo.books.sequence import MAP, ORDER, Done, NotLaid, NotWhole, Request
 from wanekupo.books.steps import PATHS, REPLIED, WORKS, Book, Step
 from wanekupo.books.store_rows import Books, LedgerRow
 from wanekupo.common.texts import brief, compact_json
+from wanekupo.seat.forms import NO_END
 
 # How many faults of a customer are told.
 MOST_TOLD = 5
@@ -153,9 +154,10 @@ class Answers:
         """In what a line's reply isn't the program's. What of a step of a device nobody looks at isn't in memory."""
         step, reply = done.step, json.loads(text)
         but = reply.keys() - REPLIED - WORKS if step.event not in ("", "identified") else set[str]()
-        told = list(_differences(reply, step.reply, "journal", but)) if step.is_done() else []
+        where = "journal" if step.answered else "store"  # the store's own, where the line has none
+        told = list(_differences(reply, step.reply, where, but)) if step.is_done() else []
         if told and _is_near(reply, step.reply, self._requests.unsure(done)):
-            told = list(_differences(reply, step.reply, "journal", {*but, *COUNTED}))
+            told = list(_differences(reply, step.reply, where, {*but, *COUNTED}))
         return told
 
     def _clock_fault(self, done: Done, later: Step) -> Found:
@@ -185,23 +187,22 @@ class Answers:
                 own["the map"].add(step.digest_of_text())
             else:
                 own["the imported serial number"] |= {" ".join((*it, key)) for it, key in imported_by(step).items()}
-        stored = self._stored()
+        plain = f"WHERE g.chip IS NULL AND g.mac IS NULL AND s.not_before IS NULL AND g.not_after = '{NO_END}'"
+        stored = {
+            "the order": {name for customer, name in self._store.orders if customer == self._customer},
+            "the map": {it for customer, it, text in self._store.maps if customer == self._customer and it == text},
+            "the imported serial number": self._given(plain),
+        }
         for what, names in own.items():
-            for name in sorted(names - stored[what] - stored["a chip's"]):
+            for name in sorted(names - stored[what] - self._given("WHERE g.chip IS NOT NULL")):
                 yield self._fault(f"{what} {name} isn't in the store as it was asked for")
             for name in sorted(stored[what] - names) if what != "the order" else ():
                 yield self._fault(f"no line asked for {what} {name}, which the store has")
 
-    def _stored(self) -> dict[str, set[str]]:
-        """What the store has of these, and the numbers of chips, each with its issuer and key."""
-        records = [row for customer, row in self._store.records() if customer == self._customer]
-        names = [(row["chip"], f"{row['issuer']} {row['serial']} {row['key_sha256']}") for row in records]
-        return {
-            "the order": {name for customer, name in self._store.orders if customer == self._customer},
-            "the map": {it for customer, it, text in self._store.maps if customer == self._customer and it == text},
-            "the imported serial number": {name for chip, name in names if chip is None},
-            "a chip's": {name for chip, name in names if chip is not None},
-        }
+    def _given(self, where: str) -> set[str]:
+        """The numbers of some records of the store, each with its issuer and its key."""
+        rows = (row for customer, row in self._store.records(where) if customer == self._customer)
+        return {f"{row['issuer']} {row['serial']} {row['key_sha256']}" for row in rows}
 
     def _row_faults(self, entries: list[LedgerRow]) -> Iterator[Found]:
         """In what orders, devices, their ledgers and their records aren't what the program shows."""
@@ -225,7 +226,12 @@ class Answers:
         what = target.replace("?", " of the ").replace("=", " ")
         if status != 200:
             yield self._fault(f"the store has the {what}, and the program has none", chip=chip)
-        for told in _differences(json.loads(text), row, "store", ()) if status == 200 else ():
+            return
+        reply = json.loads(text)
+        for it, own in zip(reply.pop("entries", ()), row.get("entries", ())):
+            for told in _differences(it, own, "store", ()):
+                yield self._fault(f"the entry {own['n']} of the chip {chip}: {told}", chip=chip)
+        for told in _differences(reply, row, "store", ()):
             yield self._fault(f"the {what}: {told}", chip=chip)
 
 

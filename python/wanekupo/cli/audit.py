@@ -8,7 +8,7 @@ from pathlib import Path
 from typing import Iterable, Optional
 
 from wanekupo.books.audit import audit_of
-from wanekupo.books.audit_page import as_html, as_text, found_table, unfinished
+from wanekupo.books.audit_page import as_html, as_text, found_table
 from wanekupo.books.matches import seated
 from wanekupo.books.pages import write
 from wanekupo.books.program import program_named
@@ -22,7 +22,7 @@ from wanekupo.seat.settings import Settings
 from wanekupo.common.errors import BadSettings, NoPeriod
 from wanekupo.seat.journal_lines import add_folders, named_folders
 from wanekupo.common.moments import tested_period, text_of
-from wanekupo.common.printing import Formulas, print_shown, warn
+from wanekupo.common.printing import Formulas, print_shown
 from wanekupo.cli.shift import add_period
 from wanekupo.common.signing import add_signer, digest_of_file, signer_of
 
@@ -104,8 +104,6 @@ def _audit(_: Settings, args: argparse.Namespace) -> int:
     print_shown(behind)
     if not audit.found and not audit.entries and not audit.held_lines:
         raise NoPeriod(*_nothing_of(period, journals))
-    if audit.unfinished:
-        warn(unfinished(audit))
     return FOUND if audit.found else NOT_FINISHED if audit.unfinished else DONE
 
 
