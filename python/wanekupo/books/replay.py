@@ -21,7 +21,7 @@ from wanekupo.books.bodies import Bodies, Keys
 from wanekupo.books.clocks import begin_of, end_of
 from wanekupo.books.matches import seated
 from wanekupo.books.program import Program, Unanswered
-from wanekupo.books.sequence import MAP, ORDER, Done, NotLaid, NotWhole, Requests, imported_by
+from wanekupo.books.sequence import MAP, ORDER, Done, Lines, NotLaid, NotWhole, Requests, imported_by
 from wanekupo.books.steps import PATHS, REPLIED, WORKS, Book, Step
 from wanekupo.books.store_rows import Books, LedgerRow
 from wanekupo.common.texts import brief, compact_json
@@ -35,10 +35,6 @@ LATER, COUNTED = "not_before", ("added", "present", "next")
 
 # What the server answers to a path that it doesn't have.
 UNKNOWN = '{"error":"unknown_path","no":7}'
-
-
-# The lines of each number of each seat.
-Lines = Mapping[str, Mapping[int, list[Step]]]
 
 
 def ask_again(program: Path, books: Iterable[Book], store: Books, audit: Audit) -> None:
@@ -56,7 +52,7 @@ def ask_again(program: Path, books: Iterable[Book], store: Books, audit: Audit) 
 
 
 def _ask_customer(
-    customer: str, entries: list[LedgerRow], store: Books, lines: Lines, running: Program, audit: Audit
+    customer: str, entries: list[LedgerRow], store: Books, lines: Mapping[str, Lines], running: Program, audit: Audit
 ) -> None:
     try:
         answers = Answers(customer, store, Requests(customer, store, lines), running)
@@ -243,9 +239,10 @@ def _is_near(reply: Mapping[str, Any], said: Mapping[str, Any], unsure: int) -> 
     """Whether a reply may count so, where some of its rows may have been there, or a number free."""
     if "present" not in reply:
         return unsure > 0
-    counts = said.get("added"), said.get("present")
-    is_sum = all(type(it) is int for it in counts) and sum(counts) == reply["added"] + reply["present"]
-    return is_sum and abs(counts[1] - reply["present"]) <= unsure
+    added, present = said.get("added"), said.get("present")
+    if type(added) is not int or type(present) is not int:
+        return False
+    return bool(added + present == reply["added"] + reply["present"] and abs(present - reply["present"]) <= unsure)
 
 
 def _differences(reply: Mapping[str, Any], own: Mapping[str, Any], where: str, but: Iterable[str]) -> Iterator[str]:
