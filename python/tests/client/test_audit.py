@@ -114,7 +114,7 @@ class Audits(BooksCase):
 
     def test_addresses_within_a_long_span(self):
         """Of a number with four addresses each other record that has one of them is found, not the next one alone."""
-        with self.station() as station:
+        with self.station(journal=self.journal()) as station:
             station.import_map((ROOT / "python/wanekupo/chips/families/esp32/map.toml").read_text(encoding="utf-8"))
             for name, macs in (("o1", 4), ("o2", 2)):
                 quantity = 4 // macs
@@ -128,10 +128,10 @@ class Audits(BooksCase):
         store = self.folder / "copy" / "books.db"
         for chip, mac in ((OTHER_MAC, "020000000011"), (THIRD_MAC, "020000000013")):
             self.forge(store, f"UPDATE given SET mac = '{mac}' WHERE chip = '{chip}'")
-        (self.folder / "a1.journal").write_text("", encoding="ascii")
         out = self.found(store, self.folder / "a1.journal")
-        twice = re.findall("the address ([0-9a-f]{12}) stands twice", out)
-        self.assertEqual(twice, ["020000000011", "020000000013"], out)
+        for chip, mac, own in ((OTHER_MAC, "11", "14"), (THIRD_MAC, "13", "16")):
+            told = f"the identity of the chip {chip}: mac is 0200000000{mac} in the store, and 0200000000{own} by the p"
+            self.assertIn(told, out)
 
     def test_what_is_held_to_nothing(self):
         """A period without an entry is told, and a seat without a journal is found, also where it has no entry."""

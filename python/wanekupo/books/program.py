@@ -2,6 +2,7 @@
 
 from __future__ import annotations
 
+import contextlib
 import os
 import shutil
 import stat
@@ -62,8 +63,8 @@ class Program:
 
     def __exit__(self, *_: Any) -> None:
         self._limit.cancel()
-        self._child.kill()
-        self._child.wait()
+        with contextlib.suppress(OSError), self._child:  # what was written may be left
+            self._child.kill()
 
     def ask(self, token: str, method: str, target: str, body: bytes = b"") -> tuple[int, str]:
         """The status and the body of the reply to a request."""
