@@ -129,7 +129,7 @@ class Audits(BooksCase):
         for chip, mac in ((OTHER_MAC, "020000000011"), (THIRD_MAC, "020000000013")):
             self.forge(store, f"UPDATE given SET mac = '{mac}' WHERE chip = '{chip}'")
         out = self.found(store, self.folder / "a1.journal")
-        for chip, mac, own in ((OTHER_MAC, "11", "14"), (THIRD_MAC, "13", "16")):
+        for chip, mac, own in ((OTHER_MAC, "11", "20"), (THIRD_MAC, "13", "22")):
             told = f"the identity of the chip {chip}: mac is 0200000000{mac} in the store, and 0200000000{own} by the p"
             self.assertIn(told, out)
 
