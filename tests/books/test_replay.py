@@ -155,14 +155,3 @@ def test_another_program(folder):
     status, text = run("audit", *words, "--program", "/bin/false")
     told = "The audit could not be finished: the program ended with status 1: it said nothing."
     assert (status, told in text, "Nothing found" in text) == (3, True, False), text
-
-
-def test_a_program_that_ends_in_the_middle(folder, program, tmp_path):
-    """What was found up to there is told, and that it isn't all."""
-    change_reply("acme/a1.journal", "order", next="G00003")(folder)
-    dying = tmp_path / "station"
-    dying.write_text(f'#!/bin/sh\n"{program}" "$@" | head -c 4000\n')
-    dying.chmod(0o755)
-    status, text, rows = audited(folder, dying)
-    assert (status, "1 found. The audit could not be finished: the program ended" in text) == (1, True), text
-    assert "next is G00003 in the journal, and G00001 by the program" in rows[0], text

@@ -5,8 +5,11 @@ import hashlib
 import pytest
 
 from wanekupo.books.bodies import Keys, Shown
-from wanekupo.books.replay import _is_near
+from wanekupo.books.audit import Audit
+from wanekupo.books.program import Unanswered
+from wanekupo.books.replay import _ask_customer, _is_near
 from wanekupo.books.sequence import NotLaid, NotWhole, Requests
+from wanekupo.books.shift import Period
 from wanekupo.books.steps import Step
 from wanekupo.books.store_rows import LedgerRow, StoredSeat
 from wanekupo.chips.layout import Layout
@@ -84,7 +87,7 @@ class Books:
     def __init__(self, seats, orders=()):
         self.seats = {name: StoredSeat(name, "acme", last, "", "") for name, last in seats.items()}
         self.site_seats = dict.fromkeys(seats, "acme")
-        self.pools = {"acme": [(0x020000000000, 8)]}
+        self.pools, self.layouts = {"acme": [(0x020000000000, 8)]}, {}
         self.orders = {("acme", it["name"]): it for it in orders}
 
 
@@ -199,3 +202,24 @@ def test_what_is_not_laid(entries, told):
     journals = {"a1": lines(line(1, "06:00", "ship", chip="c"))}
     with pytest.raises(NotLaid, match=told):
         in_order(Books({"a1": 1}), journals, entries)
+
+
+class Dying:
+    """A program that answers one request, and ends."""
+
+    replies = iter([(200, f'{{"map":"{64 * "a"}"}}')])
+
+    def ask(self, *_):
+        for reply in self.replies:
+            return reply
+        raise Unanswered("the program ended")
+
+
+def test_a_program_that_ends_in_the_middle():
+    """What was found up to there stays."""
+    steps = [line(number, "06:00", "map", {"map": 64 * "b"}, text=str(number)) for number in (1, 2)]
+    audit = Audit(Period("2026-11-27T00:00:00Z", "2026-11-28T00:00:00Z"))
+    with pytest.raises(Unanswered):
+        _ask_customer("acme", [], Books({"a1": 2}), {"a1": lines(*steps)}, Dying(), audit)
+    told = f"map is {64 * 'b'} in the journal, and {64 * 'a'} by the program (line 1 of j)"
+    assert ([it.told for it in audit.found], audit.replayed) == ([told], {"acme": 1})
