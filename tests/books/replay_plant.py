@@ -145,6 +145,33 @@ def change_reply(name, path, **members):
     return change
 
 
+def change_line(name, path, is_lost=False, **asked):
+    """Has the first request to a path of a journal ask for something else. Its reply may be lost, too."""
+
+    def change(folder):
+        lines = [json.loads(it) for it in (folder / name).read_text().splitlines()]
+        place = next(place for place, it in enumerate(lines) if it.get("path") == f"/v1/{path}")
+        lines[place]["asked"].update(asked)
+        lines[place]["digest"] = request_digest(f"/v1/{path}", lines[place]["asked"])
+        if is_lost:
+            own = {it: lines[place][it] for it in ("at", "seat")}
+            lines[place + 1] = {**own, "resynchronized": lines[place]["asked"]["nr"] + 1}
+        write_lines(folder / name, lines)
+
+    return change
+
+
+def change_order(**members):
+    """Has the first order be another one, in the store, in its line and in its reply."""
+    set_to = ", ".join(f"{name} = '{it}'" for name, it in members.items())
+    changes = [
+        change_line("acme/a1.journal", "order", **members),
+        change_reply("acme/a1.journal", "order", **members),
+        change_store(f"UPDATE orders SET {set_to} WHERE customer = 'acme' AND name = 'gate-40'"),
+    ]
+    return lambda folder: [it(folder) for it in changes]
+
+
 def move_addresses(folder):
     """Lays the addresses of gate-42 in front of those of gate-40 and gate-41, in the store and in all lines: there was
     room, too."""

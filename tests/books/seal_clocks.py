@@ -102,14 +102,14 @@ CLOCKS = [
             f"reply = '{json.dumps(ADDED_ONE)}' WHERE name = 'a1'",
         ),
         _import_more,
-        audit=("record", "acme", "1 of its records and orders are of the issuer bolt-ca, which is bolt's by the site"),
+        audit=("replay", "acme", "the program refuses it as 37 foreign_issuer (line 73 of"),
     ),
     Forged(  # both: who has that key passes as the chip
         "a record's key whose reply was lost",
         (f"UPDATE given SET key = zeroblob(32) WHERE chip = '{ONE}' AND customer = 'acme'",),
         _unanswered,
         seal=("The record of G00001 of acme-ca of acme: key_sha256 was ",),
-        audit=("device", ONE, "the key of its record isn't the one that the journal has"),
+        audit=("replay", f"the identity of the chip {ONE}: key_sha256 is 0000"),
     ),
     Forged(  # store: a bit that was never burnt, and so no station would miss
         "burnt bits, in the ledger too",
@@ -118,12 +118,12 @@ CLOCKS = [
             f"UPDATE ledger SET bits = X'{48 * '0'}60' WHERE {OF_ONE} AND n = 3",
         ),
         seal=(f"The entry 3 of {ONE} of acme: bits was 0.6:00000040, and is 0.6:00000060",),
-        audit=("device", ONE, "the entry 3, read match: its outcome is match in the store, and lost by its blocks"),
+        audit=("replay", ONE, "its block 0 shows something else than its ledger comes to (line "),
     ),
     Forged(  # journal: what was burnt was nobody's wish
         "a plan that wished for nothing",
         journal=_wish_nothing,
-        audit=("device", ONE, "the entry 2, planned: its lines leave it settled, and its reply says awaiting1"),
+        audit=("replay", ONE, "state is awaiting1 in the journal, and settled by the program (line "),
     ),
     Forged(  # store, and another customer's journal
         "an entry added, and an early line of 2098",
@@ -172,7 +172,7 @@ CLOCKS = [
             "WHERE customer = 'bolt'",
             "INSERT INTO order_start VALUES ('bolt', 'gate-99', NULL)",
         ),
-        audit=("order", "bolt", "no line asked for the order gate-99 as it is"),
+        audit=("replay", "bolt", "the store has the order of the name gate-99, and the program has none"),
     ),
     Forged(  # store
         "a map added",
@@ -180,7 +180,7 @@ CLOCKS = [
             f"INSERT INTO map SELECT max(id) + 1, '{MORE_MAP.replace(chr(39), 2 * chr(39))}', {MORE_DIGEST} FROM map",
             f"INSERT INTO link SELECT 'bolt', {MORE_DIGEST}, max(id) FROM map",
         ),
-        audit=("map", "bolt", "no line imported the map"),
+        audit=("replay", "bolt", "no line asked for the map "),
     ),
     Forged(  # store
         "an imported number added",
@@ -189,7 +189,7 @@ CLOCKS = [
             "WHERE serial = 'OLD-1'",
             "INSERT INTO given_start VALUES ('acme-ca', 'OLD-3', NULL)",
         ),
-        audit=("import", "no line imported the serial number OLD-3 of acme-ca with its key"),
+        audit=("replay", "no line asked for the imported serial number acme-ca OLD-3 0000"),
     ),
     Forged(  # store: three numbers that acme never gets
         "an order that goes on behind free numbers",
@@ -206,18 +206,18 @@ CLOCKS = [
         "an address of an imported number",
         ("UPDATE given SET mac = '02000100000a' WHERE serial = 'OLD-1'",),
         seal=("The record of OLD-1 of acme-ca of acme: has the address 02000100000a, and is of no chip",),
-        audit=("import", "the imported serial number OLD-1 of acme-ca has the mac 02000100000a"),
+        audit=("replay", "the imported serial number acme-ca OLD-1 6b86b273"),
     ),
     Forged(  # store
         "an end of an imported number",
         ("UPDATE given SET not_after = '20270101000000Z' WHERE serial = 'OLD-1'",),
         seal=("The imported serial number OLD-1 of acme-ca of acme: not_after was 99991231235959Z",),
-        audit=("import", "the imported serial number OLD-1 of acme-ca has the not_after 20270101000000Z"),
+        audit=("replay", "the imported serial number acme-ca OLD-1 6b86b273"),
     ),
     Forged(  # journal
         "an import with fewer rows",
         journal=_fewer_rows,
-        audit=("import", "no line imported the serial number OLD-2", "1 rows were imported for acme-ca, and the reply"),
+        audit=("no line asked for the imported serial number acme-ca OLD-2", "added is 2 in the journal, and 1 by the"),
     ),
     Forged(  # store
         "a reason of a shipped chip",
@@ -235,13 +235,13 @@ CLOCKS = [
         "more devices than an order may have",
         ("UPDATE device SET ord = 'gate-40' WHERE customer = 'acme' AND ord = 'gate-41'",),
         seal=("order was gate-41, and is gate-40",),
-        audit=("order", "the order gate-40 has 9 devices that weren't given up, and its quantity is 8"),
+        audit=("replay", "order is gate-40 in the store, and gate-41 by the program"),
     ),
     Forged(  # store: the chip is to go on with its locks never burnt
         "a batch that was never burnt",
         (f"UPDATE device SET state = 'settled', todo = zeroblob(0) WHERE {OF_WAITING}",),
         seal=(f"The device {WAITING} of acme: changed without a new entry in its ledger (pending, state)",),
-        audit=("device", WAITING, "is settled, and the last entry of its ledger match, which left it awaiting2"),
+        audit=("replay", f"the device of the chip {WAITING}: state is settled in the store, and awaiting2 by"),
     ),
     Forged(  # journal
         "a cut journal whose last line says it was later",

@@ -86,10 +86,16 @@ def environment():
     return {**os.environ, "HOME": "/nonexistent"}
 
 
+def words_of(words):
+    """The words of a command; an audit has the tests' program answer, where it names no other one."""
+    is_bare = words[0] == "audit" and "--program" not in words
+    return [*map(str, words), *(["--program", os.environ["STATION_PROGRAM"]] if is_bare else [])]
+
+
 def run(*words, program=command("wanekupo"), folder=None):
     """The status of the command, run in a folder, and what it printed on both outputs."""
     made = {"env": environment(), "capture_output": True, "text": True, "timeout": SECONDS, "cwd": folder}
-    done = subprocess.run([*program, *map(str, words)], **made)
+    done = subprocess.run([*program, *words_of(words)], **made)
     return done.returncode, done.stdout + done.stderr
 
 
@@ -97,7 +103,7 @@ def measured(*words):
     """The same with the seconds and the megabytes of memory that it took."""
     begun = time.monotonic()
     with tempfile.TemporaryFile("w+") as out:
-        words = [*command("wanekupo"), *map(str, words)]
+        words = [*command("wanekupo"), *words_of(words)]
         process = subprocess.Popen(words, env=environment(), stdout=out, stderr=subprocess.STDOUT)
         _, status, used = os.wait4(process.pid, 0)
         process.returncode = os.waitstatus_to_exitcode(status)

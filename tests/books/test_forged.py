@@ -39,7 +39,9 @@ def test_journals_of_half_of_the_period(folder, tmp_path):
             lines = [it for it in file.read_text().splitlines() if json.loads(it)["at"] >= "2026-11-27T06:30"]
             (tmp_path / name / file.name).write_text("".join(f"{it}\n" for it in lines))
     status, text = run("audit", folder / "copy/books.db", tmp_path / "acme", tmp_path / "bolt", *later)
-    assert (status, "lie before the first line" in text) == (0, True), text
+    assert (status, "lie before the first line" in text, "Nothing found" in text) == (3, True, False), text
+    told = "The audit could not be finished: acme isn't replayed, as these journals lack the number 1 of a1; bolt isn't"
+    assert told in text, text
 
 
 def test_a_seat_without_a_journal(folder):

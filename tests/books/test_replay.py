@@ -7,15 +7,18 @@ import shutil
 
 import pytest
 
-from books.replay_plant import change_reply, change_store, morning, move_addresses, write_lines
+from books.replay_plant import change_line, change_order, change_reply, change_store, morning, move_addresses
+from books.replay_plant import write_lines
 from books.seal_places import run
-from books.seal_plant import chip_of
+from books.seal_plant import WISHES, chip_of, shown
 from wanekupo.seat.journal import request_digest
 
 ALWAYS = ["--from", "2000-01-01", "--to", "2099-01-01"]
 KEPT = '{"batch1":{"bits":[],"keys":{}},"batch2":{"bits":[],"keys":{}},"state":"settled"}'
 GATE_41 = "customer = 'acme' AND name = 'gate-41'"
 GHOST = f"INSERT INTO orders SELECT customer, 'ghost', issuer, 'Z', 5, 1, 9, 0, NULL, 1 FROM orders WHERE {GATE_41}"
+OF_SEVEN = f"customer = 'acme' AND chip = '{chip_of(7)}'"
+MORE_BITS = b"".join(int(word, 16).to_bytes(4, "little") for word in shown(chip_of(7), 197)[0]).hex()
 OF_FOUR = f"customer = 'acme' AND chip = '{chip_of(4)}'"
 FORGED = {
     "the kept reply of a plan": (
@@ -57,6 +60,26 @@ FORGED = {
         ),
         "reason is stray in the store, and key by the program",
     ),
+    "bits that a registration didn't show": (
+        change_store(
+            f"UPDATE device SET bits = X'{MORE_BITS}' WHERE {OF_SEVEN}",
+            f"UPDATE ledger SET bits = X'{MORE_BITS}' WHERE {OF_SEVEN} AND n = 1",
+        ),
+        "its block 0 shows something else than its ledger comes to",
+    ),
+    "another wish, whose reply was lost": (
+        change_line("acme/a1.journal", "plan", is_lost=True, wishes=WISHES[:1]),
+        "outcome is match in the journal, and key by the program",
+    ),
+    "a wish for no field": (
+        change_line("acme/a1.journal", "plan", wishes=[{**WISHES[0], "field": "NONE"}]),
+        "the program refuses it as 19 unknown_field",
+    ),
+    "a prefix that none has": (change_order(prefix="g"), "the program refuses it as 30 bad_serial"),
+    "a number with more digits": (change_order(first=99_999), "the program refuses it as 31 number_too_wide"),
+    "a quantity that none has": (change_order(quantity=10_001), "the program refuses it as 40 limit"),
+    "an order without a place": (change_order(quantity=1), "the program refuses it as 18 quantity_reached"),
+    "numbers of another order": (change_order(prefix="K"), "the program refuses it as 34 range_overlap"),
     "a scrap that is gone": (
         change_store(
             f"DELETE FROM ledger WHERE chip = '{chip_of(3)}' AND event = 'scrapped'",
@@ -106,8 +129,8 @@ def test_journals_that_begin_later(folder, program):
     file = folder / "bolt/b1.journal"
     write_lines(file, [json.loads(it) for it in file.read_text().splitlines()[2:]])
     status, text, rows = audited(folder, program)
-    assert (status, rows) == (0, []), text
-    assert "lines of acme once more. Not replayed: bolt (these journals lack the number 1 of b1)." in text
+    assert (status, rows, "lines of acme once more." in text, "Nothing found" in text) == (3, [], True, False), text
+    assert "could not be finished: bolt isn't replayed, as these journals lack the number 1 of b1." in text, text
 
 
 def test_an_older_file_turns_nothing_off(folder, program):
@@ -118,7 +141,7 @@ def test_an_older_file_turns_nothing_off(folder, program):
     write_lines(folder / "acme/a1-2020-01-01.journal", [line, reply])
     words = [folder / "books.db", folder / "acme", folder / "bolt", "--from", "2026-01-01", "--to", "2099-01-01"]
     status, text = run("audit", *words, "--program", program)
-    assert (status, "Not replayed" in text, "lines of acme, bolt once more." in text) == (0, False, True), text
+    assert (status, "isn't replayed" in text, "lines of acme, bolt once more." in text) == (0, False, True), text
 
 
 def test_no_program(folder):
@@ -127,5 +150,8 @@ def test_no_program(folder):
 
 
 def test_another_program(folder):
-    status, text = run("audit", folder / "books.db", folder / "acme", *ALWAYS, "--program", "/bin/false")
-    assert (status, "The program ended with status 1" in text) == (2, True), text
+    """What it finds without one is told, and is nothing here."""
+    words = [folder / "books.db", folder / "acme", folder / "bolt", *ALWAYS]
+    status, text = run("audit", *words, "--program", "/bin/false")
+    told = "The audit could not be finished: the program ended with status 1: it said nothing."
+    assert (status, told in text, "Nothing found" in text) == (3, True, False), text

@@ -9,7 +9,7 @@ import csv
 import json
 import sqlite3
 
-from support import DIGEST, MAP, ORDER, StationCase, life
+from support import DIGEST, MAP, ORDER, PROGRAM, StationCase, life
 from commanding import ran
 
 from wanekupo.seat.journal import request_digest
@@ -17,6 +17,11 @@ from wanekupo.seat.journal import request_digest
 DAY = "2026-11-27T"
 PERIOD = ["--from", DAY + "06:00Z", "--to", DAY + "14:00Z"]
 ALWAYS = ["--from", "2000-01-01", "--to", "2099-01-01"]
+
+
+def audited(*words):
+    """An audit that has the tests' program answer: its status, its output and what it told on standard error."""
+    return ran("audit", "--program", PROGRAM, *words)
 
 
 def lines_of(seat, *steps, operator="mara"):

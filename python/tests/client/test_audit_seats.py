@@ -21,22 +21,22 @@ from books_case import DAY
 from commanding import ran
 
 from wanekupo.books import steps
-from wanekupo.books.audit import Audit, Left, Unheld, _idle_faults, _journal_faults
-from wanekupo.books.audit_page import counted
+from wanekupo.books.audit import Audit, Found, Left, Unheld, _idle_faults, _journal_faults
+from wanekupo.books.audit_page import verdict
 from wanekupo.books.chain import BadChain, Chain, sealed
 from wanekupo.books.clocks import clock_contradictions
 from wanekupo.books.given import given_twice
-from wanekupo.books.matches import Seated, seated, steps_by_chip
+from wanekupo.books.matches import Seated, matched, seated, steps_by_chip
 from wanekupo.books.numbers import Span, counts, spans_of
-from wanekupo.books.papers import unasked
 from wanekupo.books.shift import Period
 from wanekupo.books.stamp import verified
 from wanekupo.books.steps import book_of
-from wanekupo.books.store_rows import StoredSeat
+from wanekupo.books.store_rows import LedgerRow, StoredSeat
 from wanekupo.common.texts import compact_json
 from wanekupo.seat.journal import request_digest
 
 PERIOD = Period(f"{DAY}06:00:00Z", f"{DAY}14:00:00Z")
+SHIPPED = {"n": 1, "event": "shipped", "note": "", "seat": "a1", "bits": [], "keys": {}}
 
 
 def asked(at, number, chip, path="/v1/ship", **more):
@@ -205,6 +205,20 @@ class Turns(SeatCase):
                 shutil.rmtree(self.folder / "pc7")
                 (self.folder / "pc7").mkdir()
 
+    def test_whose_a_folder_is(self):
+        """A line counts in its seat's own folder alone; one without a name is the folder's only seat's."""
+        for name in ("pc1", "pc2"):
+            (self.folder / name).mkdir()
+        self.book(row(1, 2, "07"), "pc1/a1")
+        strange = [{**it, "seat": "b1"} for it in row(3, 4, "08")]
+        self.book([*strange, *row(5, 5, "09")], "pc1/x")
+        self.book([{name: it for name, it in line.items() if name != "seat"} for line in row(1, 1, "07")], "pc2/x")
+        folders = {"pc1": frozenset(("a1", "a2")), "pc2": frozenset(("b1",))}
+        books = list(steps.shipped_books(self.folder, folders))
+        self.assertEqual([(it.seat, len(it.steps)) for it in books], [("a1", 2), ("a1", 1), ("b1", 1)])
+        faults = [(it.line, it.told) for book in books for it in book.faults]
+        self.assertEqual(faults, [(1, "is of the seat b1, and its folder is of a1, a2")])
+
     def test_order(self):
         """A chip's lines come by their numbers, whatever the journals' order and the clock."""
         one, two = done("07:00:00", 1, "c"), done("07:10:00", 2, "c", "/v1/plan")
@@ -229,24 +243,15 @@ class Turns(SeatCase):
                 self.assertEqual((words in " ".join(found), bool(found)), (True, bool(words)), found)
                 self.assertEqual([it.number for it in journals[0].book.steps], left)
 
-    def test_an_order_of_a_dropped_request(self):
-        """Its line holds no order of the store, as another request got its number."""
-        dropped = asked("07:01:00", 1, "", "/v1/order", name="o9")
-        for behind, meant in (([], 0), ([goes_on("07:02:00", 1), *row(1, 1, "08")], 1)):
-            store = self.store(1, "c1")
-            _, journals = self.spans([[dropped, *behind]], store)
-            store.orders, store.maps = {("acme", "o9"): {"name": "o9"}}, []
-            self.assertEqual(len(list(unasked(journals, store, {"acme"}, set()))), meant)
-
-    def test_a_line_beside_one_that_has_an_entry(self):
-        """Of two lines of a number without a reply one was done: a ledger's entry says which."""
-        order = asked("07:01:00", 1, "", "/v1/order", name="o9")
-        store = self.store(2, "c2")
-        lines = [order, goes_on("07:02:00", 1), asked("07:03:00", 1, "c1"), goes_on("07:04:00", 2)]
-        _, (journal,) = self.spans([[*lines, *done("07:05:00", 2, "c2")]], store)
-        store.orders, store.maps = {("acme", "o9"): {"name": "o9", "not_before": None}}, []
-        for laid, meant in ((set(), 0), ({id(journal.book.steps[1])}, 1)):
-            self.assertEqual(len(list(unasked([journal], store, {"acme"}, laid))), meant)
+    def test_one_of_two_without_a_reply(self):
+        """Of two with a number, of which the replies were lost, one was done: nobody can tell which, and neither is
+        missed. One alone is."""
+        for others, meant in (([], [2]), ([asked("07:02:10", 2, "c9"), goes_on("07:02:20", 2)], [])):
+            book = [*row(1, 1, "07"), *others, asked("07:02:30", 2, "c2"), goes_on("07:03:00", 3), *row(3, 3, "07")]
+            _, journals = self.spans([book], self.store(3, "c3"))
+            told = steps_by_chip(journals)["acme", "c2"]
+            self.assertEqual([it.number for _, it in matched((), told).steps], meant)
+            self.assertEqual(matched([LedgerRow(1, "acme", "c2", SHIPPED)], told).entries, [])
 
     def test_a_request_with_two_replies(self):
         """A copy of a request gets the reply that the server keeps; a line with another one was changed."""
@@ -328,7 +333,8 @@ class Journals(SeatCase):
                                     (("a1",), row(1, 1, "07"), ["no_seat"])):
             store = SimpleNamespace(seats={}, site_seats=frozenset(sites))
             own = Seated(self.book(lines), "a1", "", "")
-            self.assertEqual([it.kind for it in _journal_faults([own], store)], meant)
+            kinds = [it.kind for it in _journal_faults([own], store)]
+            self.assertEqual([it for it in kinds if it == "no_seat"], meant)
 
     def test_entries_from_before_a_journal(self):
         """Each seat's own first line counts, and as many entries as it had numbers; those of number 1 have none."""
@@ -399,9 +405,17 @@ class Journals(SeatCase):
                 told = [it[5] for it in given_twice(journals)]
                 self.assertEqual((len(told), all(it in own for it, own in zip(meant, told))), (len(meant), True), told)
 
-    def test_what_is_held_to_no_line(self):
-        self.assertIn("imports of acme, bolt are held to no line", counted(Audit(PERIOD, parts=["acme", "bolt"])))
-        self.assertNotIn("held to no", counted(Audit(PERIOD)))
+    def test_what_is_told_of_an_audit_that_ended(self):
+        """Nothing was found where the program answered all, and nowhere else."""
+        lacks = "acme isn't replayed, as these journals lack the number 1 of a1"
+        one = Found("store", "", "", "", "", "a row")
+        for found, why, meant in (
+            ([], [], "Nothing found."), ([one], [], "1 found."),
+            ([], [lacks], f"The audit could not be finished: {lacks}."),
+            ([one], [lacks, "the program ended"], f"1 found. The audit could not be finished: {lacks}; the program "
+                                                  "ended."),
+        ):
+            self.assertEqual(verdict(Audit(PERIOD, found, unfinished=why)), meant)
 
 
 class Seals(unittest.TestCase):

@@ -18,7 +18,7 @@ import unittest
 from unittest import mock
 
 from support import MAC, PROGRAM, ROOT, SITE
-from books_case import ALWAYS, DAY, PERIOD, BooksCase, device, lines_of, read, step
+from books_case import ALWAYS, DAY, PERIOD, BooksCase, audited, device, lines_of, read, step
 from commanding import ran
 
 from wanekupo.books.yields import LOOKS, SENTENCE
@@ -231,7 +231,7 @@ class Books(BooksCase):
     def test_an_audit(self):
         """A life and its journal agree; a forged note, a cut journal and a changed line are each found and named."""
         store, journal = self.lived(), self.folder / "a1.journal"
-        status, out, _ = ran("audit", store, journal, *ALWAYS)
+        status, out, _ = audited(store, journal, *ALWAYS)
         self.assertEqual((status, "6 entries of the period" in out), (0, True))
         self.assertIn("by its last request", out)
         whole = journal.read_bytes()
@@ -243,11 +243,11 @@ class Books(BooksCase):
             (whole.replace(b'"prefix":"A"', b'"prefix":"B"', 1), ("journal", "line 1 of", "was changed")),
         ):
             journal.write_bytes(data)
-            status, out, _ = ran("audit", store, journal, *ALWAYS)
+            status, out, _ = audited(store, journal, *ALWAYS)
             self.assertEqual((status, [it for it in words if it not in out]), (1, []))
         journal.write_bytes(whole)
         self.forge(store, "UPDATE ledger SET seat = 'b1' WHERE n = 6")
-        status, out, _ = ran("audit", store, journal, *ALWAYS)
+        status, out, _ = audited(store, journal, *ALWAYS)
         self.assertEqual((status, "the seat is b1 in the store, and the line is of a1" in out), (1, True))
 
     def test_what_is_no_store(self):
@@ -264,7 +264,7 @@ class Books(BooksCase):
             (ROOT / "bench" / "schema1.db", "is no store of schema 3: it has schema 1"),
             (self.program.db, "A program has"),
         ):
-            status, out, told = ran("audit", store, self.folder / "a1.journal", *PERIOD)
+            status, out, told = audited(store, self.folder / "a1.journal", *PERIOD)
             self.assertEqual((status, out, words in told, len(told.splitlines())), (2, "", True, 1), told)
 
     def test_one_definition(self):

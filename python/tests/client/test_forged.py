@@ -14,18 +14,12 @@ import re
 import shutil
 import sqlite3
 import unittest
-from types import SimpleNamespace
 
-from books_case import ALWAYS, BooksCase
-from commanding import ran
+from books_case import ALWAYS, BooksCase, audited
 from support import DIGEST, MAC, MAP, PUBLIC_KEY, ROOT, SITE, WISHES, bit, rows
 
-from wanekupo.books.lawful import plan_refusal, registration_refusal
-from wanekupo.books.ranges import Drawn, drawn_faults, order_faults
 from wanekupo.books.schema import CREATED, excluded, others_of, plain, statements
-from wanekupo.chips.chip import value
 from wanekupo.seat.journal import request_digest, whole_digest
-from wanekupo.chips.layout import Layout
 
 TWO, THREE, FOUR = "240ac4000002", "240ac4000003", "240ac4000004"
 MORE_SEATS = """[[customer.seat]]
@@ -183,7 +177,7 @@ class Forged(BooksCase):
                 self.assertNotEqual(base.execute(statement).rowcount, 0, statement)
             base.commit()
         behind(folder)
-        return ran("audit", folder / "books.db", folder, *ALWAYS, *more)
+        return audited(folder / "books.db", folder, *ALWAYS, *more)
 
     def test_honest(self):
         """Members that the server passes over mean nothing, however they change, and whichever digest a log has."""
@@ -216,13 +210,13 @@ class Forged(BooksCase):
         ones are an import of Z2 and Z3, a plan of TWO, and a registration."""
         wide = ' { "batch1"'
         for seat, old, new, words in (
-            ("a1", '"added":1,"present":1', '"added":2,"present":0', "1 of its rows were there, and its reply has 0"),
-            ("a2", '"mask":"00000040"', '"mask":"00000060"', "the batches of its reply aren't what its wishes come to"),
-            ("a2", '"awaiting1"', '"settled"', "its lines leave it awaiting1, and its reply says settled"),
+            ("a1", '"added":1,"present":1', '"added":2,"present":0', "added is 2 in the store, and 1 by the program"),
+            ("a2", '"mask":"00000040"', '"mask":"00000060"', "batch1 is {"),
+            ("a2", '"awaiting1"', '"settled"', "state is settled in the store, and awaiting1"),
             ("a2", '{"batch1"', wide, "number 3 isn't as a server writes it"),
             ("a2", '{"batch1"', '{"state":"settled","batch1"', "number 3 isn't as a server writes it"),
             ("a2", ',"state":"awaiting1"', "", "number 3 isn't as a server writes it: state"),
-            ("b1", '"mask":"00008000"', '"mask":"00008001"', "its reply shows other bits or keys than its ledger has"),
+            ("b1", '"mask":"00008000"', '"mask":"00008001"', "bits is ["),
             ("b1", '"reason":null', '"reason":"stray"', "number 4 isn't as a server writes it: reason"),
         ):
             with self.subTest(words):
@@ -267,12 +261,12 @@ class Forged(BooksCase):
         work = {"bits": [{"block": 0, "word": 6, "mask": "00000020"}], "keys": {}}
         elsewhere = ("UPDATE orders SET mac = '{0}' WHERE mac IS NOT NULL", "UPDATE given SET mac = '{0}' WHERE chip")
         cases = (
-            ("an order twice", (), "a1", instead(of("/v1/map"), 1, "/v1/order", order, made), "o1 was made twice"),
-            ("a plan that is refused", (), "a1", changed(of("/v1/plan"), wishes=WISHES + stranger), "refuses as 23"),
-            ("another batch", (), "a1", changed(of("/v1/plan"), reply={"batch1": work}), "the batches of its"),
-            ("another rest", (), "a1", changed(of("/v1/readback"), reply={"rest": work}), "the rest of its reply"),
-            ("other bits in a reply", (), "a2", changed(of("/v1/device"), reply=work), "its reply shows other"),
-            ("another order asked", (), "a1", changed(of("/v1/order"), prefix="X"), "prefix is A in the store, and"),
+            ("an order twice", (), "a1", instead(of("/v1/map"), 1, "/v1/order", order, made), "refuses it as 16"),
+            ("a plan that is refused", (), "a1", changed(of("/v1/plan"), wishes=WISHES + stranger), "refuses it as 23"),
+            ("another batch", (), "a1", changed(of("/v1/plan"), reply={"batch1": work}), "batch1 is {"),
+            ("another rest", (), "a1", changed(of("/v1/readback"), reply={"rest": work}), "rest is {"),
+            ("other bits in a reply", (), "a2", changed(of("/v1/device"), reply=work), "bits is ["),
+            ("another order asked", (), "a1", changed(of("/v1/order"), prefix="X"), "prefix is A in the journal,"),
             ("a beginning asked", (), "a1", changed(of("/v1/order"), not_before="20260101000000Z"), "not_before is"),
             ("a number behind a free one", ("UPDATE given SET chip = NULL, mac = NULL WHERE serial = 'A998'",
              "UPDATE ledger SET note = 'A999' WHERE note = 'A998'", "UPDATE device SET serial = 'A999' WHERE serial = "
@@ -280,36 +274,36 @@ class Forged(BooksCase):
              " not_after FROM given WHERE serial = 'A998'" % MAC,
              "INSERT INTO given_start VALUES ('acme-ca', 'A999', NULL)"),
              "a1", both(changed(of("/v1/identity"), reply={"serial": "A999", "mac": "020000000011"}), later_import),
-             "the order o1 gave A999 when A998 was free"),
-            ("a map's digest", (), "a1", changed(of("/v1/map"), reply={"map": 64 * "0"}), "its reply says 00000000"),
+             "serial is A999 in the journal, and A998 by the program"),
+            ("a map's digest", (), "a1", changed(of("/v1/map"), reply={"map": 64 * "0"}), "map is 00000000"),
             ("a next number behind a free one", (), "a1", changed(of("/v1/order", name="o2"), reply={"next": "B002"}),
-             "its reply has the next number B002, and B001 was free"),
+             "next is B002 in the journal, and B001 by the program"),
             ("a next number that was given", (), "a1", changed(of("/v1/order", name="o3"), reply={"next": "Z1"}),
-             "its reply has the next number Z1, and Z1 was given"),
+             "next is Z1 in the journal, and Z3 by the program"),
             ("a next number that was given later", (), "a1", changed(of("/v1/order", name="o3"), reply={"next": "Z4"}),
-             "its reply has the next number Z4, and Z3 was free"),
+             "next is Z4 in the journal, and Z3 by the program"),
             ("a next number of no order", (), "a1", changed(of("/v1/order", name="o2"), reply={"next": "A001"}),
-             "the next number A001, which isn't of it"),
+             "next is A001 in the journal, and B001 by the program"),
             ("present rows", (), "a1", changed(of("/v1/import"), reply={"added": 1, "present": 1}),
-             "0 of its rows were there, and its reply has 1"),
+             "added is 1 in the journal, and 2 by the program"),
             ("a member less", (), "a1", lambda lines: lines[place_of(lines, of("/v1/identity")) + 1]["reply"].pop("mac")
              and None, "has a reply that isn't as a server writes it: mac"),
             ("a member more", (), "a1", changed(SHIPPED, reply={"more": 1}), "isn't as a server writes it: more"),
             ("a reason at a registration", (), "a1", changed(of("/v1/device"), reply={"reason": "x"}), "it: reason"),
-            ("another chip in a reply", (), "a1", changed(SHIPPED, reply={"chip": TWO}), f"and its reply is of {TWO}"),
-            ("an unknown path", UNSHIPPED, "a1", unanswered(SHIPPED, "/v1/none", {}), "none of these was done"),
+            ("another chip in a reply", (), "a1", changed(SHIPPED, reply={"chip": TWO}), f"chip is {TWO} in"),
+            ("an unknown path", UNSHIPPED, "a1", unanswered(SHIPPED, "/v1/none", {}), "refuses it as 7"),
             ("an unknown path alone", UNSHIPPED, "a1", both(unanswered(SHIPPED, "/v1/none", {}), lambda lines: [
-                lines.pop(place_of(lines, SHIPPED)), lines.pop(place_of(lines, of("/v1/none")) + 1)]), "asks for"),
-            ("two without a reply", UNSHIPPED, "a1", unanswered(SHIPPED, "/v1/scrap", {"chip": FOUR}), "none of th"),
-            ("a refused one beside it", UNSHIPPED, "a1", unanswered(SHIPPED, "/v1/scrap", {"chip": FOUR}, 409), "none"),
-            ("an order asked late", (), "a1", exchanged(of("/v1/order", name="o1"), of("/v1/device")), "before it was"),
-            ("a map asked late", (), "b1", exchanged(of("/v1/map"), of("/v1/device", FOUR)), "with the map"),
+                lines.pop(place_of(lines, SHIPPED)), lines.pop(place_of(lines, of("/v1/none")) + 1)]), "it as 7"),
+            ("two without a reply", UNSHIPPED, "a1", unanswered(SHIPPED, "/v1/scrap", {"chip": FOUR}), "has no ent"),
+            ("a refused one beside it", UNSHIPPED, "a1", unanswered(SHIPPED, "/v1/scrap", {"chip": FOUR}, 409), "no e"),
+            ("an order asked late", (), "a1", exchanged(of("/v1/order", name="o1"), of("/v1/device")), "it as 14"),
+            ("a map asked late", (), "b1", exchanged(of("/v1/map"), of("/v1/device", FOUR)), "next step of b1"),
             ("addresses of no pool", [it.format("020000000030") for it in elsewhere], "a1", both(
                 changed(of("/v1/order"), reply={"mac": "020000000030"}),
-                changed(of("/v1/identity"), reply={"mac": "020000000030"})), "which no pool of its customer has"),
+                changed(of("/v1/identity"), reply={"mac": "020000000030"})), "mac is 020000000030 in the journal, and"),
             ("addresses behind free ones", [it.format("020000000012") for it in elsewhere], "a1", both(
                 changed(of("/v1/order"), reply={"mac": "020000000012"}),
-                changed(of("/v1/identity"), reply={"mac": "020000000012"})), "was room from 020000000010 on"),
+                changed(of("/v1/identity"), reply={"mac": "020000000012"})), "mac is 020000000012 in the journal, and"),
             ("a stranger's seat", ("UPDATE seat SET name = 'zz' WHERE name = 'a2'",
                                    "UPDATE ledger SET seat = 'zz' WHERE seat = 'a2'"), "a2",
              lambda lines: [{**it, "seat": "zz"} for it in lines], "seat zz, which is nobody's by the site"),
@@ -346,7 +340,7 @@ class Forged(BooksCase):
             return lines[:4] + lines[6:]
 
         for name, sql, journal, change, words in (
-            ("swapped", swapped, "", None, "whose number is greater"),
+            ("swapped", swapped, "", None, "isn't of the next step of a2"),
             ("gone", gone, "b1", without, "none of these ever goes"),
         ):
             with self.subTest(name):
@@ -384,12 +378,12 @@ class Forged(BooksCase):
                     for statement in sql:
                         base.execute(statement)
                     base.commit()
-                status, out, told = ran("audit", self.folder / name / "books.db", self.folder / "a1.journal", *ALWAYS)
+                status, out, told = audited(self.folder / name / "books.db", self.folder / "a1.journal", *ALWAYS)
                 self.assertEqual((status, words in told), (2, True), out + told)
 
 
 class Rules(unittest.TestCase):
-    """The rules of the server, without one."""
+    """The rules of the tables, without a server."""
 
     def test_the_tables(self):
         """They are those of the program; a renaming changes nothing of them."""
@@ -404,93 +398,6 @@ class Rules(unittest.TestCase):
             self.assertEqual(list(others_of(base.execute)), [])
             base.execute("INSERT INTO seat VALUES ('a9', 'acme', -1, x'', '')")
             self.assertIn("a seat's last number is below 1", " ".join(excluded(base.execute)))
-
-    def test_plans(self):
-        """The refusals of the tables of wishes of docs/reference/api.md, each of a chip with these words of block 0."""
-        lock = {"kind": "wlock", "field": "JTAG_DISABLE"}
-        key = {"kind": "key", "field": "BLOCK1", "key_sha256": 64 * "a"}
-        jtag, layout = (0, 198), Layout(MAP)
-        for wishes, burnt, known, meant in (
-            ([bit("JTAG_DISABLE", 0), lock], set(), {}, None),
-            ([bit("JTAG_DISABLE", 0)], {jtag, layout.write_lock("JTAG_DISABLE")}, {}, None),
-            ([bit("NONE", 0)], set(), {}, 19), ([bit("JTAG_DISABLE", 1)], set(), {}, 20),
-            ([value("JTAG_DISABLE", "2")], set(), {}, 21), ([value("JTAG_DISABLE", "0")], {jtag}, {}, 22),
-            ([bit("JTAG_DISABLE", 0), value("JTAG_DISABLE", "0")], set(), {}, 23),
-            ([key, {**key, "key_sha256": 64 * "b"}], set(), {}, 23),
-            ([{**key, "field": "JTAG_DISABLE"}], set(), {}, 24),
-            ([bit("BLOCK1", 0)], set(), {}, 24), ([bit("CODING_SCHEME", 0)], set(), {}, 24),
-            ([value("CODING_SCHEME", "0")], set(), {}, None), ([key], set(), {"BLOCK1": 64 * "b"}, 25),
-            ([{**key, "key_sha256": 64 * "A"}], {layout.write_lock("BLOCK1")}, {"BLOCK1": 64 * "a"}, None),
-            ([key], {layout.write_lock("BLOCK1")}, {}, 26), ([key], {layout.read_lock("BLOCK1")}, {}, 27),
-            ([bit("JTAG_DISABLE", 0)], {layout.write_lock("JTAG_DISABLE")}, {}, 26),
-            ([{"kind": "wlock", "field": "WR_DIS"}], set(), {}, None),
-            ([{"kind": "rlock", "field": "WR_DIS"}], set(), {}, 28),
-            ([{"kind": "burn", "field": "WR_DIS"}], set(), {}, 10), ([bit("JTAG_DISABLE", -1)], set(), {}, 10),
-            ([value("JTAG_DISABLE", "0x0")], set(), {}, 10), ([value("JTAG_DISABLE", " 0")], set(), {}, 10),
-            ([{**key, "key_sha256": "a"}], set(), {}, 10), (64 * [lock], set(), {}, None), (65 * [lock], set(), {}, 10),
-        ):
-            with self.subTest(wishes=wishes, burnt=burnt):
-                self.assertEqual(plan_refusal(layout, wishes, frozenset(burnt), known), meant)
-
-    def test_registrations(self):
-        """A coding scheme that isn't None, and what a lock of its own hides."""
-        layout, read = Layout(MAP), Layout(MAP).read_lock("BLOCK1")
-        for ones, shown, meant in (
-            (set(), {}, None), ({(0, 192)}, {}, 36), ({read}, {"BLOCK1": 64 * "a"}, 41), ({read}, {}, None),
-            (set(), {"BLOCK1": 64 * "a"}, None),
-        ):
-            self.assertEqual(registration_refusal(layout, frozenset(ones), shown), meant)
-
-    def test_drawn_addresses(self):
-        """Two pools of 4 addresses: orders of a pool follow each other as they were made, and each is of the first pool
-        that had room. Of two seats the order isn't known."""
-
-        def drawn(name, start, count, number, seat="a1"):
-            return Drawn(start, count, name, (SimpleNamespace(seat=seat), number))
-
-        def is_behind(one, other):
-            return one[0].seat == other[0].seat and one[1] > other[1]
-
-        for name, orders, words in (
-            ("as they were made", [drawn("o", 10, 1, 1), drawn("p", 11, 2, 2), drawn("q", 20, 3, 3)], []),
-            ("a small one later", [drawn("o", 10, 3, 1), drawn("p", 20, 3, 2), drawn("q", 13, 1, 3)], []),
-            ("exchanged", [drawn("o", 12, 2, 1), drawn("p", 10, 2, 2)], ["o has addresses behind those of the later"]),
-            ("of two seats", [drawn("o", 12, 2, 1), drawn("p", 10, 2, 2, "a2")], []),
-            ("one of another seat between",
-             [drawn("o", 12, 1, 1), drawn("p", 11, 1, 9, "a2"), drawn("q", 10, 1, 2)],
-             ["o has addresses behind those of the later q"]),
-            ("a pool in front had room", [drawn("o", 20, 2, 1), drawn("p", 10, 3, 2)], ["a pool before had room"]),
-        ):
-            with self.subTest(name):
-                told = [it for _, it in drawn_faults(orders, [(10, 4), (20, 4)], is_behind)]
-                self.assertEqual((len(told), all(it in own for it, own in zip(words, told))), (len(words), True), told)
-
-    def test_orders(self):
-        """Members of another form, numbers that two orders have, and addresses by the first pool that has room."""
-        order = {"customer": "acme", "name": "p", "issuer": "ca", "prefix": "P", "width": 3, "first": 1, "quantity": 3,
-                 "macs": 1, "mac": "020000000010", "cursor": 1}
-        q = {**order, "name": "q", "prefix": "Q", "quantity": 2, "mac": "020000000020"}
-        bare = {**q, "macs": 0, "mac": None}
-        for name, orders, words in (
-            ("as they were made", (order, q), []), ("one of a lower pool, later", (order, q, {
-                **order, "name": "r", "prefix": "R", "quantity": 1, "mac": "020000000013"}), []),
-            ("prefix", ({**order, "prefix": "p"},), ["refuses as 30"]),
-            ("width", ({**bare, "first": 999, "cursor": 999},), ["refuses as 31"]),
-            ("quantity", ({**bare, "width": 9, "quantity": 10_001},), ["refuses as 40"]),
-            ("addresses", ({**bare, "macs": 1},), ["its first one is None"]),
-            ("cursor", ({**bare, "cursor": 4},), ["goes on at the number 4"]),
-            ("numbers", (bare, {**bare, "name": "r", "first": 2, "cursor": 2}), ["share the number 2"]),
-            ("numbers, another width", (bare, {**bare, "name": "r", "width": 4}), []),
-            ("shared", (order, {**q, "mac": "020000000012"}), ["which another order has too"]),
-            ("room in front", ({**order, "mac": "020000000011"},), ["was room from 020000000010 on"]),
-            ("a pool in front", (order, {**q, "quantity": 1}), ["was room from 020000000013 on"]),
-            ("no pool", ({**order, "mac": "030000000010"},), ["which no pool of its customer has"]),
-        ):
-            with self.subTest(name):
-                store = SimpleNamespace(orders={(it["customer"], it["name"]): it for it in orders},
-                                        pools={"acme": [(0x020000000010, 4), (0x020000000020, 4)]})
-                told = [it for _, it in order_faults(store)]
-                self.assertEqual((len(told), all(it in own for it, own in zip(words, told))), (len(words), True), told)
 
 
 if __name__ == "__main__":

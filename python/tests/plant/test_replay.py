@@ -5,7 +5,11 @@ import hashlib
 import pytest
 
 from wanekupo.books.bodies import Keys, Shown
+from wanekupo.books.audit import Audit
+from wanekupo.books.program import Unanswered
+from wanekupo.books.replay import _ask_customer, _is_near
 from wanekupo.books.sequence import NotLaid, NotWhole, Requests
+from wanekupo.books.shift import Period
 from wanekupo.books.steps import Step
 from wanekupo.books.store_rows import LedgerRow, StoredSeat
 from wanekupo.chips.layout import Layout
@@ -83,12 +87,12 @@ class Books:
     def __init__(self, seats, orders=()):
         self.seats = {name: StoredSeat(name, "acme", last, "", "") for name, last in seats.items()}
         self.site_seats = dict.fromkeys(seats, "acme")
-        self.pools = {"acme": [(0x020000000000, 8)]}
+        self.pools, self.layouts = {"acme": [(0x020000000000, 8)]}, {}
         self.orders = {("acme", it["name"]): it for it in orders}
 
 
 def line(number, at, path, reply=None, status=200, **asked):
-    reply = reply or {}
+    reply, at = reply or {}, f"2026-11-27T{at}:00Z"
     return Step("j", number, at, f"/v1/{path}", {"nr": number, **asked}, f"{path}{asked}", "", "", at, status, reply)
 
 
@@ -130,6 +134,29 @@ def test_what_a_device_rests_on():
     }
     entries = [entry(1, "a1", "c", "registered"), entry(2, "a1", "c", "identified", "S002")]
     assert in_order(store, journals, entries) == [("a2", 1), ("a2", 2), ("a1", 1), ("a2", 3), ("a1", 2)]
+    told = {(it.seat, it.step.number): it.later for it in Requests("acme", store, journals).in_order(entries)}
+    assert [place for place, later in told.items() if later] == [("a1", 1), ("a1", 2)], "clocks that can't be"
+    assert (told["a1", 1], told["a1", 2]) == (journals["a2"][1][0], journals["a2"][3][0])
+
+
+def test_what_was_asked_again():
+    """A map and rows that are there change nothing; rows of which one isn't do."""
+    csv = ["serial,key_sha256\n", f"S1,{64 * '0'}\n", f"S2,{64 * '1'}\n"]
+    steps = [line(1, "06:00", "map", text="x"), line(2, "06:01", "import", issuer="ca", csv="".join(csv[:2]))]
+    steps += [line(3, "06:02", "map", text="x"), line(4, "06:03", "import", issuer="ca", csv="".join(csv))]
+    steps.append(line(5, "06:04", "import", issuer="ca", csv="".join(csv[:2])))
+    requests = Requests("acme", Books({"a1": 5}), {"a1": lines(*steps)})
+    assert [it.number for it in requests.papers] == [] and len(list(requests.in_order([]))) == 5
+    assert [it.number for it in requests.repeated] == [3, 5]
+
+
+@pytest.mark.parametrize(
+    ("added", "present", "unsure", "is_near"),
+    [(2, 1, 1, True), (1, 2, 1, False), (3, 1, 2, False), (3, 0, 0, True), (True, 2, 3, False), (None, 1, 3, False)],
+)
+def test_counts_of_an_import(added, present, unsure, is_near):
+    """Of three rows the program found none. Another seat imported some of them at the same time."""
+    assert _is_near({"added": 3, "present": 0}, {"added": added, "present": present}, unsure) is is_near
 
 
 def test_what_lacks_a_number_or_has_it_twice():
@@ -175,3 +202,24 @@ def test_what_is_not_laid(entries, told):
     journals = {"a1": lines(line(1, "06:00", "ship", chip="c"))}
     with pytest.raises(NotLaid, match=told):
         in_order(Books({"a1": 1}), journals, entries)
+
+
+class Dying:
+    """A program that answers one request, and ends."""
+
+    replies = iter([(200, f'{{"map":"{64 * "a"}"}}')])
+
+    def ask(self, *_):
+        for reply in self.replies:
+            return reply
+        raise Unanswered("the program ended")
+
+
+def test_a_program_that_ends_in_the_middle():
+    """What was found up to there stays."""
+    steps = [line(number, "06:00", "map", {"map": 64 * "b"}, text=str(number)) for number in (1, 2)]
+    audit = Audit(Period("2026-11-27T00:00:00Z", "2026-11-28T00:00:00Z"))
+    with pytest.raises(Unanswered):
+        _ask_customer("acme", [], Books({"a1": 2}), {"a1": lines(*steps)}, Dying(), audit)
+    told = f"map is {64 * 'b'} in the journal, and {64 * 'a'} by the program (line 1 of j)"
+    assert ([it.told for it in audit.found], audit.replayed) == ([told], {"acme": 1})

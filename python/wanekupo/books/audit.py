@@ -9,18 +9,15 @@ from dataclasses import dataclass, field
 from itertools import chain
 from typing import Iterable, Iterator, NamedTuple, Union
 
-from wanekupo.books.asked import asked_faults
 from wanekupo.books.clocks import Contradiction, Timed, ToCome, Window, clock_contradictions, to_come, window_of
 from wanekupo.books.coherence import faults_of
 from wanekupo.books.given import given_twice
 from wanekupo.books.matches import Matched, Seated, matched, seated, steps_by_chip
-from wanekupo.books.numbers import Span, begun_customers, counts, spans_of, whole_customers
-from wanekupo.books.once import twice
-from wanekupo.books.papers import papers, repeated, unasked
+from wanekupo.books.numbers import Span, begun_customers, counts, spans_of
+from wanekupo.books.once import store_faults
 from wanekupo.books.shift import Period
 from wanekupo.books.steps import Book, Step
 from wanekupo.books.store_rows import Books, LedgerRow, StoredChip
-from wanekupo.books.verdicts import Chip, request_faults
 
 
 @dataclass(frozen=True)
@@ -52,9 +49,9 @@ class Held:
 
 @dataclass
 class Audit:
-    """All of it. `bare` is how many entries outside of the period have no line and aren't found, `held_lines` how many
-    lines of it there are, `parts` the customers of whose seats the journals lack the first number, `repeated` lines
-    that changed nothing, and `replayed` what the program answered once more, in words."""
+    """All of it. `bare` is how many entries outside of the period have no line and aren't found, and `held_lines` how
+    many lines of it there are. `replayed` is how many lines of each customer the program answered once more,
+    `unfinished` why it didn't answer all, and `repeated` has those that changed nothing."""
 
     period: Period
     found: list[Found] = field(default_factory=list)
@@ -63,10 +60,10 @@ class Audit:
     outside: int = 0
     bare: int = 0
     unheld: int = 0
-    parts: list[str] = field(default_factory=list)
     held_lines: int = 0
     repeated: list[Step] = field(default_factory=list)
-    replayed: str = ""
+    replayed: dict[str, int] = field(default_factory=dict)
+    unfinished: list[str] = field(default_factory=list)
 
     def add(self, found: Iterable[Found]) -> None:
         """Adds what was found, in the order of its times, each once."""
@@ -85,28 +82,24 @@ def audit_of(store: Books, books: Iterable[Book], period: Period, now: str, site
     for life in store.lives():
         made = matched(life.entries, steps.pop((life.customer, life.chip), ()))
         laid.take(made)
-        audit.found += _contradictions(life, _lines_of(life, made), store)
+        audit.found += _contradictions(life)
         counted.update(entry.row["seat"] for entry in life.entries if entry.row["seat"] in lost)
     for lines in steps.values():
         laid.take(matched((), lines))
     laid.pairs.sort(key=lambda it: it[0])
     audit.found += _journal_faults(journals, store)
     audit.found += _clock_faults(journals, laid.pairs, period, now)
-    audit.found += _out_of_turn(laid.pairs, store)
-    whole, window = whole_customers(spans, store), window_of(laid.pairs, period)
+    window = window_of(laid.pairs, period)
     audit.found += laid.found()
     audit.found += _left_faults(audit, laid, window, spans, lost, begun_customers(spans, store))
     audit.found += _idle_faults(lost, counted, store)
     audit.found += [Found("numbers", it.at, it.customer, it.seat, "", told) for it in spans for told in it.faults]
     audit.found += [Found("journal", at, it.customer, it.seat, "", told) for it in spans for at, told in it.lost]
-    audit.found += [Found(kind, at, customer, "", chip, told) for kind, at, customer, chip, told in twice(store)]
-    rows = chain(papers(journals, store, period), unasked(journals, store, whole, laid.taken()), given_twice(journals))
-    audit.found += [Found(*it) for it in chain(rows, asked_faults(journals, store, laid.taken(), whole))]
+    audit.found += [Found(kind, at, customer, "", chip, told) for kind, at, customer, chip, told in store_faults(store)]
+    audit.found += [Found(*it) for it in given_twice(journals)]
     if site not in ("", store.site):
         told = f"the site's text isn't the given file: its SHA-256 is {store.site} in the store, and {site} of the file"
         audit.found.append(Found("store", "", "", "", "", told))
-    audit.parts = sorted({it.customer for it in store.seats.values() if it.last} - whole)
-    audit.repeated = repeated(journals)
     audit.held = list(_held(journals, laid.lines, spans, store, period))
     audit.held_lines = sum(period.has(step.at) for it in journals for step in it.book.steps)
     audit.add(())
@@ -158,10 +151,6 @@ class Laid:
                 taken = "was accepted" if step.is_done() else f"has the number {step.number}, which was given"
                 told = f"{step.place()}, {said}, {taken}, and no ledger has it"
                 self.faults.append(Found("no_entry", step.at, own.customer, own.seat, step.chip, told))
-
-    def taken(self) -> set[int]:
-        """The lines that have an entry, by `id`."""
-        return {id(step) for _, step, *_ in chain(self.pairs, self.odd)}
 
     def found(self) -> Iterator[Found]:
         """The lines without an entry, and the pairs that differ."""
@@ -248,6 +237,9 @@ def _journal_faults(journals: Iterable[Seated], store: Books) -> Iterator[Found]
     for it in journals:
         for fault in it.book.faults:
             yield Found("journal", fault.at, it.customer, it.seat, "", f"{fault.place()} {fault.told}")
+        for step in (step for step in it.book.steps if step.odd):
+            told = f"{step.place()} has a reply that isn't as a server writes it: {step.odd}"
+            yield Found("journal", step.at, it.customer, it.seat, step.chip, told)
         is_bare = not any(map(Step.is_done, it.book.steps))  # a seat that was only refused has no row
         if it.seat in store.seats or not it.book.times and not any(fault.line for fault in it.book.faults):
             continue
@@ -275,51 +267,11 @@ def _clock_faults(journals: Iterable[Seated], pairs: list[Timed], period: Period
             yield Found("clock", first.step.at, own.customer, own.seat, first.step.chip, told)
 
 
-def _out_of_turn(pairs: Iterable[Timed], store: Books) -> Iterator[Found]:
-    """Entries of a seat that come in another order than the numbers of their lines."""
-    last: dict[str, Step] = {}
-    for _, step in pairs:
-        before = last.setdefault(step.seat or step.file, step)
-        if (step.turn, step.number) >= (before.turn, before.number):
-            last[step.seat or step.file] = step
-        elif step.is_stored and before.is_stored:
-            customer = store.seats[step.seat].customer if step.seat in store.seats else ""
-            told = f"the entry of {step.place()} was written behind that of {before.place()}, whose number is greater"
-            yield Found("exchanged", step.at, customer, step.seat, step.chip, told)
-
-
-def _lines_of(life: StoredChip, made: Matched) -> dict[int, Step]:
-    """The lines of a chip's entries by the numbers of these. A line counts where it is surely its entry's: where there
-    are as many of both, or no other entry says the same, and where no other one was asked under its number."""
-    said = Counter((it.row["event"], it.row["note"]) for it in life.entries)
-    is_whole = not made.entries and all(step.is_lost for _, step in made.steps)
-    pairs = ((it.entry.row, it.step) for it in made.pairs if not it.kind and it.step.is_stored)
-    return {row["n"]: step for row, step in pairs if is_whole or said[row["event"], row["note"]] == 1}
-
-
-def _contradictions(life: StoredChip, lines: dict[int, Step], store: Books) -> Iterator[Found]:
-    """What of a chip's device, ledger, records and lines says something else. Its entries were committed in their
-    order."""
-    states = {number: str(it.reply["state"]) for number, it in lines.items() if it.is_done() and "state" in it.reply}
+def _contradictions(life: StoredChip) -> Iterator[Found]:
+    """What of a chip's device, ledger and records says something else. Its entries were committed in their order."""
     for device in life.devices:
-        fields = store.layouts[life.customer, device["map"]].fields
-        chip = Chip(fields) if fields else None
-        for entry in life.entries:
-            step = lines.get(entry.row["n"])
-            asked = request_faults(step, device, life.records) if step else ()
-            for told in chain(chip.take(entry.row, step) if chip else (), asked):
-                place = f" ({step.place()})" if step else ""
-                told = f"{_told(_left_of(entry), told)}{place}"
-                yield Found("device", step.at if step else "", life.customer, "", life.chip, told)
-            if chip and chip.state:
-                states.setdefault(entry.row["n"], chip.state)
-        faults = faults_of(device, [entry.row for entry in life.entries], life.records, states)
-        pending = () if not chip or chip.pends(device) else ("what it has still to burn isn't what its lines leave",)
-        for told in chain(faults, pending):
+        for told in faults_of(device, [entry.row for entry in life.entries], life.records):
             yield Found("device", "", life.customer, "", life.chip, told)
-    for record in () if life.devices else life.records:
-        told = f"the record of {record['serial']} is of a chip that has no device"
-        yield Found("record", "", life.customer, "", life.chip, told)
     for before, entry in zip(life.entries, life.entries[1:]):
         if entry.id <= before.id:
             told = f"its entry {entry.row['n']} was written before its entry {before.row['n']}"

@@ -18,21 +18,19 @@ KINDS = {
     "station's clock was wrong",
     "device": "a device, its ledger and its record contradict each other: somebody wrote to the store by hand",
     "exchanged": "an entry is at another place in its ledger than its line in the journal",
-    "import": "an imported serial number isn't in the store as the journal has it",
     "journal": "a line is none, was changed, answers what isn't asked, has no reply or one of another form, another's "
     "number or an earlier time: get the journal anew",
     "late_copy": "a request that was refused was accepted later: look at what it did",
-    "map": "a fuse map isn't in the store as it was imported, or can't be read here",
+    "map": "a fuse map's text isn't that of its digest, or can't be read here",
     "no_entry": "a station's step isn't in the store: the store is an older one, or an entry was taken away",
     "no_journal": "a seat's journal wasn't given: get it, or its entries can't be held to anything",
     "no_line": "an entry has no line: a foreign hand, or a lost journal",
     "no_seat": "a journal is of a seat that the store doesn't have",
     "numbers": "numbers of a seat have no line or were given again, or the store has another last one: a lost "
     "journal, or an older store",
-    "order": "an order isn't in the store as it was made, or didn't give its least free number",
+    "order": "an order goes on at another number than its least free one",
     "other_note": "an entry says something else than its line",
     "other_seat": "an entry is under another seat than its line",
-    "record": "a record isn't in the store as it was given, or isn't of its order or its issuer's customer",
     "replay": "the program makes something else of the stations' lines than these or the store say",
     "store": "rows that no server opens, or of a customer or a seat that the site doesn't have so, or another site's "
     "text than the given file",
@@ -44,8 +42,9 @@ HELD_TO = (
     "entry. A line counts at the time at which it was asked, by its station's clock; an entry has the time of its line."
 )
 ALWAYS = (
-    "Over the whole store: serial numbers, keys and addresses once; each record in its order; each device as its "
-    "ledger and its record say. Over the whole journals: each line as it was written, and no number missing."
+    "The proved program answered the accepted lines once more, over an empty store: each reply, and each order, "
+    "device, ledger and record of the store, is held to its own. Over the whole journals: each line as it was "
+    "written, and no number missing."
 )
 NOT_SHOWN = (
     "What a store and all journals of a seat say alike isn't found by this: compare a seal of that time. Nor is a "
@@ -71,8 +70,11 @@ def held_table(audit: Audit) -> Table:
 
 
 def verdict(audit: Audit) -> str:
-    count = len(audit.found)
-    return f"{count} found." if count else "Nothing found."
+    """What was found, and why the program didn't answer all lines. Nothing was found where it did."""
+    if not audit.unfinished:
+        return f"{len(audit.found)} found." if audit.found else "Nothing found."
+    told = f"The audit could not be finished: {'; '.join(audit.unfinished)}."
+    return f"{len(audit.found)} found. {told}" if audit.found else told
 
 
 def counted(audit: Audit) -> str:
@@ -81,14 +83,12 @@ def counted(audit: Audit) -> str:
         told = f"{told}, {audit.bare} of which have no line"
     if audit.unheld:
         told = f"{told}; {audit.unheld} lie before the first line of these journals, and are held to nothing"
-    if audit.parts:
-        whose = ", ".join(audit.parts)
-        told = f"{told}. Orders, maps and imports of {whose} are held to no line, as these journals lack number 1"
     if audit.repeated:
         said = f"{len(audit.repeated)} maps and imports were asked for again, which changes nothing"
         told = f"{told}. {said} (the first: {audit.repeated[0].place()})"
     if audit.replayed:
-        told = f"{told}. {audit.replayed}"
+        count, whose = sum(audit.replayed.values()), ", ".join(audit.replayed)
+        told = f"{told}. The program answered {count} lines of {whose} once more"
     return f"{told}."
 
 

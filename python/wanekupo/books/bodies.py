@@ -15,9 +15,11 @@ from typing import Any, Iterator, Mapping, Optional, Sequence
 from wanekupo.books.fuses import FuseWords
 from wanekupo.books.sequence import Done
 from wanekupo.books.store_rows import Books
-from wanekupo.books.verdicts import BLANK
 from wanekupo.chips.layout import Layout
 from wanekupo.seat.forms import DIGEST
+
+# What a key block without a key shows.
+BLANK = hashlib.sha256(bytes(32)).hexdigest()
 
 # Bits of a block, the lowest one first, and those of each block.
 Bits = list[int]
@@ -64,7 +66,7 @@ class Bodies:
     def _wish(self, wish: Mapping[str, Any]) -> Mapping[str, Any]:
         if wish.get("kind") != "key":
             return wish
-        return {**wish, "key_sha256": self._keys.digest_of(str(wish["key_sha256"]).lower())}
+        return {**wish, "key_sha256": self._keys.digest_of(str(wish.get("key_sha256")).lower())}
 
     def _blocks(self, done: Done, digests: Sequence[str]) -> tuple[list[list[str]], list[int]]:
         """The words of the blocks that a line has the digests of."""

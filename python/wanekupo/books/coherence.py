@@ -2,7 +2,7 @@
 
 from __future__ import annotations
 
-from typing import Any, Iterator, Mapping, Sequence
+from typing import Any, Iterator, Sequence
 
 from wanekupo.seat.states import LOST, NONE, after, left_by
 
@@ -11,15 +11,12 @@ Row = dict[str, Any]
 # The steps at which a chip shows what is burnt.
 SHOWING = ("registered", "read")
 
-# The states that stations were told, each by the number of its entry.
-Told = Mapping[int, str]
 
-
-def faults_of(device: Row, ledger: Sequence[Row], records: Sequence[Row], told: Told = {}) -> Iterator[str]:
+def faults_of(device: Row, ledger: Sequence[Row], records: Sequence[Row]) -> Iterator[str]:
     """What contradicts what, in words."""
     entries = sorted(ledger, key=lambda it: int(it["n"]))
     yield from _number_faults([it["n"] for it in entries])
-    yield from _step_faults(device, entries, told)
+    yield from _step_faults(device, entries)
     yield from _burnt_faults(device, entries)
     yield from _record_faults(device, entries, records)
 
@@ -36,25 +33,18 @@ def _number_faults(numbers: Sequence[int]) -> Iterator[str]:
         yield f"its ledger lacks the entry {', '.join(gaps)}"
 
 
-def _step_faults(device: Row, entries: Sequence[Row], told: Told) -> Iterator[str]:
-    """Whether each step may follow the ones before, and the device is in a state that the last one may leave, or in
-    the one of these that a station was told."""
-    states, before, said, left = frozenset((NONE,)), "", "", "missing"
+def _step_faults(device: Row, entries: Sequence[Row]) -> Iterator[str]:
+    """Whether each step may follow the ones before, and the device is in a state that the last one may leave."""
+    states, before, said = frozenset((NONE,)), "", ""
     for it in entries:
         said = it["note"] if it["event"] == "read" else it["event"]
         found = after(states, said)
         if not found:
             place = f"behind {before}" if before else "first"
             yield f"its ledger has {it['event']} {place}, at the entry {it['n']}"
-        states, before, state = found or left_by(said), it["event"], told.get(it["n"])
-        left = said
-        if state in states:
-            states, left = frozenset((state,)), f"{said}, which left it {state} by the journal"
-            before = f"{before} that left it {state} by the journal"
-        elif state is not None:
-            yield f"its state behind the entry {it['n']}, {said}, is {state} in the journal"
+        states, before = found or left_by(said), it["event"]
     if device["state"] not in states:
-        yield f"its state is {device['state']}, and the last entry of its ledger {left}"
+        yield f"its state is {device['state']}, and the last entry of its ledger {said or 'missing'}"
     if device["state"] == "quarantined" and (device["reason"] not in LOST or device["reason"] != said):
         yield f"its reason is {device['reason']}, and its ledger says {said}"
     if device["state"] != "quarantined" and device["reason"] is not None:

@@ -6,9 +6,11 @@ import contextlib
 from typing import Iterable, Iterator, NamedTuple, Optional
 
 from wanekupo.books.matches import Seated, Told
-from wanekupo.books.papers import Row
 from wanekupo.books.steps import Step
 from wanekupo.seat.import_rows import rows_of
+
+# The kind, the time, the customer, the seat, the chip, and what it is in words.
+Row = tuple[str, str, str, str, str, str]
 
 
 class GivenNumbers(NamedTuple):

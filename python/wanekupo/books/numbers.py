@@ -65,16 +65,9 @@ def counts(it: Seated, step: Step, store: Books, period: Period) -> bool:
     )
 
 
-def whole_customers(spans: Iterable[Span], store: Books) -> set[str]:
-    """The customers of whose seats the journals have the first number of each that has asked for something; so is one
-    of whom the store has rows, and no seat that asked."""
-    whole = {it.seat for it in spans if it.first == 1}
-    parts = {it.customer for it in store.seats.values() if it.last and it.name not in whole}
-    return store.customers() - parts
-
-
 def begun_customers(spans: Iterable[Span], store: Books) -> set[str]:
-    """The same, whichever seats have no journal: an entry of theirs has no line, wherever it is."""
+    """The customers whose journals have the first number of each seat, whichever seats have none: an entry of theirs
+    without a line has none, wherever it is."""
     return store.customers() - {it.customer for it in spans if it.first != 1 and store.seats[it.seat].last}
 
 

@@ -2,6 +2,7 @@
 
 from __future__ import annotations
 
+import contextlib
 import os
 import shutil
 import stat
@@ -29,7 +30,8 @@ def program_named(name: str) -> Path:
     """The program of a name. Root runs none that another user may write, or replace."""
     found = shutil.which(name)
     if not found:
-        raise BadSettings(f"there is no program {name}", "Name station by --program.")
+        told = "Install the package wanekupo of the same version, or name its station by --program."
+        raise BadSettings(f"there is no program {name}, and an audit has it answer all lines once more", told)
     path = Path(found).resolve()
     if os.geteuid() == 0:
         os.close(opened(path.parent))
@@ -44,10 +46,13 @@ class Program:
 
     def __init__(self, path: Path, site: str, folder: Path):
         (folder / "site.toml").write_text(site, encoding="utf-8")
-        self._child = subprocess.Popen(
-            [str(path), "replay", "--site", "site.toml"], cwd=folder, env=dict[str, str](), start_new_session=True,
-            stdin=subprocess.PIPE, stdout=subprocess.PIPE, stderr=subprocess.PIPE,
-        )  # fmt: skip
+        try:
+            self._child = subprocess.Popen(
+                [str(path), "replay", "--site", "site.toml"], cwd=folder, env=dict[str, str](), start_new_session=True,
+                stdin=subprocess.PIPE, stdout=subprocess.PIPE, stderr=subprocess.PIPE,
+            )  # fmt: skip
+        except OSError as error:
+            raise Unanswered(f"{path} can't be run: {error.strerror}") from error
         assert self._child.stdin and self._child.stdout and self._child.stderr
         self._in, self._out, self._said = self._child.stdin, self._child.stdout, self._child.stderr
         self._limit = threading.Timer(LONGEST, self._child.kill)
@@ -58,8 +63,8 @@ class Program:
 
     def __exit__(self, *_: Any) -> None:
         self._limit.cancel()
-        self._child.kill()
-        self._child.wait()
+        with contextlib.suppress(OSError), self._child:  # what was written may be left
+            self._child.kill()
 
     def ask(self, token: str, method: str, target: str, body: bytes = b"") -> tuple[int, str]:
         """The status and the body of the reply to a request."""

@@ -1,7 +1,8 @@
 """What the program makes of the stations' lines, held to what these and the store say.
 
 The server has no clock, and is proved: the same requests in the same order give the same replies, and leave the same
-books. So the lines of each customer whose journals are whole are answered once more, over an empty store.
+books. So the lines of each customer whose journals are whole are answered once more, over an empty store. A customer
+whose journals aren't leaves the audit unfinished.
 """
 
 from __future__ import annotations
@@ -12,17 +13,19 @@ import json
 import tempfile
 from collections import defaultdict
 from pathlib import Path
-from typing import Any, Iterable, Iterator, Mapping, NamedTuple
+from typing import Any, Iterable, Iterator, Mapping
 from urllib.parse import quote
 
-from wanekupo.books.audit import Found
+from wanekupo.books.audit import Audit, Found
 from wanekupo.books.bodies import Bodies, Keys
+from wanekupo.books.clocks import begin_of, end_of
 from wanekupo.books.matches import seated
-from wanekupo.books.program import Program, program_named
-from wanekupo.books.sequence import Done, NotLaid, NotWhole, Requests
+from wanekupo.books.program import Program, Unanswered
+from wanekupo.books.sequence import MAP, ORDER, Done, Lines, NotLaid, NotWhole, Requests, imported_by
 from wanekupo.books.steps import PATHS, REPLIED, WORKS, Book, Step
 from wanekupo.books.store_rows import Books, LedgerRow
 from wanekupo.common.texts import brief, compact_json
+from wanekupo.seat.forms import NO_END
 
 # How many faults of a customer are told.
 MOST_TOLD = 5
@@ -34,31 +37,34 @@ LATER, COUNTED = "not_before", ("added", "present", "next")
 UNKNOWN = '{"error":"unknown_path","no":7}'
 
 
-class Replayed(NamedTuple):
-    """What was found; and whose lines were answered once more, whose not and why."""
-
-    found: list[Found]
-    told: str
-
-
-def ask_again(name: str, books: Iterable[Book], store: Books) -> Replayed:
-    """Has a program answer the lines of all journals, and holds it to the store."""
-    program, lines = program_named(name), defaultdict[str, dict[int, list[Step]]](lambda: defaultdict(list))
+def ask_again(program: Path, books: Iterable[Book], store: Books, audit: Audit) -> None:
+    """Has a program answer the lines of all journals, and holds it to the store. What was found stays where it ends."""
+    lines = defaultdict[str, dict[int, list[Step]]](lambda: defaultdict(list))
     for own, step in ((seated(book, store), step) for book in books for step in book.steps if not step.is_lost):
         lines[own.seat][step.number].append(step)
-    found, counts, not_whole = list[Found](), dict[str, int](), list[str]()
     with tempfile.TemporaryDirectory(prefix="wanekupo-replay.") as folder:
-        with Program(program, _site(store), Path(folder)) as running:
-            for customer, entries in _entries(store).items():
-                try:
-                    answers = Answers(customer, store, Requests(customer, store, lines), running)
-                    found += answers.found(entries)
-                    counts[customer] = answers.count
-                except NotWhole as error:
-                    not_whole.append(f"{customer} ({error})")
-    told = [f"The program answered {sum(counts.values())} lines of {', '.join(counts)} once more"] if counts else []
-    told += [f"Not replayed: {', '.join(not_whole)}"] if not_whole else []
-    return Replayed(found, ". ".join(told))
+        try:
+            with Program(program, _site(store), Path(folder)) as running:
+                for customer, entries in _entries(store).items():
+                    _ask_customer(customer, entries, store, lines, running, audit)
+        except Unanswered as error:
+            audit.unfinished.append(str(error))
+
+
+def _ask_customer(
+    customer: str, entries: list[LedgerRow], store: Books, lines: Mapping[str, Lines], running: Program, audit: Audit
+) -> None:
+    try:
+        answers = Answers(customer, store, Requests(customer, store, lines), running)
+    except NotWhole as error:
+        audit.unfinished.append(f"{customer} isn't replayed, as {error}")
+        return
+    try:
+        answers.hold(entries)
+    finally:
+        audit.add(answers.told())
+        audit.repeated += answers.repeated
+        audit.replayed |= {customer: answers.count} if answers.count else {}
 
 
 def _entries(store: Books) -> dict[str, list[LedgerRow]]:
@@ -95,15 +101,20 @@ class Answers:
             raise NotWhole("one of its maps can't be read here")
         self._customer, self._store, self._requests, self._program = customer, store, requests, program
         self._keys, self._last, self.count = Keys(), dict[str, tuple[Done, str]](), 0
-        self._bodies = Bodies(customer, store, self._keys)
+        self._bodies, self._found, self.repeated = Bodies(customer, store, self._keys), list[Found](), requests.repeated
 
-    def found(self, entries: list[LedgerRow]) -> list[Found]:
-        """The first faults, and how many more there are: they may follow from these."""
-        found = list(self._reply_faults(entries))
+    def hold(self, entries: list[LedgerRow]) -> None:
+        """Has the lines answered, and holds replies and rows to what the program says."""
+        self._found.extend(self._reply_faults(entries))
         if not self._requests.left():
-            found += [*self._kept_faults(), *self._row_faults(entries)]
-        more = f"{len(found) - MOST_TOLD} more replies and rows aren't what the program makes of these lines"
-        return found[:MOST_TOLD] + [self._fault(more)] * (len(found) > MOST_TOLD)
+            self._found.extend(self._kept_faults())
+            self._found.extend(self._paper_faults())
+            self._found.extend(self._row_faults(entries))
+
+    def told(self) -> list[Found]:
+        """The first faults, and how many more there are: they may follow from these."""
+        more = f"{len(self._found) - MOST_TOLD} more replies and rows aren't what the program makes of these lines"
+        return self._found[:MOST_TOLD] + [self._fault(more)] * (len(self._found) > MOST_TOLD)
 
     def _fault(self, told: str, seat: str = "", chip: str = "", at: str = "") -> Found:
         return Found("replay", at, self._customer, seat, chip, told)
@@ -121,6 +132,8 @@ class Answers:
                 status, text = self._ask(it.seat, "POST", step.path, body) if step.path in PATHS else (404, UNKNOWN)
                 for told in self._differences(it, text) if status == 200 else ():
                     yield self._fault(f"{told} {place}", it.seat, step.chip, step.at)
+                if it.later:
+                    yield self._clock_fault(it, it.later)
                 for block in unknown:
                     told = f"its block {block} shows something else than its ledger comes to {place}"
                     yield self._fault(told, it.seat, step.chip, step.at)
@@ -137,10 +150,17 @@ class Answers:
         """In what a line's reply isn't the program's. What of a step of a device nobody looks at isn't in memory."""
         step, reply = done.step, json.loads(text)
         but = reply.keys() - REPLIED - WORKS if step.event not in ("", "identified") else set[str]()
-        told = list(_differences(reply, step.reply, "journal", but)) if step.is_done() else []
-        if told and self._requests.is_unsure(done):
-            told = list(_differences(reply, step.reply, "journal", {*but, *COUNTED}))
+        where = "journal" if step.answered else "store"  # the store's own, where the line has none
+        told = list(_differences(reply, step.reply, where, but)) if step.is_done() else []
+        if told and _is_near(reply, step.reply, self._requests.unsure(done)):
+            told = list(_differences(reply, step.reply, where, {*but, *COUNTED}))
         return told
+
+    def _clock_fault(self, done: Done, later: Step) -> Found:
+        """A line that was done behind one that was asked when this one was answered."""
+        step = done.step
+        told = f"{step.place()} was answered at {end_of(step)}, and rests on {later.place()}, which was asked at"
+        return Found("clock", step.at, self._customer, done.seat, step.chip, f"{told} {begin_of(later)}")
 
     def _kept_faults(self) -> Iterator[Found]:
         """Seats whose last number or kept reply isn't the program's."""
@@ -149,9 +169,36 @@ class Answers:
             if done is None or done.step.number != it.last:
                 last = done.step.number if done else "none"
                 yield self._fault(f"its last number is {it.last} in the store, and {last} by the program", it.name)
-            elif _without_later(text) != _without_later(it.reply) and not self._requests.is_unsure(done):
+            elif _without_later(text) != _without_later(it.reply) and not self._requests.unsure(done):
                 told = f"the reply to its last request is {brief(it.reply)} in the store"
                 yield self._fault(f"{told}, and {brief(text)} by the program ({done.step.place()})", it.name)
+
+    def _paper_faults(self) -> Iterator[Found]:
+        """Orders, maps and imported numbers that the store lacks, and maps and numbers that no line asked for."""
+        own = {"the order": set[str](), "the map": set[str](), "the imported serial number": set[str]()}
+        for step in self._requests.papers:
+            if step.path == ORDER:
+                own["the order"].add(str(step.asked["name"]))
+            elif step.path == MAP:
+                own["the map"].add(step.digest_of_text())
+            else:
+                own["the imported serial number"] |= {" ".join((*it, key)) for it, key in imported_by(step).items()}
+        plain = f"WHERE g.chip IS NULL AND g.mac IS NULL AND s.not_before IS NULL AND g.not_after = '{NO_END}'"
+        stored = {
+            "the order": {name for customer, name in self._store.orders if customer == self._customer},
+            "the map": {it for customer, it, text in self._store.maps if customer == self._customer and it == text},
+            "the imported serial number": self._given(plain),
+        }
+        for what, names in own.items():
+            for name in sorted(names - stored[what] - self._given("WHERE g.chip IS NOT NULL")):
+                yield self._fault(f"{what} {name} isn't in the store as it was asked for")
+            for name in sorted(stored[what] - names) if what != "the order" else ():
+                yield self._fault(f"no line asked for {what} {name}, which the store has")
+
+    def _given(self, where: str) -> set[str]:
+        """The numbers of some records of the store, each with its issuer and its key."""
+        rows = (row for customer, row in self._store.records(where) if customer == self._customer)
+        return {f"{row['issuer']} {row['serial']} {row['key_sha256']}" for row in rows}
 
     def _row_faults(self, entries: list[LedgerRow]) -> Iterator[Found]:
         """In what orders, devices, their ledgers and their records aren't what the program shows."""
@@ -175,12 +222,27 @@ class Answers:
         what = target.replace("?", " of the ").replace("=", " ")
         if status != 200:
             yield self._fault(f"the store has the {what}, and the program has none", chip=chip)
-        for told in _differences(json.loads(text), row, "store", ()) if status == 200 else ():
+            return
+        reply = json.loads(text)
+        for it, own in zip(reply.pop("entries", ()), row.get("entries", ())):
+            for told in _differences(it, own, "store", ()):
+                yield self._fault(f"the entry {own['n']} of the chip {chip}: {told}", chip=chip)
+        for told in _differences(reply, row, "store", ()):
             yield self._fault(f"the {what}: {told}", chip=chip)
 
 
 def _without_later(text: str) -> str:
     return text.replace(f'"{LATER}":null,', "")
+
+
+def _is_near(reply: Mapping[str, Any], said: Mapping[str, Any], unsure: int) -> bool:
+    """Whether a reply may count so, where some of its rows may have been there, or a number free."""
+    if "present" not in reply:
+        return unsure > 0
+    added, present = said.get("added"), said.get("present")
+    if type(added) is not int or type(present) is not int:
+        return False
+    return bool(added + present == reply["added"] + reply["present"] and abs(present - reply["present"]) <= unsure)
 
 
 def _differences(reply: Mapping[str, Any], own: Mapping[str, Any], where: str, but: Iterable[str]) -> Iterator[str]:

@@ -8,10 +8,10 @@ for its addresses, a device for its order, its map and its serial number, an imp
 from __future__ import annotations
 
 from collections import defaultdict, deque
-from dataclasses import dataclass
+from dataclasses import dataclass, replace
 from functools import lru_cache
 from itertools import count
-from typing import Iterator, Mapping, Optional, Sequence
+from typing import Iterable, Iterator, Mapping, Optional, Sequence
 
 from wanekupo.books.clocks import begin_of, end_of, is_behind
 from wanekupo.books.steps import Step
@@ -39,11 +39,13 @@ class NotLaid(StationError):
 
 @dataclass(frozen=True, slots=True)
 class Done:
-    """A request that the store has, with its seat, and with its entry where it is a step of a device."""
+    """A request that the store has, with its seat, and with its entry where it is a step of a device. `later` is one
+    that has to be in front of it, and by the clocks was surely asked behind it."""
 
     seat: str
     step: Step
     entry: Optional[LedgerRow] = None
+    later: Optional[Step] = None
 
 
 def _numbered(seat: StoredSeat, lines: Lines) -> deque[list[Step]]:
@@ -68,20 +70,27 @@ def _candidates(seat: StoredSeat, lines: Sequence[Step]) -> list[Step]:
 
 
 @lru_cache
-def _imported(issuer: str, csv: str) -> frozenset[tuple[str, str]]:
-    """The serial numbers of an import, each behind its issuer."""
+def _imported(issuer: str, csv: str) -> dict[tuple[str, str], str]:
     try:
-        return frozenset((issuer, serial) for serial, _ in rows_of(csv))
+        return {(issuer, serial): key.lower() for serial, key in rows_of(csv)}
     except ValueError:
-        return frozenset()
+        return {}
 
 
-def _rows(step: Step) -> frozenset[tuple[str, str]]:
-    return _imported(str(step.asked["issuer"]), str(step.asked["csv"]))
+def imported_by(step: Step) -> Mapping[tuple[str, str], str]:
+    """The serial numbers of an import, each behind its issuer, and their keys' digests; nothing of another request."""
+    words = str(step.asked.get("issuer")), str(step.asked.get("csv"))
+    return _imported(*words) if step.path == IMPORT else {}
 
 
 def _is_before(one: Step, other: Step) -> bool:
     return is_behind(begin_of(other), end_of(one))
+
+
+def _is_beside(one: Done, other: Done) -> bool:
+    """Whether either of two seats' requests may have been done first."""
+    is_sure = _is_before(one.step, other.step) or _is_before(other.step, one.step)
+    return one.seat != other.seat and not is_sure
 
 
 class Requests:
@@ -95,24 +104,26 @@ class Requests:
         self._queues = {it.name: _numbered(it, lines.get(it.name, {})) for it in seats}
         self._importers: dict[tuple[str, str], list[Done]] = defaultdict(list)
         for it in (Done(name, lines[0]) for name, queue in self._queues.items() for lines in queue):
-            for row in _rows(it.step) if it.step.path == IMPORT else ():
+            for row in imported_by(it.step):
                 self._importers[row].append(it)
         self._pools = [list(it) for it in store.pools.get(customer, ())]
         self._made, self._given, self._to_come = set[str](), set[tuple[str, str]](), set[str]()
         self._own: dict[str, deque[LedgerRow]] = defaultdict(deque)
         self._next, self._order_of = dict[str, int](), dict[str, str]()
+        self._waited: dict[int, Step] = {}
+        self.papers, self.repeated = list[Step](), list[Step]()
 
     def left(self) -> int:
         return sum(map(len, self._queues.values()))
 
-    def is_unsure(self, done: Done) -> bool:
-        """Whether another seat imported what is counted in a reply at the same time: nobody knows which came first."""
-        asked, rows = done.step.asked, _rows(done.step) if done.step.path == IMPORT else frozenset[tuple[str, str]]()
+    def unsure(self, done: Done) -> int:
+        """How many rows that are counted in a reply another seat imported at the same time: nobody knows which came
+        first."""
+        asked, rows = done.step.asked, list(imported_by(done.step))
         if done.step.path == ORDER:
-            own = (it for it in self._importers if it[0] == asked["issuer"])
-            rows = frozenset(it for it in own if it[1].startswith(str(asked["prefix"])))
-        others = (it.step for row in rows for it in self._importers[row] if it.seat != done.seat)
-        return any(not _is_before(it, done.step) and not _is_before(done.step, it) for it in others)
+            issuer, prefix = str(asked.get("issuer")), str(asked.get("prefix"))
+            rows = [it for it in self._importers if it[0] == issuer and it[1].startswith(prefix)]
+        return sum(any(_is_beside(it, done) for it in self._importers[row]) for row in rows)
 
     def in_order(self, entries: Sequence[LedgerRow]) -> Iterator[Done]:
         """One after another, in an order in which they may have been done. `entries` come in theirs."""
@@ -122,14 +133,15 @@ class Requests:
             self._own[it.row["seat"]].append(it)
         entry = next(steps, None)
         while entry or self.left():
-            heads = [self._head(seat, queue[0]) for seat, queue in self._queues.items() if queue]
-            heads = [it for it in heads if it and it.entry in (None, entry)]
-            free = [it for it in heads if it]
+            found = (self._head(seat, queue[0]) for seat, queue in self._queues.items() if queue)
+            heads = [it for it in found if it]
+            free = [it for it in heads if it.entry in (None, entry)]
             if not free:
                 raise self._not_laid(entry)
             first = min(free, key=lambda it: (not self._is_ready(it), it.step.at))
             self._queues[first.seat].popleft()
-            yield first
+            self._pass_over(heads, first)
+            yield replace(first, later=self._waited.get(id(first.step))) if self._is_ready(first) else first
             self._take(first)
             if first.entry:
                 self._own[first.seat].popleft()
@@ -142,6 +154,14 @@ class Requests:
         step = next((it for it in lines if own and (it.chip, it.event) == (own.chip, own.row["event"])), None)
         paper = next((it for it in lines if not it.event), None)
         return Done(seat, step, own) if step else Done(seat, paper) if paper else None
+
+    def _pass_over(self, heads: Iterable[Done], first: Done) -> None:
+        """Notes which of the next requests were surely done before the one that is first. Entries have their order from
+        the store."""
+        for it in heads:
+            is_sure = (it.entry is None or first.entry is None) and _is_before(it.step, first.step)
+            if is_sure and it.seat != first.seat:
+                self._waited.setdefault(id(it.step), first.step)
 
     def _not_laid(self, entry: Optional[LedgerRow]) -> NotLaid:
         heads = {seat: queue[0][0] for seat, queue in self._queues.items() if queue}
@@ -176,27 +196,34 @@ class Requests:
         """Whether what a request rests on was done."""
         step = done.step
         if step.event == "registered":
-            return {str(step.asked["order"]), str(step.asked["map"]).lower()} <= self._made
+            return {str(step.asked.get("order")), str(step.asked.get("map")).lower()} <= self._made
         if done.entry and step.event == "identified":
             return bool(self._next_of(self._order(self._order_of.get(step.chip, ""))) == done.entry.row["note"])
         if step.path == IMPORT:
-            return self._given.issuperset(it for it in _rows(step) if it[1] in self._to_come)
-        order = self._order(str(step.asked["name"])) if step.path == ORDER else None
+            return self._given.issuperset(it for it in imported_by(step) if it[1] in self._to_come)
+        order = self._order(str(step.asked.get("name"))) if step.path == ORDER else None
         if order is None:
             return True
         pool = self._pool_of(order)
         return bool(order["mac"] == (f"{pool[0]:012x}" if pool else None))
 
+    def _changes_nothing(self, step: Step) -> bool:
+        """Whether a line asks for a map or an import that is there: the line of a step may have stood there."""
+        is_there = step.path == IMPORT and self._given.issuperset(imported_by(step))
+        return is_there or step.path == MAP and step.digest_of_text() in self._made
+
     def _take(self, done: Done) -> None:
         step = done.step
-        order = self._order(str(step.asked["name"])) if step.path == ORDER else None
+        order = self._order(str(step.asked.get("name"))) if step.path == ORDER else None
+        self.papers += [] if step.event else [step]
+        self.repeated += [step] if self._changes_nothing(step) else []
         if step.event == "registered":
-            self._order_of[step.chip] = str(step.asked["order"])
+            self._order_of[step.chip] = str(step.asked.get("order"))
         elif done.entry and step.event == "identified":
             own = self._order(self._order_of.get(step.chip, ""))
             self._given |= {(own["issuer"], done.entry.row["note"])} if own else set()
         elif step.path == IMPORT:
-            self._given |= _rows(step)
+            self._given.update(imported_by(step))
         elif step.path == MAP:
             self._made.add(step.digest_of_text())
         elif order:

@@ -26,11 +26,12 @@ from wanekupo.common.printing import Formulas, print_shown
 from wanekupo.cli.shift import add_period
 from wanekupo.common.signing import add_signer, digest_of_file, signer_of
 
-DONE, FOUND = 0, 1
+DONE, FOUND, NOT_FINISHED = 0, 1, 3
 
 MORE = """. STORE is a copy that the program has opened, taken before the journals were gathered, and --to is at or
-before that moment. Each entry of a ledger is held to the line of a journal of its seat, and the other way round. Serial
-numbers, keys and addresses have to be there once. Status 1 where something is found."""
+before that moment. Each entry of a ledger is held to the line of a journal of its seat, and the other way round. The
+proved program answers all accepted lines once more, and each reply and each row is held to its own. Status 1 where
+something is found, and 3 where nothing was, but the program didn't answer all."""
 
 
 def _add_arguments(parser: argparse.ArgumentParser) -> None:
@@ -42,8 +43,8 @@ def _add_arguments(parser: argparse.ArgumentParser) -> None:
     parser.add_argument("--site", type=Path, metavar="FILE", help=said)
     parser.add_argument("--html", metavar="FILE", help="write a page, to be read and printed")
     parser.add_argument("--csv", metavar="FILE", help="write what is found as comma-separated values")
-    told = "have this program answer the lines once more, and compare its replies and tables: station, or its path"
-    parser.add_argument("--program", metavar="STATION", help=told)
+    told = "the proved program that answers the lines once more, by its path where PATH doesn't have it (%(default)s)"
+    parser.add_argument("--program", default="station", metavar="P", help=told)
     add_signer(parser)
 
 
@@ -54,10 +55,9 @@ def _journals(names: list[str], folders: Optional[Path]) -> list[Book]:
     return [book for name in names for book in shipped_books(Path(name), named_folders(folders))]
 
 
-def _read(store: Path, books: Iterable[Book], program: Optional[str]) -> list[tuple[str, int, str]]:
+def _read(store: Path, books: Iterable[Book], program: Path) -> list[tuple[str, int, str]]:
     """Each file that was read or run, with its length and its SHA-256."""
-    files = [store, store.with_name(f"{store.name}-wal"), *(Path(it) for book in books for it in book.files)]
-    files += [program_named(program)] if program else []
+    files = [store, store.with_name(f"{store.name}-wal"), *(Path(it) for book in books for it in book.files), program]
     return [(str(file), file.stat().st_size, digest_of_file(file)) for file in files if file.is_file()]
 
 
@@ -82,7 +82,7 @@ def _behind(store: Books, journals: Iterable[Book], period: Period) -> str:
 
 def _audit(_: Settings, args: argparse.Namespace) -> int:
     tested_period(args.from_time, args.to_time)
-    path, signer = Path(args.store), signer_of(args)
+    path, signer, program = Path(args.store), signer_of(args), program_named(args.program)
     if signer and not args.html:
         raise BadSettings("there is no page to be signed", "Give --html FILE.")
     journals, period = _journals(args.journals, args.folders), period_of(args.from_time, args.to_time)
@@ -91,11 +91,9 @@ def _audit(_: Settings, args: argparse.Namespace) -> int:
         site = digest_of_file(args.site) if args.site else ""
         audit = audit_of(books, journals, period, text_of(datetime.now(timezone.utc)), site)
         behind = _behind(books, journals, period) if audit.found else ""
-        if args.program:
-            found, audit.replayed = ask_again(args.program, journals, books)
-            audit.add(found)
+        ask_again(program, journals, books, audit)
     if args.html:
-        page = write(Path(args.html), as_html(audit, _read(path, journals, args.program)))
+        page = write(Path(args.html), as_html(audit, _read(path, journals, program)))
         if signer:
             signer.sign(Path(args.html), page)
     if args.csv:
@@ -106,7 +104,7 @@ def _audit(_: Settings, args: argparse.Namespace) -> int:
     print_shown(behind)
     if not audit.found and not audit.entries and not audit.held_lines:
         raise NoPeriod(*_nothing_of(period, journals))
-    return FOUND if audit.found else DONE
+    return FOUND if audit.found else NOT_FINISHED if audit.unfinished else DONE
 
 
 COMMANDS = [
