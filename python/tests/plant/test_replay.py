@@ -80,11 +80,15 @@ def test_shown(before, after, note, really, found):
 class Books:
     """What of a store the order of lines is looked up in: a customer with a pool of eight addresses."""
 
-    def __init__(self, seats, orders=()):
+    def __init__(self, seats, orders=(), chips=()):
+        self.chips = chips
         self.seats = {name: StoredSeat(name, "acme", last, "", "") for name, last in seats.items()}
         self.site_seats = dict.fromkeys(seats, "acme")
         self.pools = {"acme": [(0x020000000000, 8)]}
         self.orders = {("acme", it["name"]): it for it in orders}
+
+    def records(self, _):
+        return (("acme", {"issuer": issuer, "serial": serial}) for issuer, serial in self.chips)
 
 
 def line(number, at, path, reply=None, status=200, **asked):
@@ -130,6 +134,25 @@ def test_what_a_device_rests_on():
     }
     entries = [entry(1, "a1", "c", "registered"), entry(2, "a1", "c", "identified", "S002")]
     assert in_order(store, journals, entries) == [("a2", 1), ("a2", 2), ("a1", 1), ("a2", 3), ("a1", 2)]
+
+
+def test_an_import_waits_for_no_number_of_another_issuer():
+    """A chip has S001 of one issuer, and S001 of another was imported before that one's order was made."""
+    orders = ({**ORDER, "prefix": "S", "macs": 0, "mac": None, "name": it, "issuer": f"c{it}"} for it in "ab")
+    store = Books({"a1": 5, "a2": 1}, orders, [("ca", "S001")])
+    device = {"chip": "c", "order": "a", "map": hashlib.sha256(b"map").hexdigest()}
+    journals = {
+        "a1": lines(
+            line(1, "06:00", "order", name="a"),
+            line(2, "06:01", "map", text="map"),
+            line(3, "06:02", "device", **device),
+            line(4, "06:03", "identity", chip="c"),
+            line(5, "06:30", "order", name="b"),
+        ),
+        "a2": lines(line(1, "06:10", "import", issuer="cb", csv=f"serial,key_sha256\nS001,{64 * '0'}\n")),
+    }
+    entries = [entry(1, "a1", "c", "registered"), entry(2, "a1", "c", "identified", "S001")]
+    assert in_order(store, journals, entries) == [("a1", it) for it in range(1, 5)] + [("a2", 1), ("a1", 5)]
 
 
 def test_what_lacks_a_number_or_has_it_twice():
