@@ -10,6 +10,7 @@ from typing import Any, Iterator, Optional
 
 from wanekupo.chips import layout as recipe_wishes
 from wanekupo.common.errors import StationError
+from wanekupo.common.site_file import MARK
 
 # A key in a column: whether it is known, and the SHA-256 of its bytes.
 KEY_BYTES = 33
@@ -85,7 +86,9 @@ class FuseWords:
 
 
 def layout_of(text: str) -> FuseWords:
-    """The layout of a map's text. The server reads TOML 1.1, and this program 1.0."""
+    """The layout of a map's text, which a mark of the order of bytes may begin. The server reads TOML 1.1, and this
+    program 1.0."""
+    text = text.removeprefix(MARK)
     try:
         table = tomllib.loads(text)
         blocks = tuple(int(block["words"]) for block in table["block"])

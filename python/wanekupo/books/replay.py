@@ -91,8 +91,8 @@ class Answers:
     """What the program answers a customer's lines, and shows of his books behind them."""
 
     def __init__(self, customer: str, store: Books, requests: Requests, program: Program):
-        if any(whose == customer and not it.fields for (whose, _), it in store.layouts.items()):
-            raise NotWhole("one of its maps can't be read here")
+        if any(whose == customer for whose, _ in store.unread_maps()):
+            raise NotWhole("a map of its devices can't be read here")
         self._customer, self._store, self._requests, self._program = customer, store, requests, program
         self._keys, self._last, self.count = Keys(), dict[str, tuple[Done, str]](), 0
         self._bodies = Bodies(customer, store, self._keys)
