@@ -5,14 +5,14 @@ import hashlib
 import pytest
 
 from wanekupo.books.bodies import Keys, Shown
+from wanekupo.books.fuses import BadMap, layout_of
 from wanekupo.books.sequence import NotLaid, NotWhole, Requests
 from wanekupo.books.steps import Step
 from wanekupo.books.store_rows import LedgerRow, StoredSeat
 from wanekupo.chips.layout import Layout
 
 # A field that can be hidden beside the locks, and a key.
-LAYOUT = Layout(
-    """
+TEXT = """
 name = "one"
 wr = "WR"
 rd = "RD"
@@ -45,12 +45,21 @@ write = 0
 read = 1
 key = true
 """
-)
+LAYOUT = Layout(TEXT)
 ORDER = {"issuer": "ca", "width": 3, "first": 1, "quantity": 4, "macs": 1}
 
 
 def digest_of(bits):
     return hashlib.sha256(bits.to_bytes(4, "little")).hexdigest()
+
+
+@pytest.mark.parametrize(
+    ("word", "other"), [("words = 8", "words = 999999999999"), ("words = 1", "words = -1"), ("bit = 8", "bit = -8")]
+)
+def test_a_map_that_no_server_has_takes_no_memory(word, other):
+    assert layout_of(TEXT).bits_length() == 36
+    with pytest.raises(BadMap):
+        layout_of(TEXT.replace(word, other, 1))
 
 
 def test_keys():
