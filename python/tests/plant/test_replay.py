@@ -1,12 +1,14 @@
 """What an audit sends to the program once more: made-up keys, the words of a line's digests, and the order of lines."""
 
 import hashlib
+from types import SimpleNamespace
 
 import pytest
 
 from wanekupo.books.bodies import Keys, Shown
 from wanekupo.books.fuses import BadMap, layout_of
-from wanekupo.books.sequence import NotLaid, NotWhole, Requests
+from wanekupo.books.replay import Answers
+from wanekupo.books.sequence import Done, NotLaid, NotWhole, Requests
 from wanekupo.books.steps import Step
 from wanekupo.books.store_rows import LedgerRow, StoredSeat
 from wanekupo.chips.layout import Layout
@@ -162,6 +164,14 @@ def test_an_import_waits_for_no_number_of_another_issuer():
     }
     entries = [entry(1, "a1", "c", "registered"), entry(2, "a1", "c", "identified", "S001")]
     assert in_order(store, journals, entries) == [("a1", it) for it in range(1, 5)] + [("a2", 1), ("a1", 5)]
+
+
+@pytest.mark.parametrize(("length", "status"), [(65_536, 200), (65_537, 413)])
+def test_a_line_that_would_end_the_program(length, status):
+    """The server answers a longer body as 3, and ends the connection: the other customers' lines would get no reply."""
+    program = SimpleNamespace(ask=lambda *_: (200, "{}"))
+    answers = Answers("acme", SimpleNamespace(unread_maps=lambda: ()), SimpleNamespace(repeated=[]), program)
+    assert answers._done(Done("a1", line(1, "06:00", "import")), length * b" ")[0] == status
 
 
 def test_what_lacks_a_number_or_has_it_twice():
