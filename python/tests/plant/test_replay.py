@@ -7,6 +7,7 @@ import pytest
 
 from wanekupo.books.bodies import Keys, Shown
 from wanekupo.books.fuses import BadMap, layout_of
+from wanekupo.books.program import Program
 from wanekupo.books.replay import Answers
 from wanekupo.books.sequence import Done, NotLaid, NotWhole, Requests
 from wanekupo.books.steps import Step
@@ -172,6 +173,17 @@ def test_a_line_that_would_end_the_program(length, status):
     program = SimpleNamespace(ask=lambda *_: (200, "{}"))
     answers = Answers("acme", SimpleNamespace(unread_maps=lambda: ()), SimpleNamespace(repeated=[]), program)
     assert answers._done(Done("a1", line(1, "06:00", "import")), length * b" ")[0] == status
+
+
+def test_a_long_ledger(tmp_path):
+    """A bench that reads a chip back again and again for some days makes a ledger longer than other replies."""
+    head, length = "HTTP/1.1 200 OK\\r\\nContent-Length: 5000000\\r\\n\\r\\n", 5_000_000
+    lines = f"import sys\nprint('{head}' + {length} * 'x', end='', flush=True)\nsys.stdin.read()\n"
+    (tmp_path / "program").write_text(f"#!/usr/bin/python3\n{lines}")
+    (tmp_path / "program").chmod(0o755)
+    with Program(tmp_path / "program", "", tmp_path) as running:
+        status, text = running.ask("t", "GET", "/v1/ledger?chip=240ac4000001")
+    assert (status, len(text)) == (200, length)
 
 
 def test_what_lacks_a_number_or_has_it_twice():
