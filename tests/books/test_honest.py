@@ -1,5 +1,5 @@
 """Honest plants of which an audit that has the program answer all lines once more finds nothing: two issuers that have
-the same numbers, and maps that the program reads, and Python's TOML 1.0 doesn't."""
+the same numbers, and maps and rows of imports in words that the program reads, and a plain reader doesn't."""
 
 import hashlib
 
@@ -40,7 +40,13 @@ def other_map(it):
     it.ship("a1", chip_of(1), "one")
 
 
-@pytest.mark.parametrize("work", [two_issuers, marked_map, other_map])
+def other_ends(it):
+    """The lines of an import end as a spreadsheet has them."""
+    for number, end in enumerate(("\r", "\r\n", "\n")):
+        it.ask("a1", "import", issuer="acme-ca", csv=csv_of([(f"OLD-{number}", f"{number:064x}")]).replace("\n", end))
+
+
+@pytest.mark.parametrize("work", [two_issuers, marked_map, other_map, other_ends])
 def test_an_honest_plant(program, tmp_path, work):
     site = site_text().replace('issuer = ["acme-ca"]', 'issuer = ["acme-ca", "acme-old"]')
     (tmp_path / "site.toml").write_text(site, encoding="ascii")

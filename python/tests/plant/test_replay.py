@@ -13,6 +13,7 @@ from wanekupo.books.sequence import Done, NotLaid, NotWhole, Requests
 from wanekupo.books.steps import Step
 from wanekupo.books.store_rows import LedgerRow, StoredSeat
 from wanekupo.chips.layout import Layout
+from wanekupo.seat.import_rows import rows_of
 
 # A field that can be hidden beside the locks, and a key.
 TEXT = """
@@ -63,6 +64,11 @@ def test_a_map_that_no_server_has_takes_no_memory(word, other):
     assert layout_of(TEXT).bits_length() == 36
     with pytest.raises(BadMap):
         layout_of(TEXT.replace(word, other, 1))
+
+
+@pytest.mark.parametrize("end", ["\r", "\n", "\r\n", "\n\r"])
+def test_rows_of_lines_that_end_otherwise(end):
+    assert rows_of(f"serial,key_sha256{end}S1,k1{end}{end}S2,k2") == [("S1", "k1"), ("S2", "k2")]
 
 
 def test_keys():
