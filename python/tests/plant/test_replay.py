@@ -1,22 +1,24 @@
 """What an audit sends to the program once more: made-up keys, the words of a line's digests, and the order of lines."""
 
 import hashlib
+from types import SimpleNamespace
 
 import pytest
 
-from wanekupo.books.bodies import Keys, Shown
 from wanekupo.books.audit import Audit
-from wanekupo.books.program import Unanswered
-from wanekupo.books.replay import _ask_customer, _is_near
-from wanekupo.books.sequence import NotLaid, NotWhole, Requests
+from wanekupo.books.bodies import Keys, Shown
+from wanekupo.books.fuses import BadMap, layout_of
+from wanekupo.books.program import Program, Unanswered
+from wanekupo.books.replay import Answers, _ask_customer, _is_near
+from wanekupo.books.sequence import Done, NotLaid, NotWhole, Requests
 from wanekupo.books.shift import Period
 from wanekupo.books.steps import Step
 from wanekupo.books.store_rows import LedgerRow, StoredSeat
 from wanekupo.chips.layout import Layout
+from wanekupo.seat.import_rows import rows_of
 
 # A field that can be hidden beside the locks, and a key.
-LAYOUT = Layout(
-    """
+TEXT = """
 name = "one"
 wr = "WR"
 rd = "RD"
@@ -49,12 +51,26 @@ write = 0
 read = 1
 key = true
 """
-)
+LAYOUT = Layout(TEXT)
 ORDER = {"issuer": "ca", "width": 3, "first": 1, "quantity": 4, "macs": 1}
 
 
 def digest_of(bits):
     return hashlib.sha256(bits.to_bytes(4, "little")).hexdigest()
+
+
+@pytest.mark.parametrize(
+    ("word", "other"), [("words = 8", "words = 999999999999"), ("words = 1", "words = -1"), ("bit = 8", "bit = -8")]
+)
+def test_a_map_that_no_server_has_takes_no_memory(word, other):
+    assert layout_of(TEXT).bits_length() == 36
+    with pytest.raises(BadMap):
+        layout_of(TEXT.replace(word, other, 1))
+
+
+@pytest.mark.parametrize("end", ["\r", "\n", "\r\n", "\n\r"])
+def test_rows_of_lines_that_end_otherwise(end):
+    assert rows_of(f"serial,key_sha256{end}S1,k1{end}{end}S2,k2") == [("S1", "k1"), ("S2", "k2")]
 
 
 def test_keys():
@@ -84,11 +100,15 @@ def test_shown(before, after, note, really, found):
 class Books:
     """What of a store the order of lines is looked up in: a customer with a pool of eight addresses."""
 
-    def __init__(self, seats, orders=()):
+    def __init__(self, seats, orders=(), chips=()):
+        self.chips = chips
         self.seats = {name: StoredSeat(name, "acme", last, "", "") for name, last in seats.items()}
         self.site_seats = dict.fromkeys(seats, "acme")
         self.pools, self.layouts = {"acme": [(0x020000000000, 8)]}, {}
         self.orders = {("acme", it["name"]): it for it in orders}
+
+    def records(self, _):
+        return (("acme", {"issuer": issuer, "serial": serial}) for issuer, serial in self.chips)
 
 
 def line(number, at, path, reply=None, status=200, **asked):
@@ -157,6 +177,44 @@ def test_what_was_asked_again():
 def test_counts_of_an_import(added, present, unsure, is_near):
     """Of three rows the program found none. Another seat imported some of them at the same time."""
     assert _is_near({"added": 3, "present": 0}, {"added": added, "present": present}, unsure) is is_near
+
+
+def test_an_import_waits_for_no_number_of_another_issuer():
+    """A chip has S001 of one issuer, and S001 of another was imported before that one's order was made."""
+    orders = ({**ORDER, "prefix": "S", "macs": 0, "mac": None, "name": it, "issuer": f"c{it}"} for it in "ab")
+    store = Books({"a1": 5, "a2": 1}, orders, [("ca", "S001")])
+    device = {"chip": "c", "order": "a", "map": hashlib.sha256(b"map").hexdigest()}
+    journals = {
+        "a1": lines(
+            line(1, "06:00", "order", name="a"),
+            line(2, "06:01", "map", text="map"),
+            line(3, "06:02", "device", **device),
+            line(4, "06:03", "identity", chip="c"),
+            line(5, "06:30", "order", name="b"),
+        ),
+        "a2": lines(line(1, "06:10", "import", issuer="cb", csv=f"serial,key_sha256\nS001,{64 * '0'}\n")),
+    }
+    entries = [entry(1, "a1", "c", "registered"), entry(2, "a1", "c", "identified", "S001")]
+    assert in_order(store, journals, entries) == [("a1", it) for it in range(1, 5)] + [("a2", 1), ("a1", 5)]
+
+
+@pytest.mark.parametrize(("length", "status"), [(65_536, 200), (65_537, 413)])
+def test_a_line_that_would_end_the_program(length, status):
+    """The server answers a longer body as 3, and ends the connection: the other customers' lines would get no reply."""
+    program = SimpleNamespace(ask=lambda *_: (200, "{}"))
+    answers = Answers("acme", SimpleNamespace(unread_maps=lambda: ()), SimpleNamespace(repeated=[]), program)
+    assert answers._done(Done("a1", line(1, "06:00", "import")), length * b" ")[0] == status
+
+
+def test_a_long_ledger(tmp_path):
+    """A bench that reads a chip back again and again for some days makes a ledger longer than other replies."""
+    head, length = "HTTP/1.1 200 OK\\r\\nContent-Length: 5000000\\r\\n\\r\\n", 5_000_000
+    lines = f"import sys\nprint('{head}' + {length} * 'x', end='', flush=True)\nsys.stdin.read()\n"
+    (tmp_path / "program").write_text(f"#!/usr/bin/python3\n{lines}")
+    (tmp_path / "program").chmod(0o755)
+    with Program(tmp_path / "program", "", tmp_path) as running:
+        status, text = running.ask("t", "GET", "/v1/ledger?chip=240ac4000001")
+    assert (status, len(text)) == (200, length)
 
 
 def test_what_lacks_a_number_or_has_it_twice():

@@ -287,7 +287,8 @@ def _held(
         count = sum(bool(step.event) and step.is_done() and period.has(step.at) for step in it.book.steps)
         both = sum(lines[file] for file in it.book.files)
         last = store.seats[it.seat].last if it.seat in store.seats else 0
-        name = ", ".join(it.book.files)
+        first, *others = it.book.files
+        name = f"{first} and {len(others)} more, up to {others[-1]}" if others else first
         bare = sum(not step.answered for step in it.book.steps)
         yield Held(it.customer, it.seat, name, it.known, count, both, bare, numbers.get(it.seat, ""), last)
     for name in sorted(_without_journal(journals, store)):

@@ -2,6 +2,7 @@
 
 from __future__ import annotations
 
+from collections import Counter
 from typing import Sequence
 
 from wanekupo.books.audit import Audit
@@ -11,6 +12,9 @@ FOUND = ("kind", "time", "customer", "seat", "chip", "what")
 HELD = ("customer", "seat", "journal", "known", "lines", "matched", "unanswered", "numbers", "last")
 READ = ("file", "bytes", "sha256")
 NUMBERS = frozenset(("lines", "matched", "unanswered", "last", "bytes"))
+
+# The most rows of a kind and a seat: whoever writes a journal may write any number of wrong lines.
+MOST_TOLD = 1000
 
 # What each kind means, and what to do.
 KINDS = {
@@ -57,7 +61,14 @@ def read_table(files: Sequence[tuple[str, int, str]]) -> Table:
 
 
 def found_table(audit: Audit) -> Table:
-    rows = [(it.kind, it.at, it.customer, it.seat, it.chip, it.told) for it in audit.found]
+    """What was found: of each kind and seat the first ones, and how many more there are."""
+    rows, counts = list[tuple[str, ...]](), Counter[tuple[str, str, str]]()
+    for it in audit.found:
+        counts[whose := (it.kind, it.customer, it.seat)] += 1
+        rows += [(it.kind, it.at, it.customer, it.seat, it.chip, it.told)] if counts[whose] <= MOST_TOLD else []
+    for (kind, customer, seat), count in sorted(counts.items()):
+        more = (kind, "", customer, seat, "", f"{count - MOST_TOLD} more of this kind and seat")
+        rows += [more] if count > MOST_TOLD else []
     return Table("found", "Found", FOUND, rows, nothing="Nothing.")
 
 

@@ -10,9 +10,13 @@ from typing import Any, Iterator, Optional
 
 from wanekupo.chips import layout as recipe_wishes
 from wanekupo.common.errors import StationError
+from wanekupo.common.site_file import MARK
 
 # A key in a column: whether it is known, and the SHA-256 of its bytes.
 KEY_BYTES = 33
+
+# The most words of a map: four blocks of eight (docs/reference/program.md#limits). More would fill the memory.
+MOST_WORDS = 32
 
 
 class BadMap(StationError):
@@ -85,13 +89,18 @@ class FuseWords:
 
 
 def layout_of(text: str) -> FuseWords:
-    """The layout of a map's text. The server reads TOML 1.1, and this program 1.0."""
+    """The layout of a map's text, which a mark of the order of bytes may begin. The server reads TOML 1.1, and this
+    program 1.0."""
+    text = text.removeprefix(MARK)
     try:
         table = tomllib.loads(text)
         blocks = tuple(int(block["words"]) for block in table["block"])
+        if not 0 < min(blocks) <= sum(blocks) <= MOST_WORDS:
+            raise ValueError("it has more words than a map")
         keys = tuple((str(it["name"]), int(it["block"])) for it in table["field"] if it.get("key"))
         fields = recipe_wishes.Layout(text)
-        if not all(0 <= it.block and 0 < it.count <= 32 * blocks[it.block] - it.bit for it in fields.fields.values()):
+        its = fields.fields.values()
+        if not all(min(it.block, it.bit) >= 0 < it.count <= 32 * blocks[it.block] - it.bit for it in its):
             raise ValueError("a field lies in no block")
     except (ValueError, LookupError, TypeError, AttributeError) as error:
         raise BadMap(str(error)) from error

@@ -7,7 +7,7 @@ beside each other from the first to the last.
 from __future__ import annotations
 
 import difflib
-from collections import Counter, defaultdict
+from collections import Counter, defaultdict, deque
 from dataclasses import dataclass, field
 from itertools import takewhile
 from typing import Iterable, Optional, Sequence
@@ -18,6 +18,9 @@ from wanekupo.books.store_rows import Books, LedgerRow
 # A chip of a customer.
 Chip = tuple[str, str]
 NAMED, BY_DIGEST, BY_CHIPS, UNKNOWN = "by its name", "by its last request", "by its chips", "not known"
+
+# How many pairs of an entry and a line of one chip and seat are compared: a station may have read a chip for ever.
+MOST_COMPARED = 1 << 20
 
 
 @dataclass
@@ -130,9 +133,7 @@ def _lay(found: Matched, entries: list[LedgerRow], steps: list[Told]) -> None:
     found.pairs += first
     rest, own = entries[len(first) :], own[len(first) :]
     done = [it for it in own if it[1].is_done()]
-    said, asked = [_said(it) for it in rest], [(it.event, it.note) for _, it in done]
-    blocks = difflib.SequenceMatcher(None, said, asked, autojunk=False).get_matching_blocks()
-    places = {block.a + it: block.b + it for block in blocks for it in range(block.size)}
+    places = _places(list(map(_said, rest)), [(it.event, it.note) for _, it in done])
     found.pairs += [Pair(rest[one], done[other][1]) for one, other in places.items()]
     laid = {id(done[place][1]) for place in places.values()}
     maybe = [*own, *(it for it in steps if it[1].status is None and not it[1].is_stored and not it[1].is_lost)]
@@ -143,16 +144,30 @@ def _lay(found: Matched, entries: list[LedgerRow], steps: list[Told]) -> None:
     found.steps += [*(it for it in own if id(it[1]) not in laid and it[1].is_stored), *lost]
 
 
+def _places(said: Sequence[tuple[str, str]], asked: Sequence[tuple[str, str]]) -> dict[int, int]:
+    """Which entries are which lines, so that most are, and of both each is behind the one before. Of very many an entry
+    is the next line that says the same."""
+    if len(said) * len(asked) <= MOST_COMPARED:
+        blocks = difflib.SequenceMatcher(None, said, asked, autojunk=False).get_matching_blocks()
+        return {block.a + it: block.b + it for block in blocks for it in range(block.size)}
+    free = defaultdict[tuple[str, str], deque[int]](deque)
+    for place, words in enumerate(asked):
+        free[words].append(place)
+    return {place: free[words].popleft() for place, words in enumerate(said) if free[words]}
+
+
 def _lay_unanswered(
     found: Matched, entries: list[LedgerRow], steps: list[Told], laid: set[int], kind: str = ""
 ) -> list[LedgerRow]:
     """Lays entries beside lines of the same event whose reply says nothing, and gives those that are left."""
-    free, rest = [it for _, it in steps if not it.is_done()], []
+    free, rest = defaultdict[str, deque[Step]](deque), list[LedgerRow]()
+    for it in (it for _, it in steps if not it.is_done() and id(it) not in laid):
+        free[it.event].append(it)
     for entry in entries:
-        step = next((it for it in free if it.event == entry.row["event"] and id(it) not in laid), None)
-        if step is None:
+        if not (own := free[entry.row["event"]]):
             rest.append(entry)
             continue
+        step = own.popleft()
         laid.add(id(step))
         told = "a late copy of a request that was refused was accepted" if kind else ""
         found.pairs.append(Pair(entry, step, kind, told))
@@ -161,15 +176,27 @@ def _lay_unanswered(
 
 def _lay_others(found: Matched) -> None:
     """Lays what is left beside what is of the same event, and says in what they differ."""
-    rest, free = [], found.steps
+    rest, free = list[LedgerRow](), defaultdict[tuple[str, str, str], deque[Told]](deque)
+    for it, step in found.steps:
+        free[step.event, it.seat, ""].append((it, step))
+        free[step.event, "", step.note].append((it, step))
+    laid = set[int]()
     for entry in found.entries:
-        place = _fitting(entry, free)
-        if place is None:
+        event, note = _said(entry)
+        own = _next(free[event, entry.row["seat"], ""], laid) or _next(free[event, "", note], laid)
+        if own is None:
             rest.append(entry)
             continue
-        it, step = free.pop(place)
-        found.pairs.append(Pair(entry, step, *_difference(entry, it, step)))
-    found.entries = rest
+        laid.add(id(own[1]))
+        found.pairs.append(Pair(entry, own[1], *_difference(entry, *own)))
+    found.entries, found.steps = rest, [it for it in found.steps if id(it[1]) not in laid]
+
+
+def _next(lines: deque[Told], laid: set[int]) -> Optional[Told]:
+    """The first of some lines that isn't laid yet."""
+    while lines and id(lines[0][1]) in laid:
+        lines.popleft()
+    return lines[0] if lines else None
 
 
 def _difference(entry: LedgerRow, it: Seated, step: Step) -> tuple[str, str]:
@@ -181,12 +208,3 @@ def _difference(entry: LedgerRow, it: Seated, step: Step) -> tuple[str, str]:
     if entry.row["note"] != step.note:
         return "other_note", f"the note is {note} in the store, and {step.note or 'none'} in the journal"
     return "exchanged", "it is at another place in its ledger than its line in the journal"
-
-
-def _fitting(entry: LedgerRow, steps: list[Told]) -> Optional[int]:
-    """The place of a line of the same event that can be an entry's: of the same seat with another note, or of another
-    seat."""
-    same = [(place, it, step) for place, (it, step) in enumerate(steps) if step.event == entry.row["event"]]
-    of_seat = (place for place, it, _ in same if it.seat == entry.row["seat"])
-    of_note = (place for place, _, step in same if step.note == entry.row["note"])
-    return next(of_seat, next(of_note, None))

@@ -14,10 +14,10 @@ from typing import Any
 
 from wanekupo.common.errors import BadSettings, StationError
 from wanekupo.common.store_user import LONGEST, opened
-from wanekupo.seat.connection import LONGEST_REPLY
 
-# The longest line of a reply's head, the most lines of one, and how much is read of what it says in the end.
-LONGEST_LINE, MOST_FIELDS, SAID = 8192, 64, 200
+# The longest line of a reply's head, the most lines of one, and how much is read of what it says in the end. A reply is
+# longer than a server's may be: the ledger of a chip that a bench read back for days has some megabytes.
+LONGEST_LINE, MOST_FIELDS, SAID, LONGEST_REPLY = 8192, 64, 200, 1 << 28
 
 
 class Unanswered(StationError):

@@ -26,6 +26,7 @@ from wanekupo.books.steps import PATHS, REPLIED, WORKS, Book, Step
 from wanekupo.books.store_rows import Books, LedgerRow
 from wanekupo.common.texts import brief, compact_json
 from wanekupo.seat.forms import NO_END
+from wanekupo.seat.import_rows import LONGEST_BODY
 
 # How many faults of a customer are told.
 MOST_TOLD = 5
@@ -33,8 +34,9 @@ MOST_TOLD = 5
 # A member that replies of earlier servers lack where it is null, and those that depend on imports.
 LATER, COUNTED = "not_before", ("added", "present", "next")
 
-# What the server answers to a path that it doesn't have.
-UNKNOWN = '{"error":"unknown_path","no":7}'
+# What the server answers to a path that it doesn't have, and to a body that it doesn't read. Behind the latter it ends
+# the connection, and so its work for all customers.
+UNKNOWN, TOO_LARGE = (404, '{"error":"unknown_path","no":7}'), (413, '{"error":"too_large","no":3}')
 
 
 def ask_again(program: Path, books: Iterable[Book], store: Books, audit: Audit) -> None:
@@ -97,8 +99,8 @@ class Answers:
     """What the program answers a customer's lines, and shows of his books behind them."""
 
     def __init__(self, customer: str, store: Books, requests: Requests, program: Program):
-        if any(whose == customer and not it.fields for (whose, _), it in store.layouts.items()):
-            raise NotWhole("one of its maps can't be read here")
+        if any(whose == customer for whose, _ in store.unread_maps()):
+            raise NotWhole("a map of its devices can't be read here")
         self._customer, self._store, self._requests, self._program = customer, store, requests, program
         self._keys, self._last, self.count = Keys(), dict[str, tuple[Done, str]](), 0
         self._bodies, self._found, self.repeated = Bodies(customer, store, self._keys), list[Found](), requests.repeated
@@ -123,13 +125,19 @@ class Answers:
         status, text = self._program.ask(_token(seat), method, target, body)
         return status, self._keys.told(text)
 
+    def _done(self, done: Done, body: bytes) -> tuple[int, str]:
+        """The status and the body of the reply to a line."""
+        if done.step.path not in PATHS:
+            return UNKNOWN
+        return TOO_LARGE if len(body) > LONGEST_BODY else self._ask(done.seat, "POST", done.step.path, body)
+
     def _reply_faults(self, entries: list[LedgerRow]) -> Iterator[Found]:
         """In which lines a reply isn't the program's, up to one that it refuses."""
         try:
             for it in self._requests.in_order(entries):
                 body, unknown = self._bodies.body(it)
                 step, place = it.step, f"({it.step.place()})"
-                status, text = self._ask(it.seat, "POST", step.path, body) if step.path in PATHS else (404, UNKNOWN)
+                status, text = self._done(it, body)
                 for told in self._differences(it, text) if status == 200 else ():
                     yield self._fault(f"{told} {place}", it.seat, step.chip, step.at)
                 if it.later:

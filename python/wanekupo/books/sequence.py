@@ -107,7 +107,9 @@ class Requests:
             for row in imported_by(it.step):
                 self._importers[row].append(it)
         self._pools = [list(it) for it in store.pools.get(customer, ())]
-        self._made, self._given, self._to_come = set[str](), set[tuple[str, str]](), set[str]()
+        self._made, self._given = set[str](), set[tuple[str, str]]()
+        chips = store.records("WHERE g.chip IS NOT NULL")
+        self._to_come = {(row["issuer"], row["serial"]) for whose, row in chips if whose == customer}
         self._own: dict[str, deque[LedgerRow]] = defaultdict(deque)
         self._next, self._order_of = dict[str, int](), dict[str, str]()
         self._waited: dict[int, Step] = {}
@@ -128,7 +130,6 @@ class Requests:
     def in_order(self, entries: Sequence[LedgerRow]) -> Iterator[Done]:
         """One after another, in an order in which they may have been done. `entries` come in theirs."""
         steps = iter(entries)
-        self._to_come = {it.row["note"] for it in entries if it.row["event"] == "identified"}
         for it in entries:
             self._own[it.row["seat"]].append(it)
         entry = next(steps, None)
@@ -200,7 +201,7 @@ class Requests:
         if done.entry and step.event == "identified":
             return bool(self._next_of(self._order(self._order_of.get(step.chip, ""))) == done.entry.row["note"])
         if step.path == IMPORT:
-            return self._given.issuperset(it for it in imported_by(step) if it[1] in self._to_come)
+            return self._given.issuperset(it for it in imported_by(step) if it in self._to_come)
         order = self._order(str(step.asked.get("name"))) if step.path == ORDER else None
         if order is None:
             return True

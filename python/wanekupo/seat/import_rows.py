@@ -20,8 +20,9 @@ def csv_of(rows: Iterable[tuple[str, str]]) -> str:
 
 
 def rows_of(text: str) -> Rows:
-    """The rows of such a text, of any length. A U+FEFF in front and blank lines are passed over."""
-    reader = csv.reader(io.StringIO(text.removeprefix("\ufeff")))
+    """The rows of such a text, of any length. A U+FEFF in front and blank lines are passed over; CR, LF or both end a
+    line, as the server takes them."""
+    reader = csv.reader(io.StringIO(text.removeprefix("\ufeff"), newline=""))
     try:
         lines = [(reader.line_num, fields) for fields in reader if fields]
     except csv.Error as error:
