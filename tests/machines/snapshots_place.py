@@ -90,6 +90,14 @@ class Load(threading.Thread):
                 time.sleep(0.1)
             time.sleep(0.03)
 
+    def wait_acknowledged(self, seconds):
+        """Waits until its first request is answered: a seat that asked for nothing has no row in a store."""
+        end = time.monotonic() + seconds
+        while self.acknowledged < self.first:
+            if time.monotonic() > end or not self.is_alive():
+                raise Failed(f"no import was answered in {seconds} s")
+            time.sleep(0.02)
+
     def ask(self, members):
         """Whether a request was answered; one that wasn't is sent again, and done once."""
         caller = Caller(self.port, "abc")
@@ -184,6 +192,7 @@ class Bench:
 
     def backs_up(self, *more):
         """A backup, which has what was acknowledged before it and nothing that was asked behind it."""
+        self.load.wait_acknowledged(300)
         before = self.load.acknowledged
         done = self.backup(*more)
         after = self.load.asked

@@ -33,6 +33,7 @@ from pathlib import Path
 
 import pytest
 
+from machines.standby import words
 from machines.standby.guests import cut_all
 from machines.standby.image import Packages, python_files
 from machines.standby.pair import image_of
@@ -118,5 +119,6 @@ def test_planted_fault(made: Made, packages: Packages, folder: Path, seed: int, 
 def test_guest_is_prepared(program: Path, tmp_path: Path, name: str) -> None:
     """The commands and settings of the guests, with each planted fault: all that needs no package and no guest."""
     edits = PLANTS[name].edits if name in PLANTS else ()
-    image_of(Packages(tmp_path), tmp_path, [program], SLOWER, edits, is_made=False)
+    tree = image_of(Packages(tmp_path), tmp_path, [program], SLOWER, edits, is_made=False).tree
+    assert (tree / words.HANDLER).read_text("utf-8").splitlines().count(words.WAITS) == 1
     assert len(python_files()) > 100

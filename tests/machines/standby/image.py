@@ -20,6 +20,7 @@ HERE = Path(__file__).resolve().parent / "guest"
 DEPLOYED = ROOT / "deploy/standby"
 # Where the package has its modules, and a command of it, by the module and the function that it runs.
 PACKAGE = "usr/lib/python3/dist-packages"
+STANDBY = f"{PACKAGE}/wanekupo/standby"
 COMMAND = "#!/usr/bin/python3 -IB\nimport sys\n\nfrom {} import {}\n\nsys.exit({}())\n"
 # The words of before, which units, pages and DRBD's handler name.
 CALLS = {f"standby/{it}": f"station-standby {it}" for it in ("takeover", "stepdown", "other-is-off", "fence-peer",

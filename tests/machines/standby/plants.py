@@ -6,10 +6,9 @@ second time together with that test taken away, so that both lines of defence ar
 
 from dataclasses import dataclass
 
-from machines.standby.image import Edit
+from machines.standby.image import STANDBY, Edit
 from machines.standby.pair import SAMPLE, SECRET
 
-STANDBY = "usr/lib/python3/dist-packages/wanekupo/standby"
 RESOURCE = "etc/drbd.d/station.res"
 # Takes away the takeover's test of what DRBD runs with.
 UNTESTED: Edit = (f"{STANDBY}/takeover.py", "    needs.test_resource(half)\n", "")

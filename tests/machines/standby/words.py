@@ -3,12 +3,14 @@ plant's own power switch, or a person who comes later than DRBD's tool waits."""
 
 import time
 
-from machines.standby.pair import SCRIPTS, SEEN
+from machines.standby.image import STANDBY
+from machines.standby.pair import SEEN
 from machines.standby.place import Cut, Place, back, is_alone
 from machines.standby.power import PowerSwitch
 from machines.standby.scenarios import NO_WORD
 
-# How long DRBD's handler waits for a word, and how long it does where that is tried: it's the same script.
+# How long DRBD's handler waits for a word, by a line of a file, and how long it does where that is tried.
+HANDLER = f"{STANDBY}/fence_peer.py"
 WAITS, SHORT = "LONGEST = 570", "LONGEST = 20"
 # How much longer `other-is-off` waits for a handler that may be there.
 LATE = 90
@@ -84,7 +86,7 @@ def fence_fails(place: Place) -> None:
 def frozen_long(place: Place) -> None:
     """DRBD's handler has ended, as nobody said anything: a cable that is mended then, and a word that comes then."""
     for guest in (place.first, place.second):
-        guest.ask(f"grep -q '^{WAITS}$' {SCRIPTS}/fence-peer && sed -i 's/^{WAITS}$/{SHORT}/' {SCRIPTS}/fence-peer")
+        guest.ask(f"grep -q '^{WAITS}$' /{HANDLER} && sed -i 's/^{WAITS}$/{SHORT}/' /{HANDLER}")
     place.work()
     mended(place, Cut("cable, mended behind the handler's end", seen=frozen_until_ended(place)))
     place.work()
