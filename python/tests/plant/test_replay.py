@@ -105,6 +105,7 @@ class Books:
         self.seats = {name: StoredSeat(name, "acme", last, "", "") for name, last in seats.items()}
         self.site_seats = dict.fromkeys(seats, "acme")
         self.pools, self.layouts = {"acme": [(0x020000000000, 8)]}, {}
+        self.unread_maps = tuple
         self.orders = {("acme", it["name"]): it for it in orders}
 
     def records(self, _):
