@@ -5,7 +5,7 @@ from types import SimpleNamespace
 
 import pytest
 
-from wanekupo.books.audit import Audit
+from wanekupo.books.audit import Audit, Found
 from wanekupo.books.bodies import Keys, Shown
 from wanekupo.books.fuses import BadMap, layout_of
 from wanekupo.books.program import Program, Unanswered
@@ -205,6 +205,15 @@ def test_a_line_that_would_end_the_program(length, status):
     program = SimpleNamespace(ask=lambda *_: (200, "{}"))
     answers = Answers("acme", SimpleNamespace(unread_maps=lambda: ()), SimpleNamespace(repeated=[]), program)
     assert answers._done(Done("a1", line(1, "06:00", "import")), length * b" ")[0] == status
+
+
+def test_what_is_found_of_a_seat_hides_no_other():
+    """Whoever writes the journal of a1 makes any number of wrong replies there, and one of b1's is told all the same."""
+    answers = Answers("acme", SimpleNamespace(unread_maps=lambda: ()), SimpleNamespace(repeated=[]), None)
+    wrong = [Found("replay", "", "acme", "a1", "", f"reply {it}") for it in range(9)]
+    answers._found += [*wrong, Found("replay", "", "acme", "b1", "", "a reply")]
+    assert [(it.seat, it.told.split(" ")[0]) for it in answers.told()] == [
+        *(("a1", "reply") for _ in range(5)), ("b1", "a"), ("a1", "4")]  # fmt: skip
 
 
 def test_a_long_ledger(tmp_path):

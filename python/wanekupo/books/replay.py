@@ -11,7 +11,7 @@ import contextlib
 import hashlib
 import json
 import tempfile
-from collections import defaultdict
+from collections import Counter, defaultdict
 from pathlib import Path
 from typing import Any, Iterable, Iterator, Mapping
 from urllib.parse import quote
@@ -28,7 +28,7 @@ from wanekupo.common.texts import brief, compact_json
 from wanekupo.seat.forms import NO_END
 from wanekupo.seat.import_rows import LONGEST_BODY
 
-# How many faults of a customer are told.
+# How many faults of a seat are told.
 MOST_TOLD = 5
 
 # A member that replies of earlier servers lack where it is null, and those that depend on imports.
@@ -113,10 +113,16 @@ class Answers:
             self._found.extend(self._paper_faults())
             self._found.extend(self._row_faults(entries))
 
-    def told(self) -> list[Found]:
-        """The first faults, and how many more there are: they may follow from these."""
-        more = f"{len(self._found) - MOST_TOLD} more replies and rows aren't what the program makes of these lines"
-        return self._found[:MOST_TOLD] + [self._fault(more)] * (len(self._found) > MOST_TOLD)
+    def told(self) -> Iterator[Found]:
+        """The first faults of each seat and of the store's rows, and how many more there are: they may follow from
+        these. One seat's hide no other's."""
+        counts = Counter[str]()
+        for it in self._found:
+            counts[it.seat] += 1
+            yield from [it] if counts[it.seat] <= MOST_TOLD else ()
+        for seat, count in counts.items():
+            more = f"{count - MOST_TOLD} more replies and rows aren't what the program makes of these lines"
+            yield from [self._fault(more, seat)] if count > MOST_TOLD else ()
 
     def _fault(self, told: str, seat: str = "", chip: str = "", at: str = "") -> Found:
         return Found("replay", at, self._customer, seat, chip, told)
