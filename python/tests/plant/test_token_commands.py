@@ -2,7 +2,6 @@
 
 import os
 import re
-import signal
 import stat
 import sys
 import tomllib
@@ -499,21 +498,3 @@ def test_on_one_machine_alone_nothing_is_left(file, tmp_path, monkeypatch):
         monkeypatch.setattr(token, "SETTINGS", settings)
         monkeypatch.setattr(token, "read_settings", lambda tokens=tokens: StandbySettings(tokens=str(tokens)))
         assert token.left_to_the_other(file, seats()) is None
-
-
-@pytest.mark.parametrize("number", [signal.SIGHUP, signal.SIGINT, signal.SIGTERM])
-def test_a_signal_waits_until_nginx_has_it(file, monkeypatch, number):
-    """Whoever types `revoke` and loses the line in the middle has the token end: its file alone says nothing."""
-    put(file, tokens_text(Tokens({"a1": A1}, [outer(1)])))
-    told, left = file.with_name("told"), file.with_name("left")
-    monkeypatch.setattr(token, "test_nginx", lambda _: (os.kill(os.getpid(), number), (True, ""))[1])
-    monkeypatch.setattr(token, "reload_nginx", lambda *_: told.touch() or "")
-    monkeypatch.setattr(token, "left_to_the_other", lambda *_: left.touch())
-    child = os.fork()
-    if not child:
-        signal.signal(number, signal.SIG_DFL)
-        token.run_token(token.token_parser().parse_args(["--file", str(file), "revoke", "a1"]))
-        os._exit(0)
-    _, status = os.waitpid(child, 0)
-    assert os.WIFSIGNALED(status) and os.WTERMSIG(status) == number, "the run ends by it"
-    assert told.exists() and left.exists() and tokens_of(read(file), file).outers[0].ended == NOW
