@@ -254,6 +254,13 @@ class BenchCase(StationCase):
         """The command of a socket, whose chip is the file in its place."""
         return [sys.executable, "-B", str(SIMULATED), "--path-efuse-file", str(self.folder / "places" / name)]
 
+    def other_tool(self, instead, after=0):
+        """The simulated chip, which does something else in place of what it is to burn, after so many times."""
+        words, count = f"{sys.executable} {self.socket_of('left')[2]}", self.folder / "burnt"
+        count.unlink(missing_ok=True)
+        other = f'echo >> {count}\n[ $(wc -l < {count}) -le {after} ] || exec {words} "$1" "$2" {instead}'
+        return script(self.folder / "tool", f'case "$*" in *execute_scripts*) {other};; esac\nexec {words} "$@"\n')
+
     def recipe(self, url=None, hooks=None, wishes=None, top=None, server=None, sockets=None, stop=3):
         """The recipe's file."""
         key = {"kind": "key", "field": "BLOCK1", "file": "flash.key", "burnt_as": "flash_encryption"}

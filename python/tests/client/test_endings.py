@@ -12,7 +12,6 @@ import os
 import re
 import socket
 import subprocess
-import sys
 import time
 import unittest
 from pathlib import Path
@@ -227,13 +226,6 @@ class Endings(BenchCase):
             self.assertEqual(bench.ended("left")[2], sentence)
             self.take("left", mac)
         self.assertEqual((bench.board()["shift"]["passed"], bench.board()["shift"]["failed"]), (2, {}))
-
-    def other_tool(self, instead, after=0):
-        """The simulated chip, which does something else in place of what it is to burn, after so many times."""
-        words, count = f"{sys.executable} {self.socket_of('left')[2]}", self.folder / "burnt"
-        count.unlink(missing_ok=True)
-        other = f'echo >> {count}\n[ $(wc -l < {count}) -le {after} ] || exec {words} "$1" "$2" {instead}'
-        return script(self.folder / "tool", f'case "$*" in *execute_scripts*) {other};; esac\nexec {words} "$@"\n')
 
     def test_espefuse_that_fails(self):
         """No chip, no command, no chip of the family, a port that went, one that is silent behind its
