@@ -208,7 +208,7 @@ def test_a_line_that_would_end_the_program(length, status):
 
 
 def test_what_is_found_of_a_seat_hides_no_other():
-    """Whoever writes the journal of a1 makes any number of wrong replies there, and one of b1's is told all the same."""
+    """Whoever writes the journal of a1 makes any number of wrong replies there. One of b1's is told all the same."""
     answers = Answers("acme", SimpleNamespace(unread_maps=lambda: ()), SimpleNamespace(repeated=[]), None)
     wrong = [Found("replay", "", "acme", "a1", "", f"reply {it}") for it in range(9)]
     answers._found += [*wrong, Found("replay", "", "acme", "b1", "", "a reply")]

@@ -15,6 +15,7 @@ NOW = "2026-06-15T12:00"
 A1 = TokenSeat("a1", "acme", "abc")
 OUTER = Outer(number=1, seat="a1", token="a1:1", looks=False, mark="0" * 12, since=NOW, text=f"wanekupo_{1:064x}")
 
+
 @pytest.mark.parametrize("number", [signal.SIGHUP, signal.SIGINT, signal.SIGTERM])
 def test_a_signal_waits_until_nginx_has_it(tmp_path: Path, monkeypatch: pytest.MonkeyPatch, number: int) -> None:
     """Whoever types `revoke` and loses the line in the middle has the token end: its file alone says nothing."""
