@@ -22,6 +22,7 @@ from commanding import ran
 from wanekupo.cli.main import COMMANDS
 from wanekupo.metrics.exposition import METRICS, Samples
 from wanekupo.metrics.hours import shift_hours
+from wanekupo.plant.token import COMMANDS as TOKEN_COMMANDS
 
 DEPLOYED = ROOT / "deploy" / "prometheus"
 LOST_MAC = "240ac4000002"
@@ -439,7 +440,6 @@ class Form(unittest.TestCase):
     def test_cards(self):
         """A card has nine points at most and then a command, alone, that is there."""
         cards = (ROOT / "docs/how-to/cards.md").read_text(encoding="utf-8").split("\n## ")[1:]
-        tokens = (ROOT / "python/wanekupo/plant/token.py").read_text(encoding="utf-8")
         for card in cards:
             name, _, body = card.partition("\n")
             *points, command = body.strip().split("\n\n")
@@ -450,7 +450,7 @@ class Form(unittest.TestCase):
             if word == "wanekupo":
                 self.assertIn(named, [row.name for row in COMMANDS], name)
             elif word == "station-token":
-                self.assertIn(f'\n    "{named}": ', tokens, name)
+                self.assertIn(named, TOKEN_COMMANDS, name)
         self.assertLessEqual({"Server away", "Chip red", "Token leaked"}, {it.partition("\n")[0] for it in cards})
 
     def test_labels(self):
