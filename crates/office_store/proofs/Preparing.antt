@@ -6,10 +6,11 @@ use Rattle.office_sql.proofs.Kit.{Database, Held, state, State, HasCleanDisk, Is
 use Rattle.sqlite.specs.Store.{Ghosts}
 use Rattle.office_tables.specs.Prelude.{Tables}
 use Rattle.office_sql.specs.Prelude.{IsUndone, no_schema, IsOffice, office_over, tables_in}
+use Rattle.office_store.specs.declared.bring.Found.TheVariants.{Nothing, Earlier, Today}
 use Rattle.office_store.proofs.Types.{Absent, Make, Refuse, OpenFault, Failed, Version, V1, V3}
 use Rattle.office_store.specs.Prelude.{AreWithoutNotBefore, CanPrepareTables, CanTake, Examines, IsApartAt, IsFoundAt, IsGrowable, IsOtherSchema, IsRefusedFor}
-use Rattle.office_store.specs.Prelude.{IsPreparedFor, IsTakenFor, LeavesAtMost, PreparesTables, StaysWithoutNotBefore, TakesGrowth, TakesOwn, HasGrown, IsGrown}
-use Rattle.office_store.specs.Prelude.{IsBegun, IsCreated, HasSchema, IsNoStore, IsStore, IsTaken, LacksStore, IsGrownFrom, IsUntouched, IsUpgrade, IsUpgraded}
+use Rattle.office_store.specs.Prelude.{IsPreparedFor, IsTakenFor, LeavesAtMost, PreparesTables, StaysWithoutNotBefore, TakesGrowth, TakesOwn, IsGrown}
+use Rattle.office_store.specs.Prelude.{IsBegun, IsBrought, HasSchema, IsNoStore, IsStore, IsTaken, LacksStore, IsGrownFrom, IsUntouched, IsUpgrade}
 use Rattle.store_inspection.specs.Prelude.{HasApartAddresses, IsFound, Tests, HoldsSite, HasMeta, HoldsSiteText, schema_of}
 use Rattle.office_sql.proofs.Asked.{was_clean}
 use Rattle.office_store.proofs.FoundValidity.{office_of, without_not_before_of}
@@ -128,7 +129,7 @@ module _ {S : Type 0} (g : Ghosts S) (site : TextOfSite) (old new : Held S) (cal
     nothing clean = can.bare (was_clean _ _ _ survives clean) bare
 
     -- the tables were made
-    pub made : (HasCleanDisk (state g new) → IsCreated site.text (state g old) (state g new)) → PreparesTables g site old new (Ok tt)
+    pub made : (HasCleanDisk (state g new) → IsBrought Nothing site.text (state g old) (state g new)) → PreparesTables g site old new (Ok tt)
     made created = record {
       mode = mode;
       ready = λ clean. (
@@ -136,14 +137,14 @@ module _ {S : Type 0} (g : Ghosts S) (site : TextOfSite) (old new : Held S) (cal
         record {
           mode = mode;
           office = λ up.
-              (created clean).begun.office;
+              (created clean).brought.office;
           shows_committed = λ up. sym (created clean).committed;
         },
       );
       was = λ clean absent has. taken_none absent (state g old).now bare (nothing clean) has;
       takes = λ clean.
           let none = (nothing clean).nothing in
-          let fresh = (created clean).begun.fresh in
+          let fresh = (created clean).brought.fresh in
           record {
             tells = fresh.tells;
             grown = λ older tells. absurd (not_silent V3 (sha256 older) (state g old).now.trees none.silent tells.named);
@@ -188,14 +189,14 @@ module _ {S : Type 0} (g : Ghosts S) (site : TextOfSite) (old new : Held S) (cal
     before_upgrade = was_clean (state g old) (state g new) _ survives
 
     -- the store was upgraded
-    pub upgraded : (HasCleanDisk (state g new) → IsUpgraded version site.text (state g old) (state g new)) → PreparesTables g site old new (Ok tt)
+    pub upgraded : (HasCleanDisk (state g new) → IsBrought (Earlier version) site.text (state g old) (state g new)) → PreparesTables g site old new (Ok tt)
     upgraded it = record {
       mode = mode;
-      ready = λ clean. ((it clean).is_open, record { mode = mode; office = λ up. (it clean).upgrade.office; shows_committed = λ up. sym (it clean).committed });
+      ready = λ clean. ((it clean).is_open, record { mode = mode; office = λ up. (it clean).brought.office; shows_committed = λ up. sym (it clean).committed });
       was = λ clean absent has. taken_store absent (state g old).now.trees (earlier_store (before_upgrade clean));
       takes = λ clean.
           let before = before_upgrade clean in
-          let upgrade = (it clean).upgrade in
+          let upgrade = (it clean).brought in
           record {
             tells = record { holds = upgrade.holds; named = upgrade.told (sha256 site.text) (told before) };
             grown = λ older tells.
@@ -244,14 +245,14 @@ module _ {S : Type 0} (g : Ghosts S) (site : TextOfSite) (old new : Held S) (cal
       before_growth = was_clean (state g old) (state g new) _ survives
 
       -- the text was put in the place of another
-      pub grew : (HasCleanDisk (state g new) → HasGrown site.text (state g old) (state g new)) → PreparesTables g site old new (Ok tt)
+      pub grew : (HasCleanDisk (state g new) → IsBrought Today site.text (state g old) (state g new)) → PreparesTables g site old new (Ok tt)
       grew it = record {
         mode = mode;
-        ready = λ clean. ((it clean).is_open, record { mode = mode; office = λ up. (it clean).grown.office; shows_committed = λ up. sym (it clean).committed });
+        ready = λ clean. ((it clean).is_open, record { mode = mode; office = λ up. (it clean).brought.office; shows_committed = λ up. sym (it clean).committed });
         was = λ clean absent has. taken_store absent (state g old).now.trees (v3_store (before_growth clean));
         takes = λ clean.
             let before = before_growth clean in
-            let grown = (it clean).grown in
+            let grown = (it clean).brought in
             taken_again (state g old).now.trees (state g new).now.trees (can before).1 grown.tells
             (apart_grown site.text (state g old).now.trees (state g new).now grown (apart before)) grown.tables;
         refused = tt;

@@ -12,12 +12,10 @@ ghost use Rattle.sha2.specs.Sha256.{sha256};
 ghost use Rattle.site_core.specs.Prelude.{TextOfSite};
 
 use crate::SqlKeep;
-use crate::create::make_tables;
+use crate::bring::{Found, bring};
 use crate::fault::OpenFault;
-use crate::grow::grow_text;
 use crate::opening::{Absent, prepare_or_hand_back};
 use crate::reread::reread;
-use crate::upgrade::upgrade_tables;
 use site_core::{Site, SiteFault, SiteText, read_site};
 use sqlite::{Alter, Connection, Error, Row};
 use std::alloc::Global;
@@ -156,7 +154,7 @@ fn grow<S: Alter>(conn: &mut Connection<S>, site: &SiteText) -> Result<(), OpenF
         → ¬ HoldsSiteText site.now.text (state S.Store conn.old).now.trees }
     ensures { PreparesTables S.Store site.now conn.old conn.new result }
 {
-    match grow_text(conn, site) {
+    match bring(conn, site, Found::Today) {
         Ok(()) => Ok(()),
         Err(_) => Err(OpenFault::Failed),
     }
@@ -211,7 +209,7 @@ fn find_earlier<S: Alter>(
     ensures { PreparesTables S.Store site.now conn.old conn.new result }
 {
     test_earlier(conn, site, version)?;
-    upgrade_tables(conn, site.text(), version)?;
+    bring(conn, site, Found::Earlier(version))?;
     Ok(())
 }
 
@@ -292,7 +290,7 @@ pub(crate) fn prepare_tables<S: Alter>(
         → result ≡ Err OpenFault.OtherTables }
 {
     if is_empty_schema(conn.schema()) {
-        make_tables(conn, site)?;
+        bring(conn, site, Found::Nothing)?;
         return Ok(());
     }
     match version_of(conn.schema()) {

@@ -4,8 +4,9 @@ use Rattle.sqlite.specs.Store.{Ghosts}
 use Rattle.sha2.specs.Sha256.{sha256}
 use Rattle.site_core.specs.Prelude.{TextOfSite}
 use Rattle.office_sql.specs.Prelude.{IsUndone, office_over}
+use Rattle.office_store.specs.declared.bring.Found.TheVariants.{Earlier}
 use Rattle.office_store.proofs.Types.{Failed, Version, V3}
-use Rattle.office_store.specs.Prelude.{Examines, IsFoundAt, IsTestedFor, IsUpgrade, IsUpgraded, PreparesTables}
+use Rattle.office_store.specs.Prelude.{Examines, IsFoundAt, IsTestedFor, IsBrought, IsUpgrade, PreparesTables}
 use Rattle.office_store.proofs.Refusals.{found_after, is_err, says_of}
 use Rattle.office_store.proofs.Preparing.{not_upgraded, prepared_after, refused, upgraded}
 use Rattle.office_store.proofs.adopting.find_earlier.Goals as goal
@@ -26,42 +27,36 @@ module _ {S : Type 0} (g : Ghosts S) (site : TextOfSite) (version : Version) (ol
 
   -- a store that was tested is upgraded, or it isn't
   module _ (earlier : version ≢ V3) (new : Held S) (calm : IsTrue (state g new).is_open → HasCleanDisk (state g new))
-      (mode : new.in_transaction ≡ false) (text : List ℕ) (same : text ≡ site.text) (survives : Leaves g mid new version text) where
-    done : (HasCleanDisk (state g new) → IsUpgraded version text (state g mid) (state g new)) → PreparesTables g site old new (Ok tt)
+      (mode : new.in_transaction ≡ false) (survives : Leaves g mid new version site.text) where
+    done : (HasCleanDisk (state g new) → IsBrought (Earlier version) site.text (state g mid) (state g new)) → PreparesTables g site old new (Ok tt)
     done it = prepared_after g site old mid new (Ok tt) (IsTestedFor (sha256 site.text) version) test
-        (upgraded g site mid new calm version earlier found (λ clean. (says clean).0.1) (λ clean. (says clean).1) mode
-        (subst (Leaves g mid new version) same survives)
-        (subst (λ t. HasCleanDisk (state g new) → IsUpgraded version t (state g mid) (state g new)) same it))
+        (upgraded g site mid new calm version earlier found (λ clean. (says clean).0.1) (λ clean. (says clean).1) mode survives it)
 
     undone : (HasCleanDisk (state g new) → IsUndone (state g mid) (state g new)) → PreparesTables g site old new (Err Failed)
     undone it = prepared_after g site old mid new (Err Failed) (IsTestedFor (sha256 site.text) version) test
-        (not_upgraded g site mid new calm version earlier found (λ clean. (says clean).0.1) (λ clean. (says clean).1) mode
-        (subst (Leaves g mid new version) same survives) it)
+        (not_upgraded g site mid new calm version earlier found (λ clean. (says clean).0.1) (λ clean. (says clean).1) mode survives it)
 
-pub upgrade_tables-requires : goal.upgrade_tables-requires
-upgrade_tables-requires g c =
+pub bring-requires : goal.bring-requires
+bring-requires g c =
     let site = c.args.site.now in
     let mid = c.test_earlier.new.conn in
     let test = c.in_ok-test_earlier.ensures in
     let clean = clean_if_open (g.S.Store.view mid.store) (g.met.S.Store.shut_if_dirty mid.store) in
     let is = says g.S.Store site c.args.version c.args.conn.now mid c.requires.can.shows_committed test in
     record {
-      can = record {
-        earlier = c.requires.earlier;
-        found = λ up. (is (clean up)).0.0;
-        told = λ up. (sha256 site.text, (is (clean up)).1);
-        validity = λ later up. (is (clean up)).2 later;
-      };
+      can = λ up.
+          let tested = is (clean up) in
+          record { earlier = c.requires.earlier; found = tested.0.0; told = tested.1; validity = tested.2 };
       mode = test.mode;
       shows_committed = λ up. (found g.S.Store site c.args.version c.args.conn.now mid c.requires.can.shows_committed test).shows_committed (clean up);
     }
 
 pub returns : goal.returns
 returns g c =
-    let new = c.upgrade_tables.new.conn in
-    let it = c.in_ok-upgrade_tables.ensures in
+    let new = c.bring.new.conn in
+    let it = c.in_ok-bring.ensures in
     done g.S.Store c.args.site.now c.args.version c.args.conn.now c.test_earlier.new.conn c.requires.can.shows_committed c.in_ok-test_earlier.ensures
-    c.requires.earlier new (clean_if_open (g.S.Store.view new.store) (g.met.S.Store.shut_if_dirty new.store)) it.mode _ c.text.ensures.same it.crash it.ok
+    c.requires.earlier new (clean_if_open (g.S.Store.view new.store) (g.met.S.Store.shut_if_dirty new.store)) it.mode it.crash it.ok
 
 pub returns-in_err-test_earlier : goal.returns-in_err-test_earlier
 returns-in_err-test_earlier g c =
@@ -71,13 +66,13 @@ returns-in_err-test_earlier g c =
     (clean_if_open (g.S.Store.view conn.store) (g.met.S.Store.shut_if_dirty conn.store)) _ _
     c.in_err-test_earlier.ensures)
 
-pub returns-in_err-upgrade_tables : goal.returns-in_err-upgrade_tables
-returns-in_err-upgrade_tables g c =
+pub returns-in_err-bring : goal.returns-in_err-bring
+returns-in_err-bring g c =
     let site = c.args.site.now in
     let old = c.args.conn.now in
-    let new = c.upgrade_tables.new.conn in
-    let it = c.in_err-upgrade_tables.ensures in
-    let told = c.from_residual-in_err-upgrade_tables in
+    let new = c.bring.new.conn in
+    let it = c.in_err-bring.ensures in
+    let told = c.from_residual-in_err-bring in
     is_err (λ r. PreparesTables g.S.Store site old new r) told.result Failed told.ensures.1
     (undone g.S.Store site c.args.version old c.test_earlier.new.conn c.requires.can.shows_committed c.in_ok-test_earlier.ensures
-    c.requires.earlier new (clean_if_open (g.S.Store.view new.store) (g.met.S.Store.shut_if_dirty new.store)) it.mode _ c.text.ensures.same it.crash it.err)
+    c.requires.earlier new (clean_if_open (g.S.Store.view new.store) (g.met.S.Store.shut_if_dirty new.store)) it.mode it.crash it.err)
