@@ -2,6 +2,7 @@
 use Rattle.std.proofs.Common.{◌≡◌, ◌≢◌, ◌<◌, ◌≤◌, ◌∙◌, ℕ, List, [], drop, map, sym, ap, subst, refl, arith, IsTrue}
 use Rattle.sha2.specs.Sha256.{sha256}
 use Rattle.office_sql.proofs.Kit.{Database, IsDatabase, State}
+use Rattle.site_core.specs.Prelude.{TextOfSite}
 use Rattle.sqlite.specs.Store.{Ghosts}
 use Rattle.office_sql.proofs.Names.{first_by_name}
 use Rattle.office_sql.proofs.Offices.{table_changed, both_validity_rows}
@@ -9,14 +10,15 @@ use Rattle.office_sql.specs.Prelude.{OfficeTable, meta, site_texts, no_schema, p
 use Rattle.store_inspection.specs.Prelude.{meta_in, HasMeta, HoldsSite, HoldsSiteText, IsBeforeV1, IsFound, IsOnlyText, count_of, schema_of, Sees}
 use Rattle.office_store.specs.declared.bring.Found.{Found}
 use Rattle.office_store.specs.declared.bring.Found.TheVariants.{Nothing, Earlier, Today}
-use Rattle.office_store.specs.Prelude.{all_steps, first_step_of, Brings, CanBring, CanUpgrade, HaveRun, IsAt, IsBegun, IsEarly, IsGrown, IsRemade, IsUpgrade}
-use Rattle.office_store.specs.Prelude.{plain_text, SeesBeforeV1, TellsItself}
+use Rattle.office_store.specs.Prelude.{all_steps, first_step_of, Brings, CanBring, HaveRun, IsAt, IsBegun, IsEarly, IsGrown, IsRemade, IsUpgrade}
+use Rattle.office_store.specs.Prelude.{IsTestedFor, plain_text, SeesBeforeV1, TellsItself}
 use Rattle.office_store.specs.declared.steps.TheConstants.{INSERT_NULL_INTO_GIVEN_START, INSERT_NULL_INTO_ORDER_START}
 use Rattle.office_store.proofs.Counts.{first_but, not_site_texts, tables_at}
 use Rattle.office_store.proofs.CreateSteps.{HasEmptyTables, creates, makes_table}
 use Rattle.office_store.proofs.CreateTables.{meta_create, seat_create, map_create, link_create, orders_create, device_create, given_create, ledger_create}
 use Rattle.office_store.proofs.CreateTables.{order_start_create, given_start_create, site_text_create, gains_both, gains_text}
 use Rattle.office_store.proofs.FoundNothing.{HasNoRow, no_office_rows, no_rows_at}
+use Rattle.office_store.proofs.FoundValidity.{office_of}
 use Rattle.office_store.proofs.Running.{run_says}
 use Rattle.office_store.proofs.Raised.{IsRaised, early_raised, found_tables, is_at, v1_raised, v2_raised}
 use Rattle.office_store.proofs.Telling.{site_once}
@@ -156,38 +158,44 @@ module _ {S : Type 0} (g : Ghosts S) (text : List ℕ) where
         fresh = record { tables = it.tables ∙ no_rows_at V1 r8.0.trees new.none; tells = it.tells };
       }
 
-  -- ---- by what was found
+-- ---- by what was found
 
-  upgraded : (version : Version) (x z : Database) → CanUpgrade version text x → Raises version x z → IsUpgrade version text x.trees z
-  upgraded version x z can it = record {
+module _ {S : Type 0} (g : Ghosts S) (site : TextOfSite) where
+  upgraded : (version : Version) (x z : Database) → IsTestedFor (sha256 site.text) version x → Raises g site.text version x z
+      → IsUpgrade version site.text x.trees z
+  upgraded version x z tested it = record {
     rows = it.rows;
-    tables = it.tables ∙ found_tables version x can.found;
-    told = λ site was. subst (λ s. HasMeta V3 s z.trees) (site_once version version (sha256 text) site x.trees can.told was) it.tells.named;
+    tables = it.tables ∙ found_tables version x tested.0.0;
+    told = λ told was. subst (λ s. HasMeta V3 s z.trees) (site_once version version (sha256 site.text) told x.trees tested.1 was) it.tells.named;
     holds = it.tells.holds;
     office = it.office;
   }
 
   -- the steps that lack bring one that isn't early
-  pub brings : (found : Found) → ¬ IsEarly found → (x z : Database) → CanBring found text x → HaveRun g (drop (first_step_of found) all_steps) text x z
-      → Brings found text x.trees z
-  brings Nothing later x z can run = begun x z can run
+  pub brings : (found : Found) → ¬ IsEarly found → (x z : Database) → CanBring found site x
+      → HaveRun g (drop (first_step_of found) all_steps) site.text x z → Brings found site.text x.trees z
+  brings Nothing later x z can run = begun g site.text x z can.0 run
   brings (Earlier V1a) later x z can run = absurd (later tt)
   brings (Earlier V1b) later x z can run = absurd (later tt)
-  brings (Earlier V1) later x z can run = upgraded V1 x z can (raises_v1 V1 x z (is_at V1 text x can) (sha256 text, can.told) run)
-  brings (Earlier V2) later x z can run = upgraded V2 x z can (raises_v2 V2 x z (is_at V2 text x can) (sha256 text, can.told) run)
-  brings (Earlier V3) later x z can run = absurd (can.earlier refl)
-  brings Today later x z can run = grows V3 can.told.0 x z can.office (sha256 can.told.0, can.told.1.named) can.told.1.holds run
+  brings (Earlier V1) later x z can run =
+      upgraded V1 x z can.1 (raises_v1 g site.text V1 x z (is_at V1 (sha256 site.text) x can.0 can.1) (sha256 site.text, can.1.1) run)
+  brings (Earlier V2) later x z can run =
+      upgraded V2 x z can.1 (raises_v2 g site.text V2 x z (is_at V2 (sha256 site.text) x can.0 can.1) (sha256 site.text, can.1.1) run)
+  brings (Earlier V3) later x z can run = absurd (can.0 refl)
+  brings Today later x z can run =
+      let take = can.1.1 in
+      grows g site.text V3 take.0 x z (office_of x can.0.0 can.1.0) (sha256 take.0, take.1.named) take.1.holds run
 
-  early_brings : (version : Version) → IsBeforeV1 version → count_of version ≤ 8 → (x y z : Database) → CanUpgrade version text x → IsRemade x y
-      → HaveRun g (drop 9 all_steps) text y z → IsUpgrade version text x.trees z
+  early_brings : (version : Version) → IsBeforeV1 version → count_of version ≤ 8 → (x y z : Database) → CanBring (Earlier version) site x → IsRemade x y
+      → HaveRun g (drop 9 all_steps) site.text y z → IsUpgrade version site.text x.trees z
   early_brings version early fewer x y z can remade run =
-      let raised = early_raised x y (is_at version text x can).rows remade version early in
-      upgraded version x z can (raises_then version V1 fewer x y z raised
-      (raises_v1 version y z raised.is (tells_still version x y (remade.rows meta (omega arith)) (sha256 text, can.told)) run))
+      let raised = early_raised x y (is_at version (sha256 site.text) x can.0 can.1).rows remade version early in
+      upgraded version x z can.1 (raises_then g site.text version V1 fewer x y z raised
+      (raises_v1 g site.text version y z raised.is (tells_still version x y (remade.rows meta (omega arith)) (sha256 site.text, can.1.1)) run))
 
   -- an early one is remade first
-  pub remakes : (found : Found) → IsEarly found → (x y z : Database) → CanBring found text x → IsRemade x y
-      → HaveRun g (drop (first_step_of found) all_steps) text y z → Brings found text x.trees z
+  pub remakes : (found : Found) → IsEarly found → (x y z : Database) → CanBring found site x → IsRemade x y
+      → HaveRun g (drop (first_step_of found) all_steps) site.text y z → Brings found site.text x.trees z
   remakes (Earlier V1a) early x y z can remade run = early_brings V1a early (omega arith) x y z can remade run
   remakes (Earlier V1b) early x y z can remade run = early_brings V1b early (omega arith) x y z can remade run
   remakes (Earlier V1) early x y z can remade run = absurd early
@@ -203,7 +211,8 @@ office_brought (Earlier version) text x z it = it.office
 office_brought Today text x z it = it.office
 
 -- an early one is of a version before the first
-pub sees_early : (found : Found) (text : List ℕ) (s : State) → IsEarly found → Sees (CanBring found text) s → SeesBeforeV1 s
-sees_early (Earlier version) text s early can = (version, early, λ up. is_at version text s.now (can up))
-sees_early Nothing text s early can = absurd early
-sees_early Today text s early can = absurd early
+pub sees_early : (found : Found) (site : TextOfSite) (s : State) → IsEarly found → Sees (CanBring found site) s → SeesBeforeV1 s
+sees_early (Earlier version) site s early can =
+    (version, early, λ up. let it = can up in is_at version (sha256 site.text) s.now it.0 it.1)
+sees_early Nothing site s early can = absurd early
+sees_early Today site s early can = absurd early

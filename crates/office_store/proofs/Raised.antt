@@ -1,5 +1,5 @@
 -- What the steps of an upgrade make of a database, one after another.
-use Rattle.std.proofs.Common.{◌≡◌, ◌<◌, ℕ, List, [], map, refl, sym, ap, subst, subst₂, ◌∙◌, arith}
+use Rattle.std.proofs.Common.{◌≡◌, ◌≢◌, ◌<◌, ℕ, List, [], map, refl, sym, ap, subst, subst₂, ◌∙◌, arith}
 use Rattle.std.specs.List.{AllByRecursion}
 use Rattle.office_sql.proofs.Kit.{Null, column, Database, Trees, sort_by}
 use Rattle.office_tables.specs.Prelude.{seat_cmp, order_cmp, map_cmp, link_cmp, device_cmp, given_cmp, entry_cmp}
@@ -13,7 +13,7 @@ use Rattle.office_sql.specs.Prelude.{is_validity_of_given, with_order_not_before
 use Rattle.office_sql.specs.Prelude.{HaveOneValidityRow, tables_in}
 use Rattle.office_store.proofs.ValidityFilled.{FillsGiven, FillsOrders, GainsNone, silent_not_before}
 use Rattle.office_store.proofs.Types.{Version, V1a, V1b, V1, V2, V3}
-use Rattle.office_store.specs.Prelude.{CanUpgrade, IsAt, IsRemade}
+use Rattle.office_store.specs.Prelude.{IsAt, IsRemade, IsTestedFor}
 use Rattle.store_inspection.specs.Prelude.{IsBeforeV1, IsFound, KeepsFirst, HasNoValidityRow, count_of, rows_at}
 use Rattle.office_store.proofs.Counts.{at_first, first_eight, tables_at}
 use Rattle.office_store.proofs.CreateTables.{GainsText, GainsValidityTables}
@@ -150,13 +150,13 @@ v2_raised x z at gains =
 
 -- ---- from the database that was found to the office
 
--- one that can be upgraded is of its version
-pub is_at : (version : Version) (text : List ℕ) (db : Database) → CanUpgrade version text db → IsAt version db
-is_at V2 text db can =
-    let found = can.found in
-    record { schema = found.schema; sound = found.sound; rows = found.rows; validity = found.validity (can.validity (λ e. omega (arith, e))) }
-is_at V3 text db can = absurd (can.earlier refl)
-is_at version text db can = record { schema = can.found.schema; sound = can.found.sound; rows = can.found.rows; validity = tt }
+-- one that was tested is of its version
+pub is_at : (version : Version) (site : List ℕ) (db : Database) → version ≢ V3 → IsTestedFor site version db → IsAt version db
+is_at V2 site db earlier tested =
+    let found = tested.0.0 in
+    record { schema = found.schema; sound = found.sound; rows = found.rows; validity = found.validity (tested.2 (λ e. omega (arith, e))) }
+is_at V3 site db earlier tested = absurd (earlier refl)
+is_at version site db earlier tested = let found = tested.0.0 in record { schema = found.schema; sound = found.sound; rows = found.rows; validity = tt }
 
 -- where no beginning of validity is told, the tables of a version with the number 1 say what those of the office do
 untold : (db : Trees) → HasNoValidityRow db → tables_at V1 db ≡ tables_in db

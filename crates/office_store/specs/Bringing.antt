@@ -1,18 +1,19 @@
 -- How a database comes to be a store of the third version that holds a site's text, by what was found.
 use Rattle.std.specs.Prelude.{◌≡◌, ◌≢◌, ℕ, List, IsTrue}
 use Rattle.sha2.specs.Sha256.{sha256}
+use Rattle.site_core.specs.Prelude.{TextOfSite}
 use Rattle.sqlite.specs.Tree.{Trees}
 use Rattle.sqlite.specs.Effect.{Database}
 use Rattle.sqlite.specs.State.{State}
-use Rattle.office_sql.specs.Prelude.{no_schema, IsOffice}
+use Rattle.office_sql.specs.Prelude.{no_schema}
 use Rattle.office_store.specs.declared.bring.Found.{Found}
 use Rattle.office_store.specs.declared.bring.Found.TheVariants.{Nothing, Earlier, Today}
-use Rattle.store_inspection.specs.declared.version.Version.{Version}
 use Rattle.store_inspection.specs.declared.version.Version.TheVariants.{V2, V3}
-use Rattle.store_inspection.specs.Found.{HasValidityRows, IsFound}
-use Rattle.store_inspection.specs.Meta.{HasMeta, HoldsSite}
-use Rattle.store_inspection.specs.Versions.{number_of_version, IsBeforeV1}
+use Rattle.store_inspection.specs.SiteTexts.{HoldsSiteText}
+use Rattle.store_inspection.specs.Versions.{IsBeforeV1}
+use Rattle.office_store.specs.Adopting.{IsFoundApart, IsGrowable, IsTestedFor}
 use Rattle.office_store.specs.Making.{IsBegun}
+use Rattle.office_store.specs.Stores.{IsNoStore}
 use Rattle.office_store.specs.Upgrading.{IsUpgrade}
 use Rattle.office_store.specs.Growing.{IsGrown}
 
@@ -28,24 +29,11 @@ first_step_of (Earlier V2) = 13
 first_step_of (Earlier _) = 9
 first_step_of Today = 15
 
--- a database of an earlier version, which tells of this text, and of the second one in which no
--- beginning of validity lacks
-pub record CanUpgrade (version : Version) (text : List ℕ) (db : Database) : Type 0 where
-  pub earlier : version ≢ V3
-  pub found : IsFound version db
-  pub told : HasMeta version (sha256 text) db.trees
-  pub validity : number_of_version version ≢ 1 → HasValidityRows db.trees
-
--- a database of the office that tells of a text
-pub record CanGrow (db : Database) : Type 0 where
-  pub office : IsOffice db
-  pub told : (text : List ℕ) × HoldsSite text db.trees
-
--- what a database must be that is brought to this text
-abbrev pub CanBring : Found → List ℕ → Database → Type 0
-CanBring Nothing text db = db.schema ≡ no_schema
-CanBring (Earlier version) text db = CanUpgrade version text db
-CanBring Today text db = CanGrow db
+-- what a database must be that is brought to the text of a site
+abbrev pub CanBring : Found → TextOfSite → Database → Type 0
+CanBring Nothing site db = (db.schema ≡ no_schema) × IsNoStore db.trees
+CanBring (Earlier version) site db = (version ≢ V3) × IsTestedFor (sha256 site.text) version db
+CanBring Today site db = IsFoundApart V3 db × IsGrowable site.site db × ¬ HoldsSiteText site.text db.trees
 
 -- what it is then
 abbrev pub Brings : Found → List ℕ → Trees → Database → Type 0

@@ -6,7 +6,7 @@ pub use Rattle.office_store.specs.Adopting.{IsShownText, IsTakenFor, IsTestedFor
 pub use Rattle.office_store.specs.Adopting.{LeavesAtMost, PreparesTables, StaysWithoutNotBefore, TakesGrowth, TakesOwn, TellsOther}
 pub use Rattle.office_store.specs.Closing.{HoldLast, IsFoundSo, IsLeftOf, MayBeFound, MayBeLeft, MayHold}
 pub use Rattle.office_store.specs.Faults.{open_fault_number, result_of_test}
-pub use Rattle.office_store.specs.Bringing.{Brings, CanBring, CanGrow, CanUpgrade, first_step_of, IsBrought, IsEarly}
+pub use Rattle.office_store.specs.Bringing.{Brings, CanBring, first_step_of, IsBrought, IsEarly}
 pub use Rattle.office_store.specs.Making.{HasNothing, IsBegun, IsFresh}
 pub use Rattle.office_store.specs.Making.{new_meta}
 pub use Rattle.office_store.specs.Opening.{FilesHeld, HasTablesOf, IsFoundAndTurnedAway, IsFoundOver, IsOpenedFor, IsTakenFrom, IsTurnedAway}

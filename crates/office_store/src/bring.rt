@@ -67,7 +67,7 @@ fn remake_first<S: Alter>(
     found: Found,
 ) -> Result<(), Error>
     requires early { IsEarly found }
-    requires can { Sees (CanBring found site.now.text) (state S.Store tx.old.conn.now) }
+    requires can { Sees (CanBring found site.now) (state S.Store tx.old.conn.now) }
     ensures same_reference { tx.new.conn.ghost_name ≡ tx.old.conn.ghost_name }
     ensures changes { SqlWrites S.Store tx.old.conn.now tx.new.conn.now result
         (λ old new _. Brings found site.now.text old.trees new) }
@@ -81,7 +81,7 @@ fn change_all<S: Alter>(
     site: &SiteText,
     found: Found,
 ) -> Result<(), Error>
-    requires { Sees (CanBring found site.now.text) (state S.Store tx.old.conn.now) }
+    requires { Sees (CanBring found site.now) (state S.Store tx.old.conn.now) }
     ensures same_reference { tx.new.conn.ghost_name ≡ tx.old.conn.ghost_name }
     ensures changes { SqlWrites S.Store tx.old.conn.now tx.new.conn.now result
         (λ old new _. Brings found site.now.text old.trees new) }
@@ -96,7 +96,7 @@ fn change_all<S: Alter>(
 /// makes the tables that lack, and tells of each order and record of the first version that it has no
 /// beginning of validity.
 pub fn bring<S: Alter>(conn: &mut Connection<S>, site: &SiteText, found: Found) -> Result<(), Error>
-    requires can { Sees (CanBring found site.now.text) (state S.Store conn.old) }
+    requires can { Sees (CanBring found site.now) (state S.Store conn.old) }
     requires mode { conn.old.in_transaction ≡ false }
     requires shows_committed { IsTrue (state S.Store conn.old).is_open
         → (state S.Store conn.old).now ≡ (state S.Store conn.old).committed }

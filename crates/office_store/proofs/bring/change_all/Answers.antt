@@ -7,10 +7,11 @@ use Rattle.office_store.proofs.bring.change_all.Goals as goal
 pub returns-clause-changes : goal.returns-clause-changes
 returns-clause-changes g c =
     let found = c.args.found in
-    let text = c.args.site.now.text in
+    let site = c.args.site.now in
+    let text = site.text in
     let old = c.args.tx.now.conn.now in
     let new = c.take_steps.new.tx.conn.now in
-    said_if_open g.S.Store old new c.take_steps.result (CanBring found text) (λ x z _. Brings found text x.trees z) c.requires
+    said_if_open g.S.Store old new c.take_steps.result (CanBring found site) (λ x z _. Brings found text x.trees z) c.requires
     (says_more g.S.Store old new c.take_steps.result (λ x z _. HaveRun g.S.Store (drop (first_step_of found) all_steps) text x z)
-    (λ x z _. CanBring found text x → Brings found text x.trees z) c.take_steps.ensures.changes
-    (λ x z _ run can. brings g.S.Store text found (λ early. true≢false (sym (c.is_early.ensures.1 early) ∙ c.if-is_early.false)) x z can run))
+    (λ x z _. CanBring found site x → Brings found text x.trees z) c.take_steps.ensures.changes
+    (λ x z _ run can. brings g.S.Store site found (λ early. true≢false (sym (c.is_early.ensures.1 early) ∙ c.if-is_early.false)) x z can run))
