@@ -1,13 +1,13 @@
 -- What the steps that lack make of a database, by what was found.
-use Rattle.std.proofs.Common.{◌≡◌, ◌≢◌, ◌<◌, ◌≤◌, ◌∙◌, ℕ, List, [], drop, map, sym, ap, subst, refl, arith, IsTrue}
+use Rattle.std.proofs.Common.{◌≡◌, ◌≢◌, ◌<◌, ◌≤◌, ◌∙◌, ℕ, List, [], drop, map, sym, ap, subst, refl, arith}
 use Rattle.sha2.specs.Sha256.{sha256}
-use Rattle.office_sql.proofs.Kit.{Database, IsDatabase, State}
+use Rattle.office_sql.proofs.Kit.{Database, State}
 use Rattle.site_core.specs.Prelude.{TextOfSite}
 use Rattle.sqlite.specs.Store.{Ghosts}
 use Rattle.office_sql.proofs.Names.{first_by_name}
 use Rattle.office_sql.proofs.Offices.{table_changed, both_validity_rows}
 use Rattle.office_sql.specs.Prelude.{OfficeTable, meta, site_texts, no_schema, place_of, rows_in, IsOffice, tables_in}
-use Rattle.store_inspection.specs.Prelude.{meta_in, HasMeta, HoldsSite, HoldsSiteText, IsBeforeV1, IsFound, IsOnlyText, count_of, schema_of, Sees}
+use Rattle.store_inspection.specs.Prelude.{meta_in, HasMeta, HoldsSite, HoldsSiteText, IsBeforeV1, IsOnlyText, count_of, schema_of, Sees}
 use Rattle.office_store.specs.declared.bring.Found.{Found}
 use Rattle.office_store.specs.declared.bring.Found.TheVariants.{Nothing, Earlier, Today}
 use Rattle.office_store.specs.Prelude.{all_steps, first_step_of, Brings, CanBring, HaveRun, IsAt, IsBegun, IsEarly, IsGrown, IsRemade, IsUpgrade}

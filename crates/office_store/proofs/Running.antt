@@ -1,6 +1,6 @@
 -- The texts of a list are run, one after another.
-use Rattle.std.proofs.Common.{◌≡◌, ◌<◌, ◌≤◌, ◌⊎◌, ◌+◌, ◌∙◌, ◌∷◌, ◌++◌, ℕ, List, [], false, drop, map, length, length-drop, take, take_all, Ok, Err, Result, IsErr}
-use Rattle.std.proofs.Common.{IsTrue, refl, sym, ap, subst, subst₂, inl, inr, arith}
+use Rattle.std.proofs.Common.{◌≡◌, ◌<◌, ◌≤◌, ◌⊎◌, ◌+◌, ◌∙◌, ◌∷◌, ◌++◌, ℕ, List, [], false, drop, map, length, length-drop, take, take_all, Ok, Err, Result}
+use Rattle.std.proofs.Common.{IsErr, IsTrue, refl, sym, ap, subst, subst₂, inl, inr, arith}
 use Rattle.std.proofs.lemmas.List.{drop-map}
 use Rattle.office_sql.proofs.Kit.{Row, Error, Database, Held, state, State, HasCleanDisk, KeepsCommit, Survives, ExecutesInside, SqliteFailure, Executes}
 use Rattle.office_sql.proofs.Kit.{TransactionState}

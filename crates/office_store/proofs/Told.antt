@@ -1,17 +1,17 @@
 -- What the texts that tell of the store itself do to meta and to the text of the site.
-use Rattle.std.proofs.Common.{◌≡◌, ◌≢◌, ◌∙◌, ◌∷◌, ℕ, pos, negsuc, List, [], map, true, Ok, refl, sym, ap, is_eq}
+use Rattle.std.proofs.Common.{◌≡◌, ◌≢◌, ◌∙◌, ◌∷◌, ℕ, pos, negsuc, List, [], map, true, refl, sym, ap, is_eq}
 use Rattle.std.proofs.lemmas.Cmp.{tied_itself}
 use Rattle.sha2.specs.Sha256.{sha256}
 use Rattle.office_sql.proofs.Kit.{Value, Null, Int, Real, Row, column, rowid, Term, lit, col, op2, eval_all, Binary, Eq, Compare, Database, IsDatabase, Trees}
-use Rattle.office_sql.proofs.Kit.{has_rowid, put_row, without_rowid, State, Executes, cast_row, value_cmp_total}
+use Rattle.office_sql.proofs.Kit.{has_rowid, put_row, without_rowid, cast_row, value_cmp_total}
 use Rattle.sqlite.specs.declared.types.Value.TheVariants.{Text as Words, Blob as Bytes}
 use Rattle.sqlite.specs.Listing.{understood}
 use Rattle.sqlite.specs.Order.{value_cmp}
 use Rattle.sqlite.specs.Store.{Ghosts}
 use Rattle.sqlite_tied.specs.Compute.{everything}
-use Rattle.office_sql.specs.Prelude.{OfficeTable, meta, site_texts, meta_table, site_text_table, office_schema, rows_in, passing, Replaces, SameBut}
+use Rattle.office_sql.specs.Prelude.{meta, site_texts, meta_table, site_text_table, office_schema, rows_in, passing, SameBut}
 use Rattle.office_sql.specs.Prelude.{number_in_cell}
-use Rattle.office_sql.proofs.Inserting.{IsInsert, OthersStay, PutsRow, puts_row}
+use Rattle.office_sql.proofs.Inserting.{IsInsert, OthersStay, puts_row}
 use Rattle.office_sql.proofs.Names.{same_but}
 use Rattle.office_sql.proofs.Replacing.{IsUpdate, replaces}
 use Rattle.office_sql.proofs.Stepping.{cast_null, cast_int}

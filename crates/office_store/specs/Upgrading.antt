@@ -1,16 +1,13 @@
 -- How a database of an earlier version comes to have the tables of the third, in one transaction.
-use Rattle.std.specs.Prelude.{◌≡◌, ◌≢◌, ◌<◌, ℕ, List, [], IsTrue}
+use Rattle.std.specs.Prelude.{◌≡◌, ◌≢◌, ◌<◌, ℕ, List}
 use Rattle.sqlite.specs.Tree.{Trees}
-use Rattle.sqlite.specs.Change.{KeepsRows}
-use Rattle.sqlite.specs.Effect.{Database, IsDatabase}
-use Rattle.sqlite.specs.State.{State}
-use Rattle.office_sql.specs.Prelude.{OfficeTable, meta, site_texts, SameBut, office_schema, place_of, rows_in, IsOffice, tables_in}
+use Rattle.sqlite.specs.Effect.{Database}
+use Rattle.office_sql.specs.Prelude.{OfficeTable, meta, place_of, rows_in, IsOffice, tables_in}
 use Rattle.store_inspection.specs.declared.version.Version.{Version}
-use Rattle.store_inspection.specs.declared.version.Version.TheVariants.{V1, V2, V3}
-use Rattle.store_inspection.specs.Found.{HasNoValidityRow, HasValidityRows, IsFound, Sees}
+use Rattle.store_inspection.specs.declared.version.Version.TheVariants.{V3}
 use Rattle.store_inspection.specs.Meta.{HasMeta}
 use Rattle.store_inspection.specs.SiteTexts.{HoldsSiteText}
-use Rattle.store_inspection.specs.Versions.{count_of, number_of_version, schema_of, KeepsFirst}
+use Rattle.store_inspection.specs.Versions.{count_of}
 
 -- a store of a version tells of itself, whatever its site
 abbrev pub TellsItself : Version → Trees → Type 0

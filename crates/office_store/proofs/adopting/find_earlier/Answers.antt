@@ -14,7 +14,8 @@ settle-requires g c =
     let Says = IsTestedFor (sha256 site.text) c.args.version in
     record {
       mode = test.mode;
-      shows_committed = (found_after g.S.Store site old conn Says c.args.version test c.requires.can.shows_committed (λ clean whole. whole.0.0)).shows_committed;
+      shows_committed =
+          (found_after g.S.Store site old conn Says c.args.version test c.requires.can.shows_committed (λ clean whole. whole.0.0)).shows_committed;
       can = λ clean. (c.requires.earlier, says_of g.S.Store site old conn Says test clean);
     }
 
