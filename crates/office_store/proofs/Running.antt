@@ -1,8 +1,8 @@
 -- The texts of a list are run, one after another.
-use Rattle.std.proofs.Common.{◌≡◌, ◌<◌, ◌≤◌, ◌⊎◌, ◌+◌, ◌∙◌, ◌∷◌, ◌++◌, ℕ, List, [], false, drop, map, length, length-drop, take, take_all, Ok, Err, Result}
-use Rattle.std.proofs.Common.{IsErr, IsTrue, refl, sym, ap, subst, subst₂, inl, inr, arith}
+use Rattle.std.proofs.Common.{◌≡◌, ◌≤◌, ◌⊎◌, ◌+◌, ◌∙◌, ◌∷◌, ◌++◌, ℕ, List, [], false, drop, map, length, length-drop, take, take_all, Ok, Err, Result}
+use Rattle.std.proofs.Common.{IsTrue, refl, sym, ap, subst, subst₂, inl, inr, arith}
 use Rattle.std.proofs.lemmas.List.{drop-map}
-use Rattle.office_sql.proofs.Kit.{Row, Error, Database, Held, state, State, HasCleanDisk, KeepsCommit, Survives, ExecutesInside, SqliteFailure, Executes}
+use Rattle.office_sql.proofs.Kit.{Row, Error, Database, Held, state, State, HasCleanDisk, Survives, ExecutesInside, SqliteFailure, Executes}
 use Rattle.office_sql.proofs.Kit.{TransactionState}
 use Rattle.sqlite.specs.Store.{Ghosts}
 use Rattle.office_sql.specs.Prelude.{SqlWrites}
@@ -51,20 +51,6 @@ module _ {S : Type 0} (g : Ghosts S) (site : List ℕ) where
       inr (changes_then g old mid new tt (Ok tt) (λ x y _. HaveRun g texts site x y) (λ y z _. HasRun g text site y z)
       (λ x z _. HaveRun g (texts ++ text ∷ []) site x z) so_far did (λ x y z _ p q. one_more texts text x y z p q))
 
-  -- where a text fails, nothing is said
-  pub fails_next : (texts : List SqlText) (old mid new : Held S) (r q : Result (Unit {0}) Error) (P Q : Database → Database → Unit {0} → Type 0) → IsErr q
-      → HaveRunSoFar texts old mid → SqlWrites g mid new r P → SqlWrites g old new q Q
-  fails_next texts old mid new r (Ok a) P Q is so_far did = absurd (let none = is in cc)
-  fails_next texts old mid new r (Err e) P Q is (inl same) did = record {
-    answer = λ _. tt;
-    inside = λ _. tt;
-    kept = subst (λ h. HasCleanDisk (state g new) → KeepsCommit (state g h) (state g new)) same.1 did.kept;
-    crash = subst (λ h. Survives (state g h) (state g new) (λ _. ⊥)) same.1 did.crash;
-  }
-  fails_next texts old mid new r (Err e) P Q is (inr so_far) did =
-      let both = changes_then g old mid new tt r (λ x y _. HaveRun g texts site x y) P (λ _ _ _. Unit {0}) so_far did (λ x y z _ p q. tt) in
-      record { answer = λ _. tt; inside = λ _. tt; kept = both.kept; crash = both.crash }
-
   -- of all steps those from a place on are taken
   pub steps_taken : (old new : Held S) (r : Result (Unit {0}) Error) (steps : List Step) (count from first : ℕ)
       → SqlWrites g old new r (λ x y _. HaveRun g (map text_of (take count (drop from steps))) site x y)
@@ -75,10 +61,3 @@ module _ {S : Type 0} (g : Ghosts S) (site : List ℕ) where
       let all : map text_of (take count (drop from steps)) ≡ drop first all_steps =
       ap (map text_of) whole ∙ sym (drop-map text_of from steps) ∙ ap (drop from) are ∙ ap (λ n. drop n all_steps) is in
       subst (λ texts. SqlWrites g old new r (λ x y _. HaveRun g texts site x y)) all ran
-
-  -- all were run
-  pub all_run : (steps : List Step) (old new : Held S) → 0 < length steps → HaveRunSoFar (map text_of steps) old new
-      → SqlWrites {A = Unit {0}} {E = Error} g old new (Ok tt) (λ x z _. HaveRun g (map text_of steps) site x z)
-  all_run [] old new some so_far = absurd (omega (arith, some))
-  all_run (s ∷ steps) old new some (inl same) = absurd (let none = same.0 in cc)
-  all_run (s ∷ steps) old new some (inr so_far) = so_far

@@ -55,7 +55,8 @@ fn take_steps<S: Alter>(
 ) -> Result<(), Error>
     ensures same_reference { tx.new.conn.ghost_name ≡ tx.old.conn.ghost_name }
     ensures changes { SqlWrites S.Store tx.old.conn.now tx.new.conn.now result
-        (λ old new _. HaveRun S.Store (drop (first_step_of found) all_steps) site.now.text old new) }
+        (λ old new _. HaveRun S.Store (drop (first_step_of found) all_steps)
+        site.now.text old new) }
 {
     run_steps(tx, &STEPS[first_step(found)..], site)
 }
