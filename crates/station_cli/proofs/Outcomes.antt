@@ -326,11 +326,18 @@ pub growth_told : {B : Type 0} (items : B → List ℕ) (name old_name : Bor (Li
     → IfOk file (λ bytes. IfOk old_file (λ old_bytes. (result ≡ Ok (Err ToldFault.NoMemory)) ⊎ (result ≡ Err NoMemory)
     ⊎ IsCheckedFrom (site_in old_name (items old_bytes)) (checked_in name (items bytes)) result))
     → IfOk result (IsToldOf site (Some old))
-growth_told items name old_name site old (Ok bytes) (Ok old_bytes) (Ok told) named old_named unread unread_old read =
-    (name, items bytes, old_name, items old_bytes, named, old_named, elim read [
-      | inl e ↦ let is : told ≡ Err ToldFault.NoMemory = cc in inl is
-      | inr some ↦ elim some [ inl e ↦ absurd (cc e) | inr from ↦ inr from ]
-    ])
+growth_told items name old_name site old (Ok bytes) (Ok old_bytes) (Ok told) named old_named unread unread_old read = (
+  name,
+  items bytes,
+  old_name,
+  items old_bytes,
+  named,
+  old_named,
+  elim read [
+    | inl e ↦ let is : told ≡ Err ToldFault.NoMemory = cc in inl is
+    | inr some ↦ elim some [ inl e ↦ absurd (cc e) | inr from ↦ inr from ]
+  ],
+)
 growth_told items name old_name site old (Ok bytes) (Err error) (Ok told) named old_named unread unread_old read = absurd unread_old
 growth_told items name old_name site old (Err error) old_file (Ok told) named old_named unread unread_old read = absurd unread
 growth_told items name old_name site old file old_file (Err failure) named old_named unread unread_old read = tt
