@@ -98,7 +98,7 @@ IsCheck (Serve site store port connections) = ⊥
 IsCheck (Replay site store) = ⊥
 IsCheck (CheckMap map) = ⊥
 
--- the job checks a site, which its file, or the old one, shows to have this fault
+-- the job checks a site, and some bytes of the files that it names have this fault
 abbrev pub IsOfFault : Job → ToldFault → Type 0
 IsOfFault (CheckSite site old) fault = IsToldOf site old (Err fault)
 IsOfFault (Serve site store port connections) fault = ⊥

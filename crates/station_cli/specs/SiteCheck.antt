@@ -27,7 +27,7 @@ IsCheckedFrom old (Ok (Err fault)) result = result ≡ Ok (Err fault)
 IsCheckedFrom (Err failure) (Ok (Ok new)) result = result ≡ Err failure
 IsCheckedFrom (Ok old) (Ok (Ok new)) result = (told : Result SiteValue ToldFault) × IsToldGrowth old new told × (result ≡ Ok told)
 
--- what a check tells of the site's file with this name, and of the old one where one is named, by the bytes that these hold
+-- of some bytes of the site's file with this name, and of the old one where one is named, a check tells this
 abbrev pub IsToldOf : List ℕ → Option (List ℕ) → Result SiteValue ToldFault → Type 0
 IsToldOf site None told =
     (name : Bor (List ℕ)) × (bytes : List ℕ) × (name.now ≡ site) × ChecksTo (checked_in name bytes) (Ok told)
