@@ -17,7 +17,7 @@ use test_support::lists::first_difference_in_list;
 use text_core::{Chip, Name, Serial};
 
 /// A site in which acme has one pool, as large as a pool may be.
-const SITE_WITH_ROOM: &str = r#"[[customer]]
+pub const SITE_WITH_ROOM: &str = r#"[[customer]]
 name = "acme"
 issuer = ["acme-ca"]
 [[customer.pool]]
@@ -128,6 +128,9 @@ a1 GET /v1/devices?after=000000000597
   {"chip":"000000000599","order":"o1","reason":null,"serial":null,"state":"registered"}],"next":null}
 "#;
 
+/// The line that asks for a page behind a chip, whose last digits stand for `#`, and the beginning of its reply.
+const PAGE_BEHIND: &str = "a1 GET /v1/devices?after=00000000#\n200 {\"devices\":[";
+
 /// What an import of acme's begins with; `#` stands for its number.
 const IMPORT: &str =
     "a1 POST /v1/import {\"nr\":#,\"issuer\":\"acme-ca\",\"csv\":\"serial,key_sha256\\n";
@@ -222,7 +225,7 @@ a1 POST /v1/identity {"nr":5,"chip":"00000000000a","public_key":"616263"}
   "mac":"020000000000","not_after":"99991231235959Z","not_before":null,"serial":"A10000"}
 "#;
 
-/// Behind 20,001 records more, which are of none of its numbers: what the books show, and the next record.
+/// Behind 70,001 records more, which are of none of its numbers: what the books show, and the next record.
 const NEXT_RECORD: &str = r#"
 a1 GET /v1/report
 csv order,quantity,registered,planned,settled,identified,shipped,quarantined,scrapped,serials_left|
@@ -323,9 +326,11 @@ pub enum Rows {
     Devices,
     /// 499 devices behind the first: a page that is exactly full.
     Page,
+    /// 1,000 devices behind the first: two pages and a device.
+    Pages,
     /// 10,000 entries of a chip, by as many requests.
     Entries,
-    /// 20,001 records with addresses.
+    /// 70,001 records with addresses.
     Records,
 }
 
@@ -406,13 +411,13 @@ fn add_devices<K: Keep>(alloc: Global, keep: &mut K) -> Result<(), Fail> {
     Ok(())
 }
 
-/// Puts 499 devices beside the first, whose chips come behind it.
-fn add_page<K: Keep>(alloc: Global, keep: &mut K) -> Result<(), Fail> {
+/// Puts devices beside the first, whose chips come behind it: one for each number up to `end`, without it.
+fn add_behind<K: Keep>(alloc: Global, keep: &mut K, first: u64, end: u64) -> Result<(), Fail> {
     let customer = Name::parse("acme").ok_or("no name")?;
     let chip = Chip::parse("00000000000a").ok_or("no chip")?;
-    let first = keep.device(&customer, &chip)?.ok_or("no device")?;
-    for number in 100..599 {
-        add_device(alloc, keep, &first, number)?;
+    let device = keep.device(&customer, &chip)?.ok_or("no device")?;
+    for number in first..end {
+        add_device(alloc, keep, &device, number)?;
     }
     Ok(())
 }
@@ -454,11 +459,11 @@ fn add_record<K: Keep>(
     Ok(keep.commit(&[Write::AddGiven(record)])?)
 }
 
-/// Puts 20,001 records beside the first.
+/// Puts 70,001 records beside the first.
 fn add_records<K: Keep>(alloc: Global, keep: &mut K) -> Result<(), Fail> {
     let issuer = Name::parse("acme-ca").ok_or("no name")?;
     let first = keep.given(&issuer, "A10000")?.ok_or("no record")?;
-    for number in 10_000..30_001 {
+    for number in 10_000..80_001 {
         add_record(alloc, keep, &first, number)?;
     }
     Ok(())
@@ -471,7 +476,8 @@ impl Rows {
             Rows::None => Ok(()),
             Rows::Orders => add_orders(alloc, keep),
             Rows::Devices => add_devices(alloc, keep),
-            Rows::Page => add_page(alloc, keep),
+            Rows::Page => add_behind(alloc, keep, 100, 599),
+            Rows::Pages => add_behind(alloc, keep, 1_000, 2_000),
             Rows::Entries => add_entries(alloc, keep),
             Rows::Records => add_records(alloc, keep),
         }
@@ -515,6 +521,21 @@ fn full_pages(alloc: Global) -> Result<String, AllocError> {
     let listed = numbered(alloc, LISTED, "#", 100, 599)?;
     format!(in alloc;
         "{FIRST_PAGE}{LISTED_FIRST}{listed}],\"next\":null}}\n{ONE_MORE}{FIRST_PAGE}{LISTED_FIRST}{listed}],\"next\":\"000000000598\"}}\n{NEXT_PAGE}"
+    )
+}
+
+/// Three pages of 1,001 devices: the first with 499 behind it, 500, and the last.
+fn three_pages(alloc: Global) -> Result<String, AllocError> {
+    let listed = LISTED.replace(alloc, "000000000#", "00000000#")?;
+    let first = numbered(alloc, listed.as_str(), "#", 1000, 1499)?;
+    let second = numbered(alloc, listed.as_str(), "#", 1499, 1999)?;
+    let third = numbered(alloc, listed.as_str(), "#", 1999, 2000)?;
+    let behind_first = PAGE_BEHIND.replace(alloc, "#", "1498")?;
+    let behind_second = PAGE_BEHIND.replace(alloc, "#", "1998")?;
+    let second = second.as_str().strip_prefix(",").unwrap_or("");
+    let third = third.as_str().strip_prefix(",").unwrap_or("");
+    format!(in alloc;
+        "{FIRST_PAGE}{LISTED_FIRST}{first}],\"next\":\"000000001498\"}}\n{behind_first}{second}],\"next\":\"000000001998\"}}\n{behind_second}{third}],\"next\":null}}\n"
     )
 }
 
@@ -601,6 +622,19 @@ fn a_full_page_tells_of_more_where_there_are_more(rt: HostRuntime) -> Result<(),
 }
 
 #[test]
+fn pages_go_on_behind_the_second(rt: HostRuntime) -> Result<(), Fail> {
+    let rest = three_pages(rt.alloc())?;
+    let limit = Limit {
+        site: SITE,
+        first: FIRST_DEVICE,
+        rows: Rows::Pages,
+        rest: rest.as_str(),
+    };
+    assert_eq!(rt; over_each(rt.alloc(), &limit)?.as_str(), "");
+    Ok(())
+}
+
+#[test]
 fn the_last_of_ten_thousand_numbers_is_found(rt: HostRuntime) -> Result<(), Fail> {
     let first = all_but_one_imported(rt.alloc())?;
     let limit = Limit {
@@ -628,7 +662,7 @@ fn ledgers_go_on_behind_ten_thousand_entries(rt: HostRuntime) -> Result<(), Fail
 
 /// A store of so many records is opened again, and reported.
 #[test]
-fn records_with_addresses_may_be_twenty_thousand(rt: HostRuntime) -> Result<(), Fail> {
+fn records_with_addresses_may_be_seventy_thousand(rt: HostRuntime) -> Result<(), Fail> {
     let limit = Limit {
         site: SITE_WITH_ROOM,
         first: FIRST_RECORD,

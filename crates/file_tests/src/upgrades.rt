@@ -1,7 +1,8 @@
 //! Stores of earlier schemas in files, whose upgrade is stopped: what it leaves.
 use crate::disks::{
-    FilesCase, InFiles, Store, held_over, opened_and_closed, over_files, undisturbed,
+    FilesCase, InFiles, Store, held_over, opened_and_closed, over_files, rows_in, undisturbed,
 };
+use crate::grown::{first_difference_grown, grown_texts, shown_of};
 use crate::stops::first_lost;
 use std::alloc::Global;
 use std::test::Fail;
@@ -67,6 +68,42 @@ fn first_other_fault<K: InFiles>(
         }
     }
     Ok(String::new(alloc))
+}
+
+/// Opens the store of an earlier schema for each text that grew from its site's, of which it only has the
+/// digest: the first that isn't refused, or of which something is left. Once the store was opened for its
+/// own text, it is for each of them, with the same books.
+fn first_difference_in_growth<K: InFiles>(
+    alloc: Global,
+    earlier: &Earlier,
+) -> Result<String, Fail> {
+    let store = store_of::<K>(alloc, earlier)?;
+    let rows = rows_in::<K>(alloc, &store)?;
+    for text in grown_texts(alloc)? {
+        let (fault, left) = opened_and_closed::<K>(alloc, &store, text.as_str())?;
+        if fault != 1 || rows_in::<K>(alloc, &left)?.as_str() != rows.as_str() {
+            return Ok(format!(in alloc; "schema {}: fault {fault}: {text}", earlier.schema)?);
+        }
+    }
+    let (_, upgraded) = opened_and_closed::<K>(alloc, &store, SITE)?;
+    let books = exchanges(alloc, earlier.shown)?;
+    let shown = shown_of(alloc, books.as_slice())?;
+    first_difference_grown::<K>(alloc, &upgraded, shown.as_slice())
+}
+
+/// Stores of earlier schemas whose site grows.
+struct GrownUpgrades;
+
+impl FilesCase for GrownUpgrades {
+    fn first_difference<K: InFiles>(alloc: Global) -> Result<String, Fail> {
+        for earlier in &[&ONE, &TWO] {
+            let found = first_difference_in_growth::<K>(alloc, *earlier)?;
+            if !found.is_empty() {
+                return Ok(found);
+            }
+        }
+        Ok(String::new(alloc))
+    }
 }
 
 /// Each store of an earlier schema that goes on.
@@ -155,6 +192,12 @@ impl FilesCase for StoppedUpgradesOfEarly {
 #[test]
 fn stores_of_earlier_schemas_go_on(rt: HostRuntime) -> Result<(), Fail> {
     assert_eq!(rt; over_files::<Lives>(rt.alloc())?.as_str(), "");
+    Ok(())
+}
+
+#[test]
+fn sites_of_earlier_schemas_grow_behind_their_upgrade(rt: HostRuntime) -> Result<(), Fail> {
+    assert_eq!(rt; over_files::<GrownUpgrades>(rt.alloc())?.as_str(), "");
     Ok(())
 }
 
