@@ -128,7 +128,8 @@ a1 GET /v1/devices?after=000000000597
   {"chip":"000000000599","order":"o1","reason":null,"serial":null,"state":"registered"}],"next":null}
 "#;
 
-/// The line that asks for a page behind a chip, whose last digits stand for `#`, and the beginning of its reply.
+/// The line that asks for a page behind a chip, whose last digits stand for `#`, and the beginning
+/// of its reply.
 const PAGE_BEHIND: &str = "a1 GET /v1/devices?after=00000000#\n200 {\"devices\":[";
 
 /// What an import of acme's begins with; `#` stands for its number.
@@ -225,7 +226,8 @@ a1 POST /v1/identity {"nr":5,"chip":"00000000000a","public_key":"616263"}
   "mac":"020000000000","not_after":"99991231235959Z","not_before":null,"serial":"A10000"}
 "#;
 
-/// Behind 70,001 records more, which are of none of its numbers: what the books show, and the next record.
+/// Behind 66,001 records more, which are of none of its numbers: what the books show, and the next
+/// record.
 const NEXT_RECORD: &str = r#"
 a1 GET /v1/report
 csv order,quantity,registered,planned,settled,identified,shipped,quarantined,scrapped,serials_left|
@@ -330,7 +332,7 @@ pub enum Rows {
     Pages,
     /// 10,000 entries of a chip, by as many requests.
     Entries,
-    /// 70,001 records with addresses.
+    /// 66,001 records with addresses.
     Records,
 }
 
@@ -411,7 +413,8 @@ fn add_devices<K: Keep>(alloc: Global, keep: &mut K) -> Result<(), Fail> {
     Ok(())
 }
 
-/// Puts devices beside the first, whose chips come behind it: one for each number up to `end`, without it.
+/// Puts devices beside the first, whose chips come behind it: one for each number up to `end`,
+/// without it.
 fn add_behind<K: Keep>(alloc: Global, keep: &mut K, first: u64, end: u64) -> Result<(), Fail> {
     let customer = Name::parse("acme").ok_or("no name")?;
     let chip = Chip::parse("00000000000a").ok_or("no chip")?;
@@ -459,11 +462,11 @@ fn add_record<K: Keep>(
     Ok(keep.commit(&[Write::AddGiven(record)])?)
 }
 
-/// Puts 70,001 records beside the first.
+/// Puts 66,001 records beside the first.
 fn add_records<K: Keep>(alloc: Global, keep: &mut K) -> Result<(), Fail> {
     let issuer = Name::parse("acme-ca").ok_or("no name")?;
     let first = keep.given(&issuer, "A10000")?.ok_or("no record")?;
-    for number in 10_000..80_001 {
+    for number in 10_000..76_001 {
         add_record(alloc, keep, &first, number)?;
     }
     Ok(())
@@ -662,7 +665,7 @@ fn ledgers_go_on_behind_ten_thousand_entries(rt: HostRuntime) -> Result<(), Fail
 
 /// A store of so many records is opened again, and reported.
 #[test]
-fn records_with_addresses_may_be_seventy_thousand(rt: HostRuntime) -> Result<(), Fail> {
+fn records_with_addresses_may_be_sixty_six_thousand(rt: HostRuntime) -> Result<(), Fail> {
     let limit = Limit {
         site: SITE_WITH_ROOM,
         first: FIRST_RECORD,

@@ -1,5 +1,6 @@
-//! Lives of devices over the whole product of what orders and chips may have. Each reply is computed here
-//! from what is asked, so that none is 503: a request that no other test makes could be answered so for ever.
+//! Lives of devices over the whole product of what orders and chips may have. Each reply is
+//! computed here from what is asked, so that none is 503: a request that no other test makes could
+//! be answered so for ever.
 use crate::limits::{Limit, Rows, SITE_WITH_ROOM};
 use std::alloc::{AllocError, Global};
 use std::test::Fail;
@@ -13,7 +14,8 @@ use text_core::Digest;
 /// How many devices an order has.
 const QUANTITY: u64 = 16;
 
-/// The line of an order in the report, behind all its devices, and what stands before and behind the lines.
+/// The line of an order in the report, behind all its devices, and what stands before and behind
+/// the lines.
 const ORDER_LINE: &str = "o#,16,0,0,0,0,10,0,6,0|";
 const REPORT: &str =
     "a1 GET /v1/report\ncsv order,quantity,registered,planned,settled,identified,shipped,quarantined,scrapped,serials_left|";
@@ -173,21 +175,19 @@ fn life_of(alloc: Global, kinds: &[Marks]) -> Result<String, AllocError> {
 
 /// The text with the numbers of a seat's requests, from 1 on, and of repeats the last once more.
 fn with_numbers(alloc: Global, text: &str) -> Result<String, AllocError> {
-    let mut all = String::new(alloc);
+    let (front, marked) = text.split_once("{nr").unwrap_or((text, ""));
+    let mut all = String::from_str(alloc, front)?;
     let mut number = 0u64;
-    for part in text.split("{nr") {
-        let mut rest = part;
-        if let Some(behind) = part.strip_prefix("}") {
-            number = number.saturating_add(1);
-            rest = behind;
-        } else if let Some(behind) = part.strip_prefix("=}") {
-            rest = behind;
-        } else {
-            all.push_str(part)?;
-            continue;
-        }
-        let numbered = format!(in alloc; "{number}{rest}")?;
-        all.push_str(numbered.as_str())?;
+    for part in marked.split("{nr") {
+        let rest = match part.strip_prefix("}") {
+            Some(rest) => {
+                number = number.saturating_add(1);
+                rest
+            }
+            None => part.strip_prefix("=}").unwrap_or(""),
+        };
+        let told = format!(in alloc; "{number}{rest}")?;
+        all.push_str(told.as_str())?;
     }
     Ok(all)
 }
@@ -201,20 +201,22 @@ fn all_lives(alloc: Global) -> Result<String, AllocError> {
     with_numbers(alloc, text.as_str())
 }
 
-/// 288 devices: of 18 orders (no, one and four addresses; from 0, from 1 and to the last number of the widest; with and
-/// without a beginning) those of 16 chips each (two maps, one of four whole blocks; with and without a bit; a key; locks
-/// in the plan). Behind them the reports, of a store that is opened again.
+/// 288 devices: of 18 orders (no, one and four addresses; from 0, from 1 and to the last number of
+/// the widest; with and without a beginning) those of 16 chips each (two maps, one of four whole
+/// blocks; with and without a bit; a key; locks in the plan). Behind them the reports, of a store
+/// that is opened again.
 #[test]
 fn each_kind_of_order_and_chip_is_served(rt: HostRuntime) -> Result<(), Fail> {
-    let first = all_lives(rt.alloc())?;
-    let lines = numbered(rt.alloc(), ORDER_LINE, "#", 10, 28)?;
-    let rest = format!(in rt.alloc(); "{REPORT}{lines}{SITE_REPORT}")?;
+    let alloc = rt.alloc();
+    let first = all_lives(alloc)?;
+    let lines = numbered(alloc, ORDER_LINE, "#", 10, 28)?;
+    let rest = format!(in alloc; "{REPORT}{lines}{SITE_REPORT}")?;
     let limit = Limit {
         site: SITE_WITH_ROOM,
         first: first.as_str(),
         rows: Rows::None,
         rest: rest.as_str(),
     };
-    assert_eq!(rt; over_each(rt.alloc(), &limit)?.as_str(), "");
+    assert_eq!(rt; over_each(alloc, &limit)?.as_str(), "");
     Ok(())
 }

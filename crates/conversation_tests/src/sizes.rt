@@ -1,5 +1,6 @@
-//! What is served of large sites and texts: a map with as many fields as a map may have, a site with as many
-//! customers, and an import of as many rows, as long as a body may be. And of a site without customers.
+//! What is served of large sites and texts: a map with as many fields as a map may have, a site
+//! with as many customers, and an import of as many rows, as long as a body may be. And of a site
+//! without customers.
 use crate::limits::{Limit, Rows, SITE_WITH_ROOM};
 use std::alloc::{AllocError, Global};
 use std::test::Fail;

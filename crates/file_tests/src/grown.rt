@@ -51,7 +51,8 @@ fn difference_of_text<K: InFiles>(
     Ok(found)
 }
 
-/// Opens a store of the sample site for each text that grew from it: what differs first, behind the text.
+/// Opens a store of the sample site for each text that grew from it: what differs first, behind the
+/// text.
 pub fn first_difference_grown<K: InFiles>(
     alloc: Global,
     store: &Store,

@@ -70,9 +70,9 @@ fn first_other_fault<K: InFiles>(
     Ok(String::new(alloc))
 }
 
-/// Opens the store of an earlier schema for each text that grew from its site's, of which it only has the
-/// digest: the first that isn't refused, or of which something is left. Once the store was opened for its
-/// own text, it is for each of them, with the same books.
+/// Opens the store of an earlier schema for each text that grew from its site's, of which it only
+/// has the digest: the first that isn't refused, or of which something is left. Once the store was
+/// opened for its own text, it is for each of them, with the same books.
 fn first_difference_in_growth<K: InFiles>(
     alloc: Global,
     earlier: &Earlier,
@@ -81,7 +81,8 @@ fn first_difference_in_growth<K: InFiles>(
     let rows = rows_in::<K>(alloc, &store)?;
     for text in grown_texts(alloc)? {
         let (fault, left) = opened_and_closed::<K>(alloc, &store, text.as_str())?;
-        if fault != 1 || rows_in::<K>(alloc, &left)?.as_str() != rows.as_str() {
+        let then = rows_in::<K>(alloc, &left)?;
+        if fault != 1 || then.as_str() != rows.as_str() {
             return Ok(format!(in alloc; "schema {}: fault {fault}: {text}", earlier.schema)?);
         }
     }

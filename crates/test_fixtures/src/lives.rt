@@ -1,5 +1,6 @@
-//! The life of a device from its registration to its end, as a conversation with marks in braces, and what stands
-//! for them in each kind of order and chip. `{nr}` is the next number of the seat, and `{nr=}` the last one again.
+//! The life of a device from its registration to its end, as a conversation with marks in braces,
+//! and what stands for them in each kind of order and chip. `{nr}` is the next number of the seat,
+//! and `{nr=}` the last one again.
 
 /// What stands for marks of a text, mark by mark.
 pub type Marks = &'static [(&'static str, &'static str)];
@@ -97,8 +98,8 @@ pub const LOCKS: &[Marks] = &[
     ],
 ];
 
-/// Chips of either map, without a bit and with one: the last of block 3, and the last of block 0, which is
-/// in no field.
+/// Chips of either map, without a bit and with one: the last of block 3, and the last of block 0,
+/// which is in no field.
 pub const CHIPS: &[Marks] = &[
     &[
         ("{map}", "$DIGEST"),

@@ -1,5 +1,6 @@
-//! Conversations about what few stations ask or show, and what a wrong definition would let pass: fuses that
-//! can't be read, keys that nobody asked for, and requests that differ from the last in one member.
+//! Conversations about what few stations ask or show, and what a wrong definition would let pass:
+//! fuses that can't be read, keys that nobody asked for, and requests that differ from the last in
+//! one member.
 
 /// The conversations, each under its name.
 pub const EDGES: &[(&str, &str)] = &[
@@ -15,7 +16,8 @@ pub const EDGES: &[(&str, &str)] = &[
     ("bodies and queries that say nothing", UNUSED),
 ];
 
-/// The read lock of BLOCK3 is burnt, so none of its bits is. Where one reads 1 the chip isn't taken.
+/// The read lock of BLOCK3 is burnt, so none of its bits is. Where one reads 1 the chip isn't
+/// taken.
 const HIDDEN_BIT: &str = r#"
 @ map
 a1 POST /v1/device {"nr":3,"chip":"00000000000a","order":"o1","map":"$DIGEST","blocks":<0.0=00040000 3.0=00000080>}
@@ -33,8 +35,8 @@ a1 POST /v1/plan {"nr":4,"chip":"00000000000a","wishes":[{"kind":"bit","field":"
   "state":"awaiting1"}
 "#;
 
-/// A bit and its read lock: once the lock is burnt the bit reads 0. One that still reads 1 is stray, though it
-/// was burnt.
+/// A bit and its read lock: once the lock is burnt the bit reads 0. One that still reads 1 is
+/// stray, though it was burnt.
 const HIDDEN_ONE: &str = r#"
 @ chip
 a1 POST /v1/plan {"nr":4,"chip":"00000000000a","wishes":[{"kind":"bit","field":"BLOCK3","index":7},{"kind":"rlock","field":"BLOCK3"}]}
@@ -60,7 +62,8 @@ a1 GET /v1/device?chip=00000000000b
   "pending":{"batch1":$NONE,"batch2":$NONE},"reason":"stray","serial":null,"state":"quarantined"}
 "#;
 
-/// A bit is asked for, and beside it a key is burnt. The digest is that of 4 zeros, a byte 1 and 27 zeros.
+/// A bit is asked for, and beside it a key is burnt. The digest is that of 4 zeros, a byte 1 and 27
+/// zeros.
 const UNASKED_KEY: &str = r#"
 @ chip
 a1 POST /v1/plan {"nr":4,"chip":"00000000000a","wishes":[{"kind":"bit","field":"JTAG_DISABLE","index":0}]}
@@ -134,8 +137,8 @@ a1 POST /v1/import {"nr":1,"issuer":"acme-ca","csv":"serial,key_sha256\nZ1,ba781
 200 {"added":1,"present":0}
 "#;
 
-/// The last number with the same words of another chip, one that isn't there: as a plan, a read-back, an
-/// identity and a shipping.
+/// The last number with the same words of another chip, one that isn't there: as a plan, a
+/// read-back, an identity and a shipping.
 const OTHER_CHIP: &str = r#"
 @ chip
 a1 POST /v1/plan {"nr":4,"chip":"00000000000a","wishes":[{"kind":"bit","field":"JTAG_DISABLE","index":0}]}
