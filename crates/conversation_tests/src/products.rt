@@ -17,8 +17,10 @@ const QUANTITY: u64 = 16;
 /// The line of an order in the report, behind all its devices, and what stands before and behind
 /// the lines.
 const ORDER_LINE: &str = "o#,16,0,0,0,0,10,0,6,0|";
+
 const REPORT: &str =
     "a1 GET /v1/report\ncsv order,quantity,registered,planned,settled,identified,shipped,quarantined,scrapped,serials_left|";
+
 const SITE_REPORT: &str =
     "\nmanager GET /v1/site/report\ncsv customer,orders,quantity,registered,planned,settled,identified,shipped,quarantined,scrapped,serials_left|acme,18,288,0,0,0,0,180,0,108,0|bolt,0,0,0,0,0,0,0,0,0,0|\n";
 

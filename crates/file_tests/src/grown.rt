@@ -9,9 +9,7 @@ use std::test::Fail;
 use test_fixtures::conversations::growths::{GROWTHS, Growth};
 use test_fixtures::conversations::runs::{BOOKS, RUN};
 use test_fixtures::conversations::{Exchange, exchanges};
-use test_fixtures::samples::{
-    GROWING, NEXT_TEXTS, SITE, SITE_WITH_A_CUSTOMER, SITE_WITH_A_POOL,
-};
+use test_fixtures::samples::{GROWING, NEXT_TEXTS, SITE, SITE_WITH_A_CUSTOMER, SITE_WITH_A_POOL};
 use test_support::stores::{tell_of, told_then};
 
 /// The texts of the sites that grew from the sample.

@@ -274,7 +274,8 @@ pub fn told(
 }
 
 /// The reply with 503, which is always this one.
-const UNKEPT: &str = "HTTP/1.1 503 Service Unavailable\r\nContent-Type: application/json\r\nContent-Length: 26\r\n\r\n{\"error\":\"unkept\",\"no\":50}";
+const UNKEPT: &str =
+    "HTTP/1.1 503 Service Unavailable\r\nContent-Type: application/json\r\nContent-Length: 26\r\n\r\n{\"error\":\"unkept\",\"no\":50}";
 
 /// Whether what was told is that a request got 503, as it must stand, or no reply.
 pub fn is_unanswered(found: &str) -> bool {

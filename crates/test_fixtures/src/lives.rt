@@ -150,6 +150,7 @@ pub const KEYS: &[Marks] = &[
 
 /// The ends of a device.
 pub const SHIPPED: Marks = &[("{end}", "ship"), ("{state}", "shipped")];
+
 pub const SCRAPPED: Marks = &[("{end}", "scrap"), ("{state}", "scrapped")];
 
 /// No beginning of validity, and one.
