@@ -113,8 +113,8 @@ fn with_blocks(alloc: Global, text: &str) -> Result<String, Fail> {
     };
     let (words, after) = rest.split_once(">").ok_or("no end of the blocks")?;
     let mut blocks = String::new(alloc);
-    let first = if words.contains("0.7=") { 8 } else { 7 };
-    for (index, length) in [("0", first), ("1", 8u64), ("2", 8), ("3", 8)] {
+    let first = if words.contains("0.7=") { 8u64 } else { 7 };
+    for (index, length) in [("0", first), ("1", 8), ("2", 8), ("3", 8)] {
         let mark = if blocks.is_empty() { "[" } else { "," };
         let block = block(alloc, index, length, words)?;
         blocks.push_str(mark)?;
