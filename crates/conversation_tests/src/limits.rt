@@ -128,9 +128,14 @@ a1 GET /v1/devices?after=000000000597
   {"chip":"000000000599","order":"o1","reason":null,"serial":null,"state":"registered"}],"next":null}
 "#;
 
-/// The line that asks for a page behind a chip, whose last digits stand for `#`, and the beginning
-/// of its reply.
-const PAGE_BEHIND: &str = "a1 GET /v1/devices?after=00000000#\n200 {\"devices\":[";
+/// What stands between the devices of the first and the second page, and of the second and the third.
+const SECOND_PAGE: &str = r#"],"next":"000000001498"}
+a1 GET /v1/devices?after=000000001498
+200 {"devices":["#;
+
+const THIRD_PAGE: &str = r#"],"next":"000000001998"}
+a1 GET /v1/devices?after=000000001998
+200 {"devices":["#;
 
 /// What an import of acme's begins with; `#` stands for its number.
 const IMPORT: &str =
@@ -527,19 +532,23 @@ fn full_pages(alloc: Global) -> Result<String, AllocError> {
     )
 }
 
+/// The devices of numbers of four digits, as a page lists them.
+fn listed(alloc: Global, first: u64, end: u64) -> Result<String, AllocError> {
+    let listed = LISTED.replace(alloc, "000000000#", "00000000#")?;
+    let all = numbered(alloc, listed.as_str(), "#", first, end)?;
+    String::from_str(alloc, all.as_str().strip_prefix(",").unwrap_or(""))
+}
+
 /// Three pages of 1,001 devices: the first with 499 behind it, 500, and the last.
 fn three_pages(alloc: Global) -> Result<String, AllocError> {
-    let listed = LISTED.replace(alloc, "000000000#", "00000000#")?;
-    let first = numbered(alloc, listed.as_str(), "#", 1000, 1499)?;
-    let second = numbered(alloc, listed.as_str(), "#", 1499, 1999)?;
-    let third = numbered(alloc, listed.as_str(), "#", 1999, 2000)?;
-    let behind_first = PAGE_BEHIND.replace(alloc, "#", "1498")?;
-    let behind_second = PAGE_BEHIND.replace(alloc, "#", "1998")?;
-    let second = second.as_str().strip_prefix(",").unwrap_or("");
-    let third = third.as_str().strip_prefix(",").unwrap_or("");
-    format!(in alloc;
-        "{FIRST_PAGE}{LISTED_FIRST}{first}],\"next\":\"000000001498\"}}\n{behind_first}{second}],\"next\":\"000000001998\"}}\n{behind_second}{third}],\"next\":null}}\n"
-    )
+    let mut pages = format!(in alloc; "{FIRST_PAGE}{LISTED_FIRST},")?;
+    pages.push_str(listed(alloc, 1000, 1499)?.as_str())?;
+    pages.push_str(SECOND_PAGE)?;
+    pages.push_str(listed(alloc, 1499, 1999)?.as_str())?;
+    pages.push_str(THIRD_PAGE)?;
+    pages.push_str(listed(alloc, 1999, 2000)?.as_str())?;
+    pages.push_str("],\"next\":null}\n")?;
+    Ok(pages)
 }
 
 /// All but the last of 10,000 numbers, imported in parts of up to 500.

@@ -44,6 +44,11 @@ fn filled(alloc: Global, text: &str, marks: &[(&str, &str)]) -> Result<String, A
     Ok(filled)
 }
 
+/// The text with a value in place of a mark. It ends with the value, so that few are there at once.
+fn put(alloc: Global, text: &str, mark: &str, value: String) -> Result<String, AllocError> {
+    text.replace(alloc, mark, value.as_str())
+}
+
 /// The bytes of a text as hexadecimal digits.
 fn digits_of(alloc: Global, text: &str) -> Result<String, AllocError> {
     let mut digits = String::new(alloc);
@@ -110,42 +115,53 @@ impl Order {
 
     /// The text with what the order has, where so many serial numbers are given.
     fn told(self, alloc: Global, text: &str, given: u64) -> Result<String, AllocError> {
-        let text = filled(alloc, text, self.beginning)?;
-        let index = format!(in alloc; "{}", self.index)?;
-        let width = format!(in alloc; "{}", self.width)?;
-        let first = format!(in alloc; "{}", self.first)?;
-        let macs = format!(in alloc; "{}", self.macs)?;
-        let start = self.address(alloc, 0)?;
-        let next = self.next(alloc, given)?;
-        let marks = [
-            ("{index}", index.as_str()),
-            ("{width}", width.as_str()),
-            ("{first}", first.as_str()),
-            ("{macs}", macs.as_str()),
-            ("{start}", start.as_str()),
-            ("{next}", next.as_str()),
+        let mut told = filled(alloc, text, self.beginning)?;
+        let numbers = [
+            ("{index}", self.index),
+            ("{width}", self.width),
+            ("{first}", self.first),
+            ("{macs}", self.macs),
         ];
-        filled(alloc, text.as_str(), &marks)
+        for row in numbers {
+            let number = format!(in alloc; "{}", row.1)?;
+            told = put(alloc, told.as_str(), row.0, number)?;
+        }
+        told = put(alloc, told.as_str(), "{start}", self.address(alloc, 0)?)?;
+        put(alloc, told.as_str(), "{next}", self.next(alloc, given)?)
     }
 
-    /// The life of the device at a place, whose public key is the text of its serial number.
-    fn life(self, alloc: Global, place: u64, text: &str) -> Result<String, AllocError> {
-        let text = self.told(alloc, text, place.saturating_add(1))?;
-        let index = self.index;
-        let chip = format!(in alloc; "{index:06}{place:06}")?;
+    /// The text with the identity of a place, whose public key is the text of its serial number.
+    fn identified(self, alloc: Global, text: &str, place: u64) -> Result<String, AllocError> {
         let serial = self.serial(alloc, place)?;
-        let public = digits_of(alloc, serial.as_str())?;
+        let mut told = text.replace(alloc, "{serial}", serial.as_str())?;
+        told = put(
+            alloc,
+            told.as_str(),
+            "{public}",
+            digits_of(alloc, serial.as_str())?,
+        )?;
         let digest = Digest::of(serial.as_bytes());
-        let digest = format!(in alloc; "{digest}")?;
-        let address = self.address(alloc, place)?;
-        let marks = [
-            ("{chip}", chip.as_str()),
-            ("{serial}", serial.as_str()),
-            ("{public}", public.as_str()),
-            ("{digest}", digest.as_str()),
-            ("{address}", address.as_str()),
-        ];
-        filled(alloc, text.as_str(), &marks)
+        put(
+            alloc,
+            told.as_str(),
+            "{digest}",
+            format!(in alloc; "{digest}")?,
+        )
+    }
+
+    /// The life of the device at a place, by the text of its kind.
+    fn life(self, alloc: Global, place: u64, text: &str) -> Result<String, AllocError> {
+        let index = self.index;
+        let mut life = self.told(alloc, text, place.saturating_add(1))?;
+        life = self.identified(alloc, life.as_str(), place)?;
+        let chip = format!(in alloc; "{index:06}{place:06}")?;
+        life = put(alloc, life.as_str(), "{chip}", chip)?;
+        put(
+            alloc,
+            life.as_str(),
+            "{address}",
+            self.address(alloc, place)?,
+        )
     }
 
     /// The order, and the lives of its devices: one for each kind of chip.

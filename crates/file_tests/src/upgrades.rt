@@ -70,26 +70,44 @@ fn first_other_fault<K: InFiles>(
     Ok(String::new(alloc))
 }
 
-/// Opens the store of an earlier schema for each text that grew from its site's, of which it only
-/// has the digest: the first that isn't refused, or of which something is left. Once the store was
-/// opened for its own text, it is for each of them, with the same books.
+/// Opens a store of an earlier schema, which has the digest of its site's text alone, for each text that
+/// grew from it: the first that isn't refused, or of which something is left.
+fn first_growth_taken<K: InFiles>(alloc: Global, store: &Store) -> Result<String, Fail> {
+    let rows = rows_in::<K>(alloc, store)?;
+    for text in grown_texts(alloc)? {
+        let (fault, left) = opened_and_closed::<K>(alloc, store, text.as_str())?;
+        let then = rows_in::<K>(alloc, &left)?;
+        if fault != 1 || then.as_str() != rows.as_str() {
+            return Ok(format!(in alloc; "fault {fault}: {text}")?);
+        }
+    }
+    Ok(String::new(alloc))
+}
+
+/// Opens a store of an earlier schema for its site's text, and then for each that grew from it: what differs
+/// first of what is shown then.
+fn first_difference_behind_upgrade<K: InFiles>(
+    alloc: Global,
+    store: &Store,
+    shown: &str,
+) -> Result<String, Fail> {
+    let (_, upgraded) = opened_and_closed::<K>(alloc, store, SITE)?;
+    let books = exchanges(alloc, shown)?;
+    let shown = shown_of(alloc, books.as_slice())?;
+    first_difference_grown::<K>(alloc, &upgraded, shown.as_slice())
+}
+
+/// What differs first where the site of an earlier store grows: before its upgrade, or behind it.
 fn first_difference_in_growth<K: InFiles>(
     alloc: Global,
     earlier: &Earlier,
 ) -> Result<String, Fail> {
     let store = store_of::<K>(alloc, earlier)?;
-    let rows = rows_in::<K>(alloc, &store)?;
-    for text in grown_texts(alloc)? {
-        let (fault, left) = opened_and_closed::<K>(alloc, &store, text.as_str())?;
-        let then = rows_in::<K>(alloc, &left)?;
-        if fault != 1 || then.as_str() != rows.as_str() {
-            return Ok(format!(in alloc; "schema {}: fault {fault}: {text}", earlier.schema)?);
-        }
+    let found = first_growth_taken::<K>(alloc, &store)?;
+    if !found.is_empty() {
+        return Ok(found);
     }
-    let (_, upgraded) = opened_and_closed::<K>(alloc, &store, SITE)?;
-    let books = exchanges(alloc, earlier.shown)?;
-    let shown = shown_of(alloc, books.as_slice())?;
-    first_difference_grown::<K>(alloc, &upgraded, shown.as_slice())
+    first_difference_behind_upgrade::<K>(alloc, &store, earlier.shown)
 }
 
 /// Stores of earlier schemas whose site grows.
