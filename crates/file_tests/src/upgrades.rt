@@ -70,8 +70,8 @@ fn first_other_fault<K: InFiles>(
     Ok(String::new(alloc))
 }
 
-/// Opens a store of an earlier schema, which has the digest of its site's text alone, for each text that
-/// grew from it: the first that isn't refused, or of which something is left.
+/// Opens a store of an earlier schema, which has the digest of its site's text alone, for each text
+/// that grew from it: the first that isn't refused, or of which something is left.
 fn first_growth_taken<K: InFiles>(alloc: Global, store: &Store) -> Result<String, Fail> {
     let rows = rows_in::<K>(alloc, store)?;
     for text in grown_texts(alloc)? {
@@ -84,8 +84,8 @@ fn first_growth_taken<K: InFiles>(alloc: Global, store: &Store) -> Result<String
     Ok(String::new(alloc))
 }
 
-/// Opens a store of an earlier schema for its site's text, and then for each that grew from it: what differs
-/// first of what is shown then.
+/// Opens a store of an earlier schema for its site's text, and then for each that grew from it: what
+/// differs first of what is shown then.
 fn first_difference_behind_upgrade<K: InFiles>(
     alloc: Global,
     store: &Store,
