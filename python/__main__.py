@@ -15,6 +15,8 @@ def main() -> int:
         print(f"usage: python3 python COMMAND ..; COMMAND is {', '.join(scripts)}", file=sys.stderr)
         return 2
     sys.dont_write_bytecode = True
+    if name != "wanekupo":  # before a library reads what the words name, as OpenSSL does
+        importlib.import_module("wanekupo.common.store_words").clean_words()
     module, _, function = scripts[name].partition(":")
     sys.argv[:2] = [name]
     return int(getattr(importlib.import_module(module), function)() or 0)

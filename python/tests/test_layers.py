@@ -11,7 +11,7 @@ RANK = {package: rank for rank, layer in enumerate(LAYERS) for package in layer}
 TEXTS = {str(path.relative_to(PACKAGE)): path.read_text(encoding="utf-8") for path in sorted(PACKAGE.rglob("*.py"))}
 TREES = {name: ast.parse(text) for name, text in TEXTS.items()}
 # Public functions that more than one module has, today: the number only goes down.
-SHARED_FUNCTIONS = 61
+SHARED_FUNCTIONS = 10
 
 
 def imported(tree: ast.AST) -> list[str]:

@@ -26,7 +26,7 @@ from commanding import ran
 from wanekupo.books.report_counts import difference_of, summed
 from wanekupo.metrics.exposition import Samples
 from wanekupo.metrics.journal_counts import add_journals
-from wanekupo.seat.journal import lines_of
+from wanekupo.seat.journal import strict_lines
 from wanekupo.seat.states import REPORTED
 
 pytestmark = [pytest.mark.needs("openssl"), pytest.mark.sizes(12, 200)]
@@ -116,7 +116,7 @@ def counts_of_journals(plant):
     shipped, given_up = set(), set()
     for file in (plant.folder / "journals").glob("*.journal"):
         asked = {}
-        for line in lines_of(file):
+        for line in strict_lines(file):
             asked = line.get("asked", asked)
             state = line["reply"].get("state") if line.get("status") == 200 else ""
             shipped |= {asked["chip"]} if state == "shipped" else set()

@@ -8,7 +8,7 @@ from pathlib import Path
 from books.seal_forged import FORGED, OF_ONE, OF_TWO, OF_WAITING, ONE, TWO, WAITING, Forged, change_lines, retimed
 from books.seal_plant import END, JTAG, MAP, READ_1, WRITE_1, chip_of, shown
 from wanekupo.seat.journal import request_digest
-from wanekupo.seat.rows import csv_of
+from wanekupo.seat.import_rows import csv_of
 
 OF_LAST = f"customer = 'acme' AND chip = '{chip_of(10)}'"
 LATE = "2098-01-01T00:00:00Z"

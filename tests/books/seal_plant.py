@@ -21,7 +21,7 @@ from common.stores import parts_of
 from wanekupo.chips.chip import bit, key, redacted, rlock, wlock
 from wanekupo.seat import journal as journals
 from wanekupo.seat.journal import Journal, request_digest
-from wanekupo.seat.rows import csv_of
+from wanekupo.seat.import_rows import csv_of
 from wanekupo.seat.station import Station
 
 MAP = (ROOT / "python/wanekupo/chips/families/esp32/map.toml").read_text(encoding="utf-8")

@@ -33,7 +33,7 @@ from common.needs import ROOT
 from common.ports import free_ports
 from common.served import Server, station
 from wanekupo.books.yields import LOOKS, SENTENCE
-from wanekupo.common.token_file import PREFIX, Outer, TokenSeat, Tokens, mark_of, now, text_of
+from wanekupo.common.token_file import PREFIX, Outer, TokenSeat, Tokens, mark_of, current_minute, tokens_text
 
 PAGE, CONF, PICTURE = ROOT / "clients/web/yield.html", ROOT / "deploy/nginx.conf", ROOT / "docs/pictures/yield-open.png"
 HEAD = "order,quantity,registered,planned,settled,identified,shipped,quarantined,scrapped,serials_left\n"
@@ -95,8 +95,8 @@ def tokens():
     made = Tokens()
     for number, (inner, customer) in enumerate(CUSTOMERS.items(), 1):
         made.seats[inner] = TokenSeat(inner, customer, inner)
-        made.outers.append(Outer(f"{inner}:1", number, inner, True, mark_of(inner), now(), outer_of(inner)))
-    return text_of(made)
+        made.outers.append(Outer(f"{inner}:1", number, inner, True, mark_of(inner), current_minute(), outer_of(inner)))
+    return tokens_text(made)
 
 
 def sums():

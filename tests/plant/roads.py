@@ -46,9 +46,9 @@ OWN, ROOTS, OTHERS = VOLUME / "of-root", VOLUME / "of-root.d", VOLUME / "other/f
 OWNED, RAN, LOG = Path("/root/OWNED"), Path("/run/ran"), Path("/run/attack")
 SEQUENCE = "\x1b]0;owned\x07"
 SECONDS = 300
-# Says as whom it runs over a store, and takes its time there.
+# Says as whom it runs over a store or a site's text, and takes its time there.
 PROGRAM = """#!/bin/sh
-case "$*" in *--db*) case "$*" in */station-site.*) ;; *) echo "$(id -u) $*" >> /run/ran; sleep 0.3 ;; esac ;; esac
+case "$*" in *--db*|check-site*) echo "$(id -u) $*" >> /run/ran; sleep 0.3 ;; esac
 exec /run/bin/program "$@"
 """
 LOOK = """import contextlib, pathlib, sys

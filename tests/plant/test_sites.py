@@ -1,6 +1,7 @@
-"""station-site: its reader beside the program, growths of a site over a served store, kills and failed starts.
+"""station-site: what it says of a text, growths of a site over a served store, kills and failed starts.
 
-Each text of sites_faults.py has its number, its line and its member, and the program says that number. Growths are said
+Each text of sites_faults.py has its number and the words that the program tells. Where a map is wrong the tool's reader
+says, and it has the program's number, also of texts that were changed by chance. Growths are said
 in words, tried over a copy of the store, and put in place with one stop. A growth that is killed right before one of
 its deeds (a file, a rename, a program) and begun again ends as one that nobody cut, and no token is lost, made twice,
 printed, or in a program's words.
@@ -21,9 +22,8 @@ from common.commands import PROJECT, copy_project
 from common.deployed import expect
 from common.grown_sites import GROWN, NO_SITES, OTHERS
 from plant.house import House, digest_of, was_killed
-from plant.sites_faults import KEYED, MAPS, NONE, SAMPLE, SECRET, SITES
+from plant.sites_faults import KEYED, MAPS, NO_TOML, NONE, SAMPLE, SECRET, SITES
 from wanekupo.plant.site.map_faults import map_faults
-from wanekupo.plant.site.site_faults import site_faults
 
 pytestmark = pytest.mark.needs("curl", "sqlite3", "flock")
 
@@ -61,33 +61,33 @@ def served(house: House) -> House:
     return house
 
 
-def number_of(house: House, text: str, is_map: bool) -> int:
-    """The program's own number of a text; 0 where it takes it."""
+def said_of(house: House, command: str, text: str) -> str:
+    """The program's own line of a text; nothing where it takes it."""
     path = house.folder / "text.toml"
     path.write_bytes(text.encode())
-    words = ["check-map", path] if is_map else ["replay", "--site", path]
-    words = [house.program, *words]
+    words = [house.program, command, path]
     done = subprocess.run(words, stdin=subprocess.DEVNULL, capture_output=True, text=True, check=False)
-    found = re.fullmatch(r"station: (?:site|map) fault (\d)\n", done.stderr)
-    if done.returncode and not found:
-        raise Failed(f"the program says {done.stderr!r}")
+    return done.stderr.strip() or (f"status {done.returncode}" if done.returncode else "")
+
+
+def number_of(house: House, text: str) -> int:
+    """The program's own number of a map; 0 where it takes it."""
+    said = said_of(house, "check-map", text)
+    found = re.fullmatch(r"station: map fault (\d)", said)
+    if said and not found:
+        raise Failed(f"the program says {said!r}")
     return int(found[1]) if found else 0
 
 
-def told(house: House, text: str) -> tuple[int, str]:
-    """The status of `check`, and what it says."""
+def told(house: House, text: str) -> tuple[int, list[str]]:
+    """The status of `check`, and its lines, with F in the place of the file's path."""
     path = house.folder / "checked.toml"
     path.write_bytes(text.encode())
     run = house.run("check", str(path))
-    return run.status, run.said
+    return run.status, run.said.replace(str(path), "F").splitlines()
 
 
-def read_by_tool(text: str, is_map: bool) -> list:
-    """The faults as the tool's reader finds them, in this process."""
-    return (map_faults if is_map else site_faults)(text)
-
-
-# ---- the reader
+# ---- what is wrong with a text
 
 
 @pytest.mark.parametrize(("rows", "last"), [(SITES, 6), (MAPS, 8)], ids=["sites", "maps"])
@@ -95,30 +95,43 @@ def test_each_number_has_a_text(rows, last) -> None:
     assert {row[2] for row in rows} == set(range(1, last + 1))
 
 
-FAULTS = [pytest.param(is_map, *row[1:], id=f"{'map' if is_map else 'site'}: {row[0]}")
-          for is_map, rows in ((False, SITES), (True, MAPS)) for row in rows]  # fmt: skip
-
-
-@pytest.mark.parametrize(("is_map", "text", "number", "line", "member"), FAULTS)
-def test_faults(made: House, is_map: bool, text: str, number: int, line: int, member: str) -> None:
-    kind = "map" if is_map else "site"
-    expect("the program's number", number_of(made, text, is_map), number)
+@pytest.mark.parametrize(("text", "number", "words"), [row[1:] for row in SITES], ids=[row[0] for row in SITES])
+def test_faults_of_sites(made: House, text: str, number: int, words: str) -> None:
+    line = f"station: site fault {number}: {words}"
+    expect("the program's line", said_of(made, "check-site", text), line)
     status, said = told(made, text)
-    first = said.splitlines()[0]
-    wanted = rf"station-site: \S+/checked\.toml:{line}: {re.escape(member)}: .+ \(fault {number}\)"
-    if status != 1 or not re.fullmatch(wanted, first):
-        raise Failed(f"status {status}, {first!r}, and not {wanted!r}")
-    expect("the last line", said.splitlines()[-1], f"station: {kind} fault {number}")
-    expect("tokens that are told", [it for it in SECRETS if it in said.replace(",", "")], [])
-    expect("a fault told twice", len(set(said.splitlines())), len(said.splitlines()))
+    expect("the status, and the last line", (status, said[-1].removeprefix("station-site: ")), (1, f"F: {line}"))
+    expect("other lines", len(said) - 1, int(number == 1))
+    expect("tokens that are told", [it for it in SECRETS if it in "".join(said)], [])
+
+
+@pytest.mark.parametrize(("text", "line", "member"), [row[1:] for row in NO_TOML], ids=[row[0] for row in NO_TOML])
+def test_lines_of_no_toml(made: House, text: str, line: int, member: str) -> None:
+    first = told(made, text)[1][0]
+    expect(first, bool(re.fullmatch(rf"station-site: F:{line}: {member}: .+ \(fault 1\)", first)), True)
+
+
+@pytest.mark.parametrize(("text", "number", "line", "member"), [row[1:] for row in MAPS], ids=[row[0] for row in MAPS])
+def test_faults_of_maps(made: House, text: str, number: int, line: int, member: str) -> None:
+    expect("the program's number", number_of(made, text), number)
+    status, said = told(made, text)
+    wanted = rf"station-site: F:{line}: {re.escape(member)}: .+ \(fault {number}\)"
+    if status != 1 or not re.fullmatch(wanted, said[0]):
+        raise Failed(f"status {status}, {said[0]!r}, and not {wanted!r}")
+    expect("the last line", said[-1], f"F: station: map fault {number}")
+    expect("a fault told twice", len(set(said)), len(said))
 
 
 def test_newer_toml(made: House) -> None:
-    newer = f'x = "\\e"\n{SAMPLE}'
-    expect("TOML 1.1 that is a site", told(made, newer)[0], 0)
-    status, said = told(made, newer.replace('"b1"', '"a1"'))
-    wanted = [":1: this line is TOML 1.1" in said, said.splitlines()[-1]]
-    expect("TOML 1.1 with a fault", (status, wanted), (1, [True, "station: site fault 3"]))
+    """The program reads TOML 1.1. Of a site it names the place, and of a map the line is told that is no TOML 1.0."""
+    newer = 'x = "\\e"\n'
+    expect("TOML 1.1 that is a site", told(made, newer + SAMPLE), (0, ["F is a site, says the program"]))
+    expect("TOML 1.1 that is a map", told(made, newer + KEYED), (0, ["F is a fuse map, says the program"]))
+    words = "station-site: F: station: site fault 3: customer bolt, seat 1: the name is there already"
+    expect("TOML 1.1 with a fault", told(made, newer + SAMPLE.replace('"b1"', '"a1"')), (1, [words]))
+    status, said = told(made, newer + KEYED.replace("words = 8", "words = 9"))
+    expect("a map of TOML 1.1 with a fault", (status, said[1:]), (1, ["F: station: map fault 2"]))
+    expect(said[0], said[0].startswith("station-site: F:1: the text: it is no TOML 1.0"), True)
 
 
 def changed(text: str, chance: random.Random) -> str:
@@ -151,7 +164,7 @@ FILES = sorted((PROJECT / "wanekupo/chips/families").glob("*/*.toml"))
 def test_files_have_the_programs_number(made: House, path: Path) -> None:
     """The program takes each map of this project, and says of each other file of a family what the reader says."""
     text = path.read_text(encoding="utf-8")
-    number, found = number_of(made, text, True), read_by_tool(text, True)
+    number, found = number_of(made, text), map_faults(text)
     expect("the reader's number", found[0].number if found else 0, number)
     if path.stem == "map":
         expect("a map", number, 0)
@@ -159,24 +172,30 @@ def test_files_have_the_programs_number(made: House, path: Path) -> None:
 
 @pytest.mark.sizes(200, 2000)
 def test_texts_have_the_programs_number(made: House, chance: random.Random, size: int) -> None:
-    """Sites and maps that were changed by chance have the program's number."""
+    """Maps that were changed by chance have the program's number."""
     found = set()
     for _ in range(size):
-        is_map = chance.random() < 0.5
-        text = changed(chance.choice([KEYED, KEYED, NONE]) if is_map else SAMPLE, chance)
-        number, faults = number_of(made, text, is_map), read_by_tool(text, is_map)
-        found.add((is_map, number))
+        text = changed(chance.choice([KEYED, KEYED, NONE]), chance)
+        number, faults = number_of(made, text), map_faults(text)
+        found.add(number)
         if number != (faults[0].number if faults else 0):
             raise Failed(f"the program says {number}, the reader {faults[:1]}, of {text!r}")
-    expect("several numbers of both kinds", len(found) > 6, True)
+    expect("several numbers", len(found) > 4, True)
 
 
 # ---- differences and forms
 
 ROWS = [(name, text, 0, "nothing is taken away") for name, text, _ in GROWN]
-# The tool's own words, before the program is asked.
-ROWS += [(name, text, 1, "nothing of a site can be taken away") for name, text in OTHERS]
-ROWS += [(name, text, 1, f"(fault {number})") for name, text, number in NO_SITES]
+# What the program says is gone, or has changed, of each other site.
+LOST = ["acme, pool 1", "acme, pool 1", *["acme, pool 2"] * 4, *["acme, seat 1"] * 3, *["acme, issuer 1"] * 2, "acme",
+        "bolt", "acme"]  # fmt: skip
+GONE = [*(f"customer {it}" for it in LOST), "manager", "manager"]
+ROWS += [(row[0], row[1], 1, f"new.toml: station: store fault 1: {gone}: it is gone, or has changed\n"
+          "nothing of a site can be taken away\n") for row, gone in zip(OTHERS, GONE, strict=True)]  # fmt: skip
+SAID = ["the text is no TOML document", "customer bolt: the name is there already",
+        "customer acme, pool 3: an address lies in a pool before it too"]  # fmt: skip
+ROWS += [(row[0], row[1], 1, f"new.toml: station: site fault {row[2]}: {said}\n")
+         for row, said in zip(NO_SITES, SAID, strict=True)]  # fmt: skip
 
 
 def difference(house: House, text: str):
@@ -197,13 +216,6 @@ def test_growths(made: House, text: str, status: int, said: str) -> None:
     run = difference(made, text)
     if run.status != status or said not in run.said:
         raise Failed(f"status {run.status}, {run.said}")
-
-
-@pytest.mark.parametrize(("text", "number"), [row[1:] for row in NO_SITES], ids=[row[0] for row in NO_SITES])
-def test_no_sites(made: House, text: str, number: int) -> None:
-    status, said = told(made, text)
-    if status != 1 or f"station: site fault {number}" not in said or f"(fault {number})" not in said:
-        raise Failed(said)
 
 
 def test_growth_in_words(made: House) -> None:
@@ -242,7 +254,7 @@ def test_forms(house: House, text: str, words: list[str]) -> None:
     kept = [line for line in text.replace("customer = []", "").splitlines() if line.strip(" #none")]
     missing = [line for line in kept if line not in new.splitlines() and line[:20] not in new]
     expect("lines that went", missing, [])
-    expect("the program's number", number_of(house, new, False), 0)
+    expect("what the program says", said_of(house, "check-site", new), "")
     again = house.run(*words)
     expect("said twice", house.folder.joinpath("site.next.toml").read_bytes().decode(), new)
     expect("its status", again.status, 0)
@@ -320,12 +332,12 @@ def test_steps(served: House) -> None:
 
 REFUSED = [
     (["add-seat", "core", "c1"], "has no customer core"),
-    (["add-seat", "acme", "b1"], "the seat b1 is in line"),
-    (["add-customer", "acme", "--issuer", "bolt-ca"], "fault 3"),
-    (["add-pool", "bolt", "020000000011", "4"], "is of the pool in line"),
-    (["add-pool", "bolt", "030000000000", "4"], "group address"),
-    (["add-pool", "bolt", "020000000100", "16777217"], "16,777,216"),
-    (["add-issuer", "acme", *(f"i{n}" for n in range(8))], "fault 6"),
+    (["add-seat", "acme", "b1"], "site fault 3: customer bolt, seat 1: the name is there already"),
+    (["add-customer", "acme", "--issuer", "bolt-ca"], "site fault 3: customer bolt, issuer 1: the name is there"),
+    (["add-pool", "bolt", "020000000011", "4"], "site fault 4: customer bolt, pool 1: an address lies in a pool"),
+    (["add-pool", "bolt", "030000000000", "4"], "site fault 5: customer bolt, pool 1: an address is a group address"),
+    (["add-pool", "bolt", "020000000100", "16777217"], "site fault 2: customer bolt, pool 1: count has to be"),
+    (["add-issuer", "acme", *(f"i{n}" for n in range(8))], "site fault 6: customer acme: it has more than 8 of issuer"),
     (["add-seat", "acme", "a b"], "is no name"),
     (["add-seat", "acme", "a2", "--to", "/none"], "is no folder"),
     (["add-seat", "acme", "a2", "--to", "GIVEN"], "is there already"),

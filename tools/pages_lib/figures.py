@@ -34,17 +34,6 @@ SOURCES = ("crates/*/src/*", ":!crates/*_tests", ":!crates/test_*")
 
 # A page or a crate's first lines, the words around a number, and which figure it is.
 PLACES = [
-    ("README.md", "{} lines of code with contracts", "code"),
-    ("README.md", "contracts, {} of definitions", "definitions"),
-    ("README.md", "definitions, {} of proofs", "proofs"),
-    ("README.md", "proofs ({} for a line of code)", "ratio"),
-    ("README.md", "{} lines of tests", "tests"),
-    ("README.md", "{} planted bugs, which the prover must refuse", "planted"),
-    ("README.md", "{} definitions to believe for lists of requests", "believed"),
-    ("README.md", "lists of requests, {} for the bytes of streams", "streams"),
-    ("README.md", "the bytes of streams, {} for lives over a file", "lives"),
-    ("README.md", "must refuse; {} of them are in definitions", "rules"),
-    ("README.md", "The gate tries {} of them", "tried"),
     ("CONTRIBUTING.md", "The gate tries {} edits", "tried"),
     ("CONTRIBUTING.md", "edits, in {} of", "with_edits"),
     ("CONTRIBUTING.md", "edits, in * of {} crates", "crates"),

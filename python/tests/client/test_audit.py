@@ -24,7 +24,7 @@ from commanding import ran
 
 from wanekupo.seat import states
 from wanekupo.books.chain import sealed
-from wanekupo.books.clocks import contradictions, to_come, window_of
+from wanekupo.books.clocks import clock_contradictions, to_come, window_of
 from wanekupo.books.numbers import counts
 from wanekupo.books.shift import Period
 from wanekupo.books.steps import Step
@@ -242,11 +242,11 @@ class Clocks(unittest.TestCase):
             ("the only station, whose times all moved", [("a", at + 9000) for _, at in turns], []),
         ):
             with self.subTest(name):
-                self.assertEqual([it.step.line for it in contradictions(list(paired(*lines)))], meant)
+                self.assertEqual([it.step.line for it in clock_contradictions(list(paired(*lines)))], meant)
 
     def test_what_matters_to_a_period(self):
         """Not a contradiction of two lines that are both before it, or both behind it."""
-        (it,) = contradictions(list(paired(("a", 0), ("b", 500), ("a", 100), ("a", 200), ("a", 300))))
+        (it,) = clock_contradictions(list(paired(("a", 0), ("b", 500), ("a", 100), ("a", 200), ("a", 300))))
         spans = ((0, 90, False), (0, 200, True), (100, 200, True), (400, 600, True), (501, 900, False))
         for start, end, meant in spans:
             with self.subTest(f"{start} to {end}"):
@@ -255,7 +255,7 @@ class Clocks(unittest.TestCase):
     def test_what_is_told(self):
         """Both times, both lines, and which entry was written first."""
         late, early = ([("a", 0), ("b", 900), ("a", 20), ("a", 30)], [("a", 900), ("a", 920), ("b", 10), ("a", 930)])
-        told = [next(contradictions(list(paired(*lines)))).told() for lines in (late, early)]
+        told = [next(clock_contradictions(list(paired(*lines)))).told() for lines in (late, early)]
         self.assertEqual(told, [
             f"has {clock(900)}, and its entry was written before that of line 3 of a, which was answered at "
             f"{clock(20)}",

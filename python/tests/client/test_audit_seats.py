@@ -24,7 +24,7 @@ from wanekupo.books import steps
 from wanekupo.books.audit import Audit, Left, Unheld, _idle_faults, _journal_faults
 from wanekupo.books.audit_page import counted
 from wanekupo.books.chain import BadChain, Chain, sealed
-from wanekupo.books.clocks import contradictions
+from wanekupo.books.clocks import clock_contradictions
 from wanekupo.books.given import given_twice
 from wanekupo.books.matches import Seated, seated, steps_by_chip
 from wanekupo.books.numbers import Span, counts, spans_of
@@ -33,6 +33,7 @@ from wanekupo.books.shift import Period
 from wanekupo.books.stamp import verified
 from wanekupo.books.steps import book_of
 from wanekupo.books.store_rows import StoredSeat
+from wanekupo.common.texts import compact_json
 from wanekupo.seat.journal import request_digest
 
 PERIOD = Period(f"{DAY}06:00:00Z", f"{DAY}14:00:00Z")
@@ -72,7 +73,9 @@ class SeatCase(unittest.TestCase):
         return book_of([file])
 
     def store(self, number=0, chip="", path="/v1/ship"):
-        last = StoredSeat("a1", "acme", number, request_digest(path, {"nr": number, "chip": chip}), "{}")
+        reply = {"chip": "240ac4000001", "state": "scrapped" if path == "/v1/scrap" else "shipped"}
+        digest = request_digest(path, {"nr": number, "chip": chip})
+        last = StoredSeat("a1", "acme", number, digest, compact_json(reply, sort_keys=True))
         return SimpleNamespace(seats={"a1": last}, records=lambda _: [])
 
     def spans(self, books, store):
@@ -94,6 +97,12 @@ class Turns(SeatCase):
         restored = [*row(1, 5, "05"), goes_on("06:30:00", 4), *done("06:31:00", 4, "n4"), *done("06:32:00", 5, "n5")]
         pc7, pc8 = [*row(1, 3, "07"), *row(6, 6, "09")], row(4, 5, "08")
         told = [*row(1, 3, "07"), goes_on("09:00:00", 6), *row(6, 6, "09")], [goes_on("08:00:00", 4), *row(4, 5, "08")]
+        one = [*row(1, 2, "07"), goes_on("07:04:00", 4), *row(4, 4, "07")]
+        two = [goes_on("07:13:00", 3), *row(3, 3, "07")]
+        two[1:] = [{**it, "at": f"{DAY}07:13:10Z"} for it in two[1:]]
+        refused = [goes_on("07:03:20", 3), asked("07:03:20", 3, "x"), answered("07:03:20", 3, 409, no=12),
+                   goes_on("07:03:30", 4), *row(4, 4, "07")]
+        bare = [*row(1, 2, "05"), asked("05:03:00", 3, "c3"), goes_on("05:03:30", 4), *row(4, 5, "05")]
         late = [*row(1, 3, "07"), goes_on("15:00:00", 2), *done("15:01:00", 2, "n2"), *done("15:02:00", 3, "n3")]
         over = [*row(1, 2, "05"), asked("05:59:50", 3, "c3"), answered("06:00:10", 3), goes_on("07:00:00", 3),
                 *done("07:01:00", 3, "n3")]
@@ -117,6 +126,15 @@ class Turns(SeatCase):
             ("a seat that moves and comes back", [pc7, pc8], (6, "c6"), []),
             ("the journals the other way round", [pc8, pc7], (6, "c6"), []),
             ("a person had it go on", list(told), (6, "c6"), []),
+            ("two by turns, one of which is minutes ahead", [one, two], (4, "c4"), []),
+            ("two by turns, one of which was refused", [row(1, 3, "07"), refused], (4, "c4"), []),
+            ("a restore in front of another's", [bare, [goes_on("06:30:00", 3), *row(3, 4, "07")]], (4, "c4"), []),
+            ("a restore behind which another goes on",
+             [row(1, 5, "07"), [goes_on("08:00:00", 4), *done("08:01:00", 4, "n4"), *done("08:02:00", 5, "n5")]],
+             (5, "n5"), ["goes on with the number 4, and line 7 of"]),
+            ("one by another journal, whose first number was not done",
+             [row(1, 4, "07"), [goes_on("08:00:00", 3), *row(5, 5, "08")]], (5, "c5"),
+             ["became an older one", "the numbers 3 to 4 have no line"]),
             ("a seat that rests since a restore", [row(1, 5, "05")], (3, "c3"), []),
             ("an older store", [row(1, 5, "07")], (3, "c3"), ["this is an older store"]),
             ("a copy of before a restore", [late], (3, "c3"), []),
@@ -229,16 +247,28 @@ class Turns(SeatCase):
             (step,) = [it for own in journals for it in own.book.steps if it.is_done() and it.number == 2]
             self.assertEqual((step.at, step.since), (f"{DAY}09:00:00Z", f"{DAY}07:02:00Z"))
             other = self.book(row(4, 6, "07"), "other").steps
-            self.assertEqual(list(contradictions([(1, step), *enumerate(other, 2)])), [])
+            self.assertEqual(list(clock_contradictions([(1, step), *enumerate(other, 2)])), [])
+
+    def test_a_last_step_between_two_periods(self):
+        """The store lacks it: an audit of the period in which it was answered misses it, and one of that before not."""
+        lines = [*row(1, 1, "05"), asked("05:59:50", 2, "c2"), answered("06:00:10", 2)]
+        for period, meant in ((PERIOD, True), (Period(f"{DAY}05:00:00Z", PERIOD.start), False)):
+            store = self.store(1, "c1")
+            own = seated(self.book(lines), store)
+            (span,) = spans_of([own], store, period)
+            is_missed = [counts(own, it, store, period) for it in own.book.steps]
+            self.assertEqual((is_missed, "an older store" in " ".join(span.faults)), ([True, meant], meant))
 
     def test_what_counts(self):
         """Not a line that was answered behind the period under a number that the store hasn't, nor one that a restore
         took away."""
         waits = [*row(1, 1, "07"), asked("13:59:59", 2, "c2"), answered("14:00:09", 2)]
         lost = [*row(1, 1, "05"), goes_on("06:30:00", 1), *done("06:31:00", 1, "n1")]
+        between = [asked("05:59:50", 2, "c2"), answered("06:00:10", 2)]
         for name, lines, last, meant in (
             ("waits", waits, (1, "c1"), [True, False]), ("is there", waits, (2, "c2"), [True, True]),
             ("restored", lost, (1, "n1"), [False, True]),
+            ("answered within", [*row(1, 1, "05"), *between], (2, "c2"), [True, True]),
         ):
             with self.subTest(name):
                 store = self.store(*last)
@@ -362,17 +392,31 @@ class Seals(unittest.TestCase):
         self.addCleanup(folder.cleanup)
         self.folder = Path(folder.name)
 
-    def test_gaps(self):
-        """The longest time without a seal is told where it is above a day, and a seal that was kept has to be there."""
+    def chained(self, *days):
+        """A chain of a seal on each of these days of a month: its lines, and the last one's seal."""
         text = 'map acme 1 {"map":"1","text_sha256":"1"}\n'
         last, lines = 64 * "0", []
-        for number, day in enumerate((1, 2, 3, 9, 10), 1):
+        for number, day in enumerate(days, 1):
             digest = hashlib.sha256(text.encode()).hexdigest()
             it = sealed(last, number, f"2026-01-{day:02}T02:00:00Z", "acme", 1, digest)
             (self.folder / f"{number:06}.rows").write_text(text)
             (self.folder / f"{number:06}.seal").write_text(it.line() + "\n")
             last, lines = it.seal, [*lines, it.line() + "\n"]
         (self.folder / "chain").write_text("".join(lines))
+        return lines, last
+
+    def test_a_time_that_falls_is_no_gap(self):
+        """Nine days lie between the first two of these seals, and the last one is of eight days before the second."""
+        self.chained(1, 10, 2)
+        found, out, _ = ran("seal", "--verify", self.folder)
+        self.assertEqual(found, 1, out)
+        self.assertIn("chain is of 2026-01-02T02:00:00Z, and the line in front of it of 2026-01-10T02:00:00Z", out)
+        self.assertIn("The last time without a seal: 216 hours, from 000001 of 2026-01-01T02:00:00Z to 000002 of", out)
+        self.assertNotIn("seal: -", out)
+
+    def test_gaps(self):
+        """The longest time without a seal is told where it is above a day, and a seal that was kept has to be there."""
+        lines, last = self.chained(1, 2, 3, 9, 10)
         for words, status, told in (
             ([], 0, "The longest time without a seal: 144 hours, from 000003 of 2026-01-03T02:00:00Z to 000004 of"),
             ([], 0, "The last time without a seal: 24 hours, from 000004 of 2026-01-09T02:00:00Z to 000005 of"),

@@ -21,7 +21,7 @@ from commanding import CLIENT, NEEDS_KEYS, OTHER_MAC, CommandCase, digest_by_ope
 from simulated_chip import FAMILIES, chip_class
 from support import DIGEST, HOST, MAC, MAP, ORDER, ROOT, SIMULATED, SITE, Canned, free_port
 
-from wanekupo.cli.main import COMMANDS, parser
+from wanekupo.cli.main import COMMANDS, client_parser
 from wanekupo.common.errors import OutOfStep, Refused
 from wanekupo.common.sentences import REFUSALS, sentence_of
 
@@ -262,7 +262,7 @@ class Words(CommandCase):
         for row in COMMANDS:
             text = " ".join(self.ran(row.name, "--help")[1].split())
             example = re.search(r"Example: wanekupo (.*?)\. The settings", text)[1]
-            self.assertEqual(parser().parse_args(shlex.split(example)).command, row.name)
+            self.assertEqual(client_parser().parse_args(shlex.split(example)).command, row.name)
             self.assertNotIn("--insecure", text)
 
     def test_a_map_by_its_name(self):

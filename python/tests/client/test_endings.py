@@ -34,7 +34,7 @@ from running import (
 from simulated_chip import SimulatedChip
 from support import DIGEST, LIFE, MAC, MAP, ORDER, Proxy, TlsProxy, steps, whole
 
-from wanekupo.seat.journal import issued, lines_of, requests_of
+from wanekupo.seat.journal import issued, strict_lines, requests_of
 
 
 # What espefuse 4.7.0 prints (esptool/loader.py and espefuse/__init__.py), that of 5 with its comma, and what Python
@@ -146,7 +146,7 @@ class Endings(BenchCase):
             self.assertEqual(bench.end(), 0)
         shift = json.loads((self.folder / "a1.json.bench" / "bench.json").read_text("ascii"))["shift"]
         self.assertEqual((shift["passed"], shift["first"], shift["failed"]), (1, 0, {}))
-        ships = [it for it in lines_of(self.folder / "a1.journal") if it.get("path") == "/v1/ship"]
+        ships = [it for it in strict_lines(self.folder / "a1.journal") if it.get("path") == "/v1/ship"]
         self.assertEqual([it["reason"] for it in ships], ["hook_failed"])
         self.assertEqual(life_of(self.ledger()), LIFE)
         self.assertEqual(len(issued(requests_of(self.folder / "a1.journal"))), 1)
@@ -465,8 +465,7 @@ class Endings(BenchCase):
             bench.said("left")
             bench.until(lambda board: board["sockets"][0]["chip"] == mac and board["sockets"][0]["state"] == "PASS")
             self.take("left", mac)
-        folder = self.folder / "a1.json.bench" / "chips"
-        keys = [(folder / mac / "BLOCK1.key").read_bytes() for mac in macs_of(2)]
+        keys = [(self.folder / "a1.json.bench/chips" / mac / "BLOCK1.key").read_bytes() for mac in macs_of(2)]
         self.assertNotEqual(*keys)
         for mac, key in zip(macs_of(2), keys):
             known = self.asked("GET", f"/v1/device?chip={mac}")[1]["keys"]

@@ -22,7 +22,7 @@ from pathlib import Path
 from simulated_chip import NEWER, chip_class, new_chip
 from support import LIFE, ORDER, PUBLIC_KEY, ROOT, SIMULATED, StationCase, steps
 
-from wanekupo.chips.chip import bit, checked, key, rlock, shows, value, wlock
+from wanekupo.chips.chip import bit, checked_blocks, key, rlock, shows_work, value, wlock
 from wanekupo.common.errors import Refused, StationError
 from wanekupo.chips.espefuse import ChangedUnasked, Espefuse, KeyFile, NoFuses, find_tool, version_of, wishes_of
 from wanekupo.chips.families import dump_of, family_of, names
@@ -224,7 +224,7 @@ class Lives(StationCase):
         for work in (plan.batch1, plan.batch2):
             chip_io.burn(work)
             blocks = chip_io.read()
-            self.assertTrue(shows(blocks, work) or work is plan.batch2)
+            self.assertTrue(shows_work(blocks, work) or work is plan.batch2)
             self.assertEqual(station.read_back(MAC, blocks).outcome, "match")
         station.identify(MAC, PUBLIC_KEY)
         station.ship(MAC)
@@ -350,7 +350,7 @@ class Lives(StationCase):
                 self.assertIn("another chip", str(raised.exception))
                 self.assertEqual((self.folder / MAC).read_text("ascii"), blank)
                 with self.assertRaises(ValueError):
-                    checked(MAC, chip_io.read())
+                    checked_blocks(MAC, chip_io.read())
                 station.close()
 
     @needs_espefuse

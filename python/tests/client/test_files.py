@@ -11,7 +11,7 @@ from unittest import mock
 from support import DIGEST, FLASH_KEY, MAC, MAP, ORDER, WISHES, StationCase
 
 from wanekupo.common.errors import BadJournal, BadStateFile, NoReply, Refused, UnsafeFile
-from wanekupo.seat.journal import Journal, lines_of, requests_of
+from wanekupo.seat.journal import Journal, strict_lines, requests_of
 from wanekupo.common.files import own_path, replace_bytes
 
 # Another user than the one that runs the tests, who has to be root to give a file away.
@@ -223,7 +223,7 @@ class Cut(StationCase):
                 file.write_bytes(before + last[:end])
                 file.chmod(0o600)
                 kept = before + (last if end == len(last) else b"")
-                self.assertEqual(len(list(lines_of(file))), kept.count(b"\n"), end)
+                self.assertEqual(len(list(strict_lines(file))), kept.count(b"\n"), end)
                 journal = Journal(file)
                 self.assertEqual(file.read_bytes(), kept, end)
                 journal.asked("/v1/ship", json.dumps({"nr": 3, "chip": MAC}))

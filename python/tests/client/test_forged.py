@@ -7,6 +7,7 @@ docs/reference/api.md. Beside them are honest plants of which nothing may be sai
 from __future__ import annotations
 
 import contextlib
+import gzip
 import hashlib
 import json
 import re
@@ -20,7 +21,7 @@ from commanding import ran
 from support import DIGEST, MAC, MAP, PUBLIC_KEY, ROOT, SITE, WISHES, bit, rows
 
 from wanekupo.books.lawful import plan_refusal, registration_refusal
-from wanekupo.books.ranges import order_faults
+from wanekupo.books.ranges import Drawn, drawn_faults, order_faults
 from wanekupo.books.schema import CREATED, excluded, others_of, plain, statements
 from wanekupo.chips.chip import value
 from wanekupo.seat.journal import request_digest, whole_digest
@@ -109,6 +110,12 @@ def exchanged(first, second):
     return change
 
 
+def later_import(lines):
+    """The number that was passed over is in a later import."""
+    line = lines[place_of(lines, of("/v1/import"), 1)]
+    line["asked"]["csv"] += f"A998,{64 * '1'}\n"
+
+
 # A shipment that the store doesn't have.
 UNSHIPPED = (
     "DELETE FROM ledger WHERE customer = 'acme' AND event = 'shipped'",
@@ -142,9 +149,11 @@ class Forged(BooksCase):
         a1.ship(MAC)
         a1.import_map(MAP)
         a1.import_serials("acme-ca", rows("Z1 Z2"))
+        a1.make_order("o3", "acme-ca", "Z", 1, 1, 5)
+        a1.import_serials("acme-ca", rows("Z2 Z3"))
+        a2.register(THREE, "o2", DIGEST, self.chip(THREE).read())
         a2.register(TWO, "o2", DIGEST, self.chip(TWO).read())
         a2.plan(TWO, [bit("JTAG_DISABLE", 0)])
-        a2.register(THREE, "o2", DIGEST, self.chip(THREE).read())
         b1.import_map(MAP)
         b1.make_order("b", "bolt-ca", "B", 3, 1, 5)
         b1.register(MAC, "b", DIGEST, self.chip().read())
@@ -156,8 +165,8 @@ class Forged(BooksCase):
         for file in self.folder.glob("books.db*"):
             shutil.copy(file, self.folder / "honest")
 
-    def audited(self, name, sql=(), journal="a1", change=None, keeps_digests=False):
-        """The plant, changed so: the status of its audit, and what it says."""
+    def audited(self, name, sql=(), journal="a1", change=None, keeps_digests=False, more=(), behind=lambda _: None):
+        """The plant, changed so: the status of its audit, and what it says. `behind` changes the folder of journals."""
         folder = self.folder / re.sub(r"\W", "-", name)
         shutil.copytree(self.folder / "honest", folder)
         for seat in ("a1", "a2", "b1"):
@@ -173,7 +182,8 @@ class Forged(BooksCase):
             for statement in sql:
                 self.assertNotEqual(base.execute(statement).rowcount, 0, statement)
             base.commit()
-        return ran("audit", folder / "books.db", folder, *ALWAYS)
+        behind(folder)
+        return ran("audit", folder / "books.db", folder, *ALWAYS, *more)
 
     def test_honest(self):
         """Members that the server passes over mean nothing, however they change, and whichever digest a log has."""
@@ -196,6 +206,58 @@ class Forged(BooksCase):
             with self.subTest(name):
                 status, out, told = self.audited(name, change=change, keeps_digests=keeps)
                 self.assertEqual((status, "Nothing found." in out), (0, True), out + told)
+        for seat in ("a1", "a2", "b1"):
+            with self.subTest(f"the last reply of {seat} was lost"):
+                status, out, told = self.audited(f"lost {seat}", journal=seat, change=lambda lines: lines[:-1])
+                self.assertEqual((status, "Nothing found." in out), (0, True), out + told)
+
+    def test_kept_replies(self):
+        """A seat's last request has no reply in its line: the store's is held to all that a line's is held to. The last
+        ones are an import of Z2 and Z3, a plan of TWO, and a registration."""
+        wide = ' { "batch1"'
+        for seat, old, new, words in (
+            ("a1", '"added":1,"present":1', '"added":2,"present":0', "1 of its rows were there, and its reply has 0"),
+            ("a2", '"mask":"00000040"', '"mask":"00000060"', "the batches of its reply aren't what its wishes come to"),
+            ("a2", '"awaiting1"', '"settled"', "its lines leave it awaiting1, and its reply says settled"),
+            ("a2", '{"batch1"', wide, "number 3 isn't as a server writes it"),
+            ("a2", '{"batch1"', '{"state":"settled","batch1"', "number 3 isn't as a server writes it"),
+            ("a2", ',"state":"awaiting1"', "", "number 3 isn't as a server writes it: state"),
+            ("b1", '"mask":"00008000"', '"mask":"00008001"', "its reply shows other bits or keys than its ledger has"),
+            ("b1", '"reason":null', '"reason":"stray"', "number 4 isn't as a server writes it: reason"),
+        ):
+            with self.subTest(words):
+                sql = f"UPDATE seat SET reply = replace(reply, '{old}', '{new}') WHERE name = '{seat}' AND reply LIKE "
+                status, out, told = self.audited(f"kept {seat} {new}", [f"{sql}'%{old}%'"], seat, lambda it: it[:-1])
+                self.assertEqual((status, words in out), (1, True), out + told)
+
+    def test_a_seat_without_a_journal(self):
+        """All of its entries lie in front of all lines, and it has no other request."""
+        front = ("UPDATE ledger SET id = -id - 3 WHERE id <= 7", "UPDATE ledger SET id = id - 7 WHERE seat = 'a2'",
+                 "UPDATE ledger SET id = -id WHERE id < 0")
+        status, out, told = self.audited("gone", front, behind=lambda it: (it / "a2.journal").unlink())
+        words = "no journal of this seat was given: 3 entries of it have no line"
+        self.assertEqual((status, words in out, "1 found." in out), (1, True, True), out + told)
+
+    def test_the_site(self):
+        """The store's text is the auditor's own file, byte for byte, or it is found."""
+        other = self.folder / "other.toml"
+        other.write_text((self.folder / "site.toml").read_text("utf-8") + "# more\n", encoding="utf-8")
+        own = self.folder / "site.toml"
+        for file, status, words in ((own, 0, "Nothing found."), (other, 1, "isn't the given file")):
+            found, out, told = self.audited(f"site {file.stem}", more=["--site", file])
+            self.assertEqual((found, words in out), (status, True), out + told)
+
+    def test_compressed_journals(self):
+        """They are read as they were before; a file that isn't whole is found, and its seat's lines are missing."""
+
+        def packed(folder, end=None):
+            for file in folder.glob("*.journal"):
+                file.with_name(f"{file.name}.gz").write_bytes(gzip.compress(file.read_bytes())[:end])
+                file.unlink()
+
+        for name, end, status, words in (("whole", None, 0, "Nothing found."), ("cut", -9, 1, "no whole file of gzip")):
+            found, out, told = self.audited(name, behind=lambda it, end=end: packed(it, end))
+            self.assertEqual((found, words in out), (status, True), out + told)
 
     def test_forged(self):
         """Each of these is found, by these words."""
@@ -212,6 +274,28 @@ class Forged(BooksCase):
             ("other bits in a reply", (), "a2", changed(of("/v1/device"), reply=work), "its reply shows other"),
             ("another order asked", (), "a1", changed(of("/v1/order"), prefix="X"), "prefix is A in the store, and"),
             ("a beginning asked", (), "a1", changed(of("/v1/order"), not_before="20260101000000Z"), "not_before is"),
+            ("a number behind a free one", ("UPDATE given SET chip = NULL, mac = NULL WHERE serial = 'A998'",
+             "UPDATE ledger SET note = 'A999' WHERE note = 'A998'", "UPDATE device SET serial = 'A999' WHERE serial = "
+             "'A998'", "INSERT INTO given SELECT issuer, 'A999', customer, zeroblob(32), '%s', '020000000011',"
+             " not_after FROM given WHERE serial = 'A998'" % MAC,
+             "INSERT INTO given_start VALUES ('acme-ca', 'A999', NULL)"),
+             "a1", both(changed(of("/v1/identity"), reply={"serial": "A999", "mac": "020000000011"}), later_import),
+             "the order o1 gave A999 when A998 was free"),
+            ("a map's digest", (), "a1", changed(of("/v1/map"), reply={"map": 64 * "0"}), "its reply says 00000000"),
+            ("a next number behind a free one", (), "a1", changed(of("/v1/order", name="o2"), reply={"next": "B002"}),
+             "its reply has the next number B002, and B001 was free"),
+            ("a next number that was given", (), "a1", changed(of("/v1/order", name="o3"), reply={"next": "Z1"}),
+             "its reply has the next number Z1, and Z1 was given"),
+            ("a next number that was given later", (), "a1", changed(of("/v1/order", name="o3"), reply={"next": "Z4"}),
+             "its reply has the next number Z4, and Z3 was free"),
+            ("a next number of no order", (), "a1", changed(of("/v1/order", name="o2"), reply={"next": "A001"}),
+             "the next number A001, which isn't of it"),
+            ("present rows", (), "a1", changed(of("/v1/import"), reply={"added": 1, "present": 1}),
+             "0 of its rows were there, and its reply has 1"),
+            ("a member less", (), "a1", lambda lines: lines[place_of(lines, of("/v1/identity")) + 1]["reply"].pop("mac")
+             and None, "has a reply that isn't as a server writes it: mac"),
+            ("a member more", (), "a1", changed(SHIPPED, reply={"more": 1}), "isn't as a server writes it: more"),
+            ("a reason at a registration", (), "a1", changed(of("/v1/device"), reply={"reason": "x"}), "it: reason"),
             ("another chip in a reply", (), "a1", changed(SHIPPED, reply={"chip": TWO}), f"and its reply is of {TWO}"),
             ("an unknown path", UNSHIPPED, "a1", unanswered(SHIPPED, "/v1/none", {}), "none of these was done"),
             ("an unknown path alone", UNSHIPPED, "a1", both(unanswered(SHIPPED, "/v1/none", {}), lambda lines: [
@@ -233,6 +317,8 @@ class Forged(BooksCase):
              None, "rows of bolt are of the seat a2, which is acme's by the site"),
             ("bits where keys stand", ("UPDATE device SET bits = CAST(bits || X'01' AS BLOB)",), "", None,
              "has bits where keys stand"),
+            ("a map's other digest", ("UPDATE map SET digest = zeroblob(32)",), "", None, "has the digest 000000"),
+            ("a map of nobody", ("INSERT INTO map VALUES (99, 'x', zeroblob(32))",), "", None, "and 0 customers have"),
             ("no beginning", ("DELETE FROM order_start WHERE ord = 'o2'",), "", None, "an order has no row of"),
             ("another site's text", ("UPDATE site_text SET body = body || '#'",), "", None, "the site's text isn't"),
             ("a row that is referred to", ("DELETE FROM orders WHERE name = 'o2'",), "", None, "refers to a row of o"),
@@ -247,8 +333,8 @@ class Forged(BooksCase):
     def test_forged_orders_of_entries(self):
         """Entries of two chips in each other's place, within a second; and a chip that both sides lack, behind which
         all numbers were given anew."""
-        swapped = [f"UPDATE ledger SET id = -id WHERE seat = 'a2' AND chip = '{TWO}' AND n = 2",
-                   f"UPDATE ledger SET id = id - 1 WHERE seat = 'a2' AND chip = '{THREE}'",
+        swapped = [f"UPDATE ledger SET id = -id WHERE seat = 'a2' AND chip = '{THREE}'",
+                   f"UPDATE ledger SET id = id - 1 WHERE seat = 'a2' AND chip = '{TWO}' AND n = 1",
                    "UPDATE ledger SET id = 1 - id WHERE id < 0"]
         last = json.loads((self.folder / "b1.journal").read_text("ascii").splitlines()[-2])
         digest = request_digest(last["path"], {**last["asked"], "nr": 3})
@@ -351,6 +437,30 @@ class Rules(unittest.TestCase):
             (set(), {"BLOCK1": 64 * "a"}, None),
         ):
             self.assertEqual(registration_refusal(layout, frozenset(ones), shown), meant)
+
+    def test_drawn_addresses(self):
+        """Two pools of 4 addresses: orders of a pool follow each other as they were made, and each is of the first pool
+        that had room. Of two seats the order isn't known."""
+
+        def drawn(name, start, count, number, seat="a1"):
+            return Drawn(start, count, name, (SimpleNamespace(seat=seat), number))
+
+        def is_behind(one, other):
+            return one[0].seat == other[0].seat and one[1] > other[1]
+
+        for name, orders, words in (
+            ("as they were made", [drawn("o", 10, 1, 1), drawn("p", 11, 2, 2), drawn("q", 20, 3, 3)], []),
+            ("a small one later", [drawn("o", 10, 3, 1), drawn("p", 20, 3, 2), drawn("q", 13, 1, 3)], []),
+            ("exchanged", [drawn("o", 12, 2, 1), drawn("p", 10, 2, 2)], ["o has addresses behind those of the later"]),
+            ("of two seats", [drawn("o", 12, 2, 1), drawn("p", 10, 2, 2, "a2")], []),
+            ("one of another seat between",
+             [drawn("o", 12, 1, 1), drawn("p", 11, 1, 9, "a2"), drawn("q", 10, 1, 2)],
+             ["o has addresses behind those of the later q"]),
+            ("a pool in front had room", [drawn("o", 20, 2, 1), drawn("p", 10, 3, 2)], ["a pool before had room"]),
+        ):
+            with self.subTest(name):
+                told = [it for _, it in drawn_faults(orders, [(10, 4), (20, 4)], is_behind)]
+                self.assertEqual((len(told), all(it in own for it, own in zip(words, told))), (len(words), True), told)
 
     def test_orders(self):
         """Members of another form, numbers that two orders have, and addresses by the first pool that has room."""

@@ -19,7 +19,7 @@ from support import DIGEST, MAC, ORDER, StationCase
 from commanding import CLIENT, ran
 
 from wanekupo.common.errors import Refused, TooLong, UnderWay
-from wanekupo.chips.espefuse import NoKey, steps_of
+from wanekupo.chips.espefuse import NoKey, burn_commands
 from wanekupo.chips.families import dump_of, family_of
 from wanekupo.seat.replies import Work
 from wanekupo.seat.station import Station
@@ -98,7 +98,7 @@ class Hostile(StationCase):
             body |= {**keys, "pending": {"batch1": keys, "batch2": keys}}
             self.assertEqual(self.ran_at(self.page_of(200, body), "burn", MAC)[0], 3)
             with self.assertRaises(NoKey) as found:
-                steps_of(Work((), {text: text}), blank, {})
+                burn_commands(Work((), {text: text}), blank, {})
             self.assertTrue(is_plain(str(found.exception)))
             body = {"no": 11, "error": text, "expected": text}
             self.assertEqual(self.ran_at(self.page_of(409, body), "number")[0], 3)

@@ -14,7 +14,7 @@ from pathlib import Path
 from certifying import BEGINNING, END, need
 from commanding import NEEDS_KEYS
 
-from wanekupo.lots.idevid import chain_fault, faults_of, is_early, late_fault, now
+from wanekupo.lots.idevid import chain_fault, certificate_faults, is_early, late_fault, moment_now
 from wanekupo.lots.spools import certificates_of
 
 SERIAL = "A998"
@@ -160,7 +160,7 @@ class Idevid(unittest.TestCase):
         need(self.folder, "openssl req -in device.csr -noout -pubkey | openssl pkey -pubin -outform DER -out key.der")
         digest = hashlib.sha256((self.folder / "key.der").read_bytes()).hexdigest()
         record = {"serial": SERIAL, "key_sha256": digest, "not_before": BEGINNING, "not_after": END}
-        return list(faults_of(certificate, {**record, **changes.get("record", {})}))
+        return list(certificate_faults(certificate, {**record, **changes.get("record", {})}))
 
     def test_honest_ones(self):
         for changes in HONEST:
@@ -191,7 +191,7 @@ class Idevid(unittest.TestCase):
                     need(self.folder, "openssl x509 -req -in device.csr -CA root.pem -CAkey root.key -out device.pem")
                     one = certificates_of((self.folder / "device.pem").read_bytes(), Path("device"))[0]
                     record = {"serial": SERIAL, "key_sha256": "", "not_before": None, "not_after": END}
-                    faults = list(faults_of(one, record))
+                    faults = list(certificate_faults(one, record))
                 else:
                     faults = self.faults(changes)
                 self.assertTrue([it for it in faults if re.match(told, it)], faults)
@@ -205,7 +205,7 @@ class Idevid(unittest.TestCase):
         for exponent in ("010000", "000001", "00ffff"):
             one = certificates_of(der.replace(usual, bytes.fromhex("0203" + exponent)), Path("device"))[0]
             record = {"serial": SERIAL, "key_sha256": "", "not_before": BEGINNING, "not_after": END}
-            faults = list(faults_of(one, record))
+            faults = list(certificate_faults(one, record))
             told = [it for it in faults if re.match("its key (can't be read|is RSA with the exponent)", it)]
             self.assertEqual(len(told), 1, faults)
 
@@ -244,7 +244,7 @@ class Idevid(unittest.TestCase):
 
     def test_not_yet(self):
         """One that holds later alone, by its record; it may be issued before."""
-        at = now().strftime("%Y%m%d%H%M%SZ")
+        at = moment_now().strftime("%Y%m%d%H%M%SZ")
         for begins, early in ((BEGINNING, 0), (at, 0), (None, 0), ("20990101000000Z", 1), ("99991231235958Z", 1)):
             self.assertEqual(is_early({"not_before": begins}), bool(early), begins)
 

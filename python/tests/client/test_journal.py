@@ -19,7 +19,7 @@ from commanding import ran
 
 from wanekupo.common.errors import BadJournal, Differs, NoReply, OutOfStep, Refused
 from wanekupo.seat.journal import Journal, merged, request_digest, requests_of
-from wanekupo.seat.replays import restore
+from wanekupo.seat.journal_restore import restore
 
 # SHA-256 of 32 zero bytes (sha256sum).
 ZEROS = "66687aadf862bd776c8fc18b8e9f8e20089714856ee233b3902a591d0d5f2925"

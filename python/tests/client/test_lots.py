@@ -22,7 +22,7 @@ from xml.etree import ElementTree
 from support import DIGEST, MAP, Proxy, StationCase, exchanged, whole
 from commanding import CLIENT, NEEDS_KEYS, made_key, ran
 
-import wanekupo.seat.records
+import wanekupo.seat.lot_records
 from wanekupo.common import signing
 from wanekupo.common.errors import BadSettings
 
@@ -269,7 +269,7 @@ class Manifest(StationCase):
         part.write_bytes(b"\n".join([head, line_of(rows[2]), line_of(rows[1])[:150]]))
         part.chmod(0o600)
         proxy.changes = [(rb'(240ac4000003","issuer":"acme-ca","key_sha256":)"..', rb'\1"zz')]
-        with mock.patch.object(wanekupo.seat.records, "AT_A_TIME", 1):
+        with mock.patch.object(wanekupo.seat.lot_records, "AT_A_TIME", 1):
             self.assertEqual(self.manifest("--all", "--out", file, url=proxy.url)[0], 3)
         self.assertEqual(self.kept(part), ["A998", "-B001", "-B002"])
         part.unlink()

@@ -65,7 +65,7 @@ class Words(unittest.TestCase):
         english = {table: words.ENGLISH[table] for table in words.TABLES if table != "reasons"}
         self.assertIn("de", LANGUAGES)
         for language in LANGUAGES:
-            found = words.read(words.FOLDER / f"{language}.toml")
+            found = words.read_words(words.FOLDER / f"{language}.toml")
             for table, texts in english.items():
                 self.assertEqual(set(found[table]), set(texts), (language, table))
                 for name, text in texts.items():

@@ -57,7 +57,7 @@ class Seals(Folder):
 
     def test_a_pipe_that_is_named(self):
         os.mkfifo(self.folder / "a")
-        for read in (folder.rows_of, store.is_store):
+        for read in (folder.sealed_text, store.is_store):
             with self.assertRaisesRegex(UnsafeFile, "is no plain file"):
                 read(self.folder / "a")
 
@@ -86,7 +86,7 @@ class Seals(Folder):
         self.assertIn(f"has more than {2 * folder.LONGEST_ROW} bytes, and its seal is of 1 row.", told)
         self.assertEqual(read, [])
         with mock.patch.object(folder, "MOST_ROWS", 1 << 20), self.assertRaisesRegex(StationError, "more than 1 MB"):
-            folder.rows_of(self.folder / "000001.rows.gz")
+            folder.sealed_text(self.folder / "000001.rows.gz")
 
 
 class Page(unittest.TestCase):

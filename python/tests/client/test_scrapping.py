@@ -14,7 +14,7 @@ import unittest
 from running import PYTHONPATH, BenchCase, macs_of, script
 from support import DIGEST, MAC, MAP, ORDER
 
-from wanekupo.seat.journal import lines_of
+from wanekupo.seat.journal import strict_lines
 
 NAMED = "24:0A:C4:00:00:01"
 ASK_NAME = "Scan or type the name of the chip to be scrapped, its twelve digits, or no."
@@ -60,7 +60,7 @@ class Scrapping(BenchCase):
         return [(it["chip"], it["order"], it["reason"]) for it in map(json.loads, done.stdout.splitlines())]
 
     def reasons(self):
-        lines = lines_of(self.folder / "a1.journal")
+        lines = strict_lines(self.folder / "a1.journal")
         return [it.get("reason") for it in lines if it.get("path") == "/v1/scrap"]
 
     def test_a_chip_that_is_lost(self):

@@ -36,7 +36,7 @@ from support import (
 )
 
 from wanekupo.chips.chip import bit
-from wanekupo.seat.rows import parts_of
+from wanekupo.seat.import_rows import import_parts
 from wanekupo.seat.station import Station
 from wanekupo.common.errors import NoReply, Refused
 from wanekupo.chips.espefuse import Espefuse
@@ -212,7 +212,7 @@ class Commands(StationCase):
         self.assertEqual(station.import_all("acme-ca", more), (Imported(600, 0), 0))
         self.assertEqual(station.import_all("acme-ca", []), (Imported(0, 0), 0))
         longest = [(f"{row:064}", "0" * 64) for row in range(600)]
-        self.assertEqual([len(part) for part in parts_of(longest)], [485, 115])
+        self.assertEqual([len(part) for part in import_parts(longest)], [485, 115])
 
     def test_a_long_import_after_a_restore(self):
         """The last part that was accepted isn't in an older store, so it goes on from the beginning."""

@@ -8,8 +8,8 @@ import unittest
 from pathlib import Path
 
 import support  # noqa: F401  finds the client
-from wanekupo.chips.chip import chip_of, shows
-from wanekupo.chips.espefuse import KeyFile, NoKey, steps_of
+from wanekupo.chips.chip import chip_of, shows_work
+from wanekupo.chips.espefuse import KeyFile, NoKey, burn_commands
 from wanekupo.chips.families import BadDump, crc8, dump_of, family_of
 from wanekupo.seat.replies import Word, Work
 
@@ -74,7 +74,7 @@ class Texts(unittest.TestCase):
         """Keys come first and block 0 last, one command for each block, and no lock with a key."""
         blank = dump_of(ESP32, re.sub("(?<=[: ])[0-9a-f]{8}(?=[ \n])", "00000000", DUMP))
         batch = Work((Word(0, 3, 0x80000001), Word(0, 6, 0x40), Word(3, 1, 2)), {"BLOCK2": KEY_SHA256})
-        steps = steps_of(batch, blank, {"BLOCK2": KeyFile(self.path, "secure_boot_v2")})
+        steps = burn_commands(batch, blank, {"BLOCK2": KeyFile(self.path, "secure_boot_v2")})
         self.assertEqual(
             [(*it.words, *([it.file.path] if it.file else [])) for it in steps],
             [
@@ -83,16 +83,16 @@ class Texts(unittest.TestCase):
                 ("burn_bit", "BLOCK0", "96", "127", "198"),
             ],
         )
-        self.assertEqual(steps_of(Work((), {}), blank, {}), [])
+        self.assertEqual(burn_commands(Work((), {}), blank, {}), [])
         for keys in ({}, {"BLOCK2": KeyFile(self.path, "secure_boot_v1")}):
             with self.assertRaises(NoKey):
-                steps_of(batch, blank, keys)
+                burn_commands(batch, blank, keys)
 
     def test_whether_a_chip_shows_a_batch(self):
         blocks = blocks_of(DUMP)
-        self.assertTrue(shows(blocks, Work((Word(0, 6, 0x40), Word(0, 0, 0x110080)), {"BLOCK2": KEY_SHA256})))
-        self.assertFalse(shows(blocks, Work((Word(0, 6, 0x41),), {})))
-        self.assertFalse(shows(blocks, Work((), {"BLOCK1": hashlib.sha256(bytes(range(31, -1, -1))).hexdigest()})))
+        self.assertTrue(shows_work(blocks, Work((Word(0, 6, 0x40), Word(0, 0, 0x110080)), {"BLOCK2": KEY_SHA256})))
+        self.assertFalse(shows_work(blocks, Work((Word(0, 6, 0x41),), {})))
+        self.assertFalse(shows_work(blocks, Work((), {"BLOCK1": hashlib.sha256(bytes(range(31, -1, -1))).hexdigest()})))
 
 
 if __name__ == "__main__":

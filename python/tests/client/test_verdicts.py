@@ -7,7 +7,6 @@ tables of docs/reference/api.md. No server is asked.
 from __future__ import annotations
 
 import hashlib
-import json
 import unittest
 from types import SimpleNamespace
 
@@ -22,6 +21,7 @@ from wanekupo.books.papers import papers, repeated
 from wanekupo.books.shift import Period
 from wanekupo.books.steps import shipped_books
 from wanekupo.books.store_rows import LedgerRow, StoredChip
+from wanekupo.common.texts import compact_json
 
 ALWAYS = Period("2000-01-01T00:00:00Z", "2099-01-01T00:00:00Z")
 
@@ -191,10 +191,11 @@ class Asked(SeatCase):
 
     def test_the_reply_that_is_kept(self):
         """A seat's last identity, whose reply was lost: its station is to get the one that the store keeps."""
-        record = {"serial": "A998", "issuer": "acme-ca", "chip": "c1", "key_sha256": FLASH}
+        record = {"serial": "A998", "issuer": "acme-ca", "chip": MAC, "key_sha256": FLASH, "mac": None}
+        record |= {"not_after": "99991231235959Z", "not_before": None}
         for serial, meant in (("A998", 0), ("A999", 1)):
             store = self.store(1, "c1", "/v1/identity")
-            store.seats["a1"].reply = json.dumps({**record, "serial": serial})
+            store.seats["a1"].reply = compact_json({**record, "serial": serial}, sort_keys=True)
             store.record = lambda issuer, serial: record if serial == "A998" else None
             _, journals = self.spans([[asked("07:01:00", 1, "c1", "/v1/identity")]], store)
             self.assertEqual(len(list(papers(journals, store, ALWAYS))), meant)
@@ -224,7 +225,7 @@ class Asked(SeatCase):
             places=lambda: (), addressed=lambda: (), identified=lambda: (),
             issuers=lambda: [("acme", "acme-ca", 9), ("acme", "bolt-ca", 2), ("bolt", "x", 1)],
             records=lambda _: (), twice=lambda _: (), pools={}, site_seats={}, stray_bytes=lambda: (),
-            excluded=lambda: (), placed=lambda: (), macs_shown=lambda: (),
+            excluded=lambda: (), odd_maps=lambda: (), placed=lambda: (), macs_shown=lambda: (),
         )
         self.assertEqual([(it[2], it[4]) for it in twice(store)], [
             ("acme", "2 of its records and orders are of the issuer bolt-ca, which is bolt's by the site"),

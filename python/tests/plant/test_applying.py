@@ -3,6 +3,7 @@
 import argparse
 import http.client
 import os
+import signal
 import stat
 import subprocess
 from types import SimpleNamespace
@@ -12,8 +13,8 @@ from conftest import TOP
 from wanekupo.plant.site import apply as applying
 from wanekupo.plant.site.apply import Stopped, apply
 from wanekupo.plant.site.plan import PLACED, PREPARED, STOPPING, GrowthPlan, SeatWish, keep_plan, read_plan
-from wanekupo.common.store_user import UserError
-from wanekupo.common.token_file import Outer, TokenSeat, TokenError, Tokens, put, text_of
+from wanekupo.common.store_user import STOPS, UserError
+from wanekupo.common.token_file import Outer, TokenSeat, TokenError, Tokens, put, tokens_text
 
 OLD, NEW = "customer = [] # old\r\n", "customer = [] # new\r\n"
 PREFIX = "wanekupo_"
@@ -159,8 +160,8 @@ def test_the_backup_of_a_run_that_was_cut_goes(place):
 def test_the_new_text_has_the_owner_and_the_mode_of_the_old_one(place, monkeypatch, mode):
     flags, calls = [], []
     opened, owned, moded = os.open, os.fchown, os.fchmod
-    monkeypatch.setattr(applying.os, "open", lambda path, flag, *more: (flags.append((str(path), flag, *more)),
-                                                                       opened(path, flag, *more))[1])  # fmt: skip
+    monkeypatch.setattr(applying.os, "open", lambda path, flag, *more, **kept: (
+        flags.append((str(path), flag, *more)), opened(path, flag, *more, **kept))[1])  # fmt: skip
     monkeypatch.setattr(applying.os, "fchown", lambda fd, *ids: (calls.append(ids), owned(fd, *ids)))
     monkeypatch.setattr(applying.os, "fchmod", lambda fd, bits: (calls.append(bits), moded(fd, bits)))
     monkeypatch.setattr(applying.os, "fsync", lambda fd: calls.append("sync"))
@@ -213,6 +214,32 @@ def test_a_signal_leaves_the_server_started(place, monkeypatch, stage, status):
     assert place.next.exists(), "a run that is begun again needs it"
 
 
+@pytest.mark.parametrize("error", [TokenError(1, "t"), UserError("u"), OSError("o"), KeyboardInterrupt(), ValueError("v")])
+@pytest.mark.parametrize("step", ["tried_over_backup", "put_in_place", "start", "give_token"])
+def test_whatever_fails_the_server_is_started(place, monkeypatch, step, error):
+    monkeypatch.setattr(applying, step, lambda *_: (_ for _ in ()).throw(error))
+    plan = GrowthPlan(wishes=[SeatWish("a1", "acme")])
+    with pytest.raises(type(error)):
+        apply(place, plan)
+    assert [it for it in heads(place) if it[0] == "SERVICE"][-1] == ("SERVICE", "START")
+
+
+def test_no_signal_keeps_the_server_from_its_start(place, monkeypatch):
+    """And what is started ignores none of them."""
+    handlers, service = [signal.getsignal(it) for it in STOPS], place.service
+
+    def started(command):
+        for number in STOPS:
+            os.kill(os.getpid(), number)
+        words = ["sh", "-c", "kill -TERM $$"]
+        assert subprocess.run(words, check=False).returncode == -signal.SIGTERM
+        return service(command)
+
+    monkeypatch.setattr(place, "service", started)
+    applying.start_behind(place)
+    assert heads(place) == [("SERVICE", "START")] and [signal.getsignal(it) for it in STOPS] == handlers
+
+
 @pytest.mark.parametrize("fails, is_up", [({"START"}, True), (set(), False)])
 def test_a_server_that_does_not_start_is_told(place, monkeypatch, fails, is_up):
     place.next.unlink()
@@ -239,7 +266,7 @@ def test_which_text_the_store_holds(place, held, words):
         applying.tell_failed(place, GrowthPlan(PLACED, str(backup)), "said")
     assert error.value.status == 4 and "(said)" in str(error.value) and str(backup / "site.toml") in str(error.value)
     told = [it for it in place.calls if it[0] in ("SERVICE", "HELD")]
-    assert told == [("SERVICE", "STOP"), ("HELD", place.site, backup / "site.toml"), ("SERVICE", "START")]
+    assert told == [("SERVICE", "STOP"), ("HELD", NEW, OLD), ("SERVICE", "START")]
 
 
 @pytest.mark.parametrize("printed, status, number", [
@@ -294,11 +321,11 @@ TEXT = PREFIX + "22" * 32
 
 
 def with_tokens(place, *outers, seats=(WITHIN, TokenSeat("health", "acme", "33" * 32))):
-    put(place.tokens, text_of(Tokens({it.seat: it for it in seats}, list(outers))))
+    put(place.tokens, tokens_text(Tokens({it.seat: it for it in seats}, list(outers))))
 
 
 def outer(text=TEXT, **more):
-    return Outer("a1:1", 1, "a1", False, "m", "2026-01-01T00:00", text=text, **more)
+    return Outer("a1:1", 1, "a1", False, "0" * 12, "2026-01-01T00:00", text=text, **more)
 
 
 def test_the_token_within(place):
@@ -419,7 +446,7 @@ def test_a_file_of_something_else_stays(place, tmp_path):
 ])  # fmt: skip
 def test_what_another_put_there_is_no_seats_token(place, tmp_path, kind, told):
     """`--to` may be in a folder that others write, as /tmp: another seat's token would go to this one's station."""
-    others = Outer("b1:1", 2, "b1", False, "m", "2026-01-01T00:00", text=PREFIX + "55" * 32)
+    others = Outer("b1:1", 2, "b1", False, "0" * 12, "2026-01-01T00:00", text=PREFIX + "55" * 32)
     with_tokens(place, outer(), others, seats=(WITHIN, TokenSeat("b1", "bolt", "33" * 32)))
     path, real = tmp_path / "a1.token", tmp_path / "real"
     real.write_text(others.text if kind == "other seat" else TEXT)

@@ -1,10 +1,8 @@
 """The command that backs up: who does what, in which order, what is refused, and what is said of a run that failed."""
 
-import argparse
 import contextlib
 import json
 import os
-import signal
 import sys
 from pathlib import Path
 from types import SimpleNamespace
@@ -13,6 +11,7 @@ from wanekupo.plant.backup import folder as backup_kept
 import pytest
 from wanekupo.plant.backup.copies import BackupError
 from wanekupo.plant.backup.snapshot import SnapshotStaysError
+from backup_calls import Calls, args_of, heads
 from scripts import script
 from wanekupo.common.store_user import UserError
 
@@ -20,37 +19,9 @@ backup = script("backup")
 NAME = "2026-11-29T020000Z"
 
 
-def args_of(into, **more):
-    found = argparse.Namespace(program="/bin/P", site="/s.toml", db="/db/books.db", into=into, snapshot="",
-        snapshot_size="",
-                               clean=False, trial=False, keep_days=7, keep_weeks=5, recipient=[], copy_with="",
-                               folder=None,
-                               taken=("", ""))  # fmt: skip
-    vars(found).update(more)
-    return found
-
-
 @pytest.fixture
-def calls(monkeypatch):
-    """Notes what is done; `fails` has the names of what fails, with the error."""
-
-    class Calls(list):
-        fails = {}
-
-        def noted(self, name, answer=None):
-            def call(*words):
-                self.append((name, *words))
-                if name in self.fails:
-                    raise self.fails[name]
-                return answer
-
-            return call
-
+def calls():
     return Calls()
-
-
-def heads(calls):
-    return [it[0] for it in calls]
 
 
 def by(call):
@@ -67,12 +38,12 @@ def kept(monkeypatch, calls, **fails):
     monkeypatch.setattr(backup, "tidy", calls.noted("tidy", ["old"]))
     monkeypatch.setattr(backup, "copy_off", calls.noted("copy_off"))
     monkeypatch.setattr(backup, "note", calls.noted("note"))
-    monkeypatch.setattr(backup, "bytes_of", lambda path: 10)
+    monkeypatch.setattr(backup, "backup_bytes", lambda path: 10)
 
 
 def test_keep(tmp_path, monkeypatch, calls, capsys):
     kept(monkeypatch, calls)
-    backup.keep(args_of(tmp_path, recipient=["age1"], copy_with="copy", keep_days=3, keep_weeks=2,
+    backup.finish_backup(args_of(tmp_path, recipient=["age1"], copy_with="copy", keep_days=3, keep_weeks=2,
         taken=("lvm", "2G")), NAME)
     path = tmp_path / NAME
     assert calls == [("placed", f".new-{NAME}", NAME, ["age1"]), ("tidy", tmp_path, 3, 2), ("copy_off", "copy", path),
@@ -83,7 +54,7 @@ def test_keep(tmp_path, monkeypatch, calls, capsys):
 def test_a_backup_that_was_not_copied_off_is_not_noted_as_good(tmp_path, monkeypatch, calls):
     kept(monkeypatch, calls, copy_off=BackupError("shut"))
     with pytest.raises(BackupError, match="shut"):
-        backup.keep(args_of(tmp_path, copy_with="copy"), NAME)
+        backup.finish_backup(args_of(tmp_path, copy_with="copy"), NAME)
     assert "note" not in heads(calls)
 
 
@@ -91,11 +62,11 @@ def test_what_cannot_be_tidied_keeps_no_backup_from_its_way_off(tmp_path, monkey
     kept(monkeypatch, calls, tidy=PermissionError(13, "Permission denied", "/b/old"))
     with pytest.raises(BackupError,
         match=f"{NAME} is here, and an older one can't be removed: /b/old: Permission denied"):
-        backup.keep(args_of(tmp_path, copy_with="copy"), NAME)
+        backup.finish_backup(args_of(tmp_path, copy_with="copy"), NAME)
     assert heads(calls) == ["placed", "tidy", "copy_off"]
     kept(monkeypatch, calls, tidy=PermissionError(13, "Permission denied"))
     with pytest.raises(BackupError):
-        backup.keep(args_of(tmp_path), NAME)
+        backup.finish_backup(args_of(tmp_path), NAME)
     assert heads(calls)[3:] == ["placed", "tidy"], "without a command nothing is copied off"
 
 
@@ -114,9 +85,9 @@ def run_into(tmp_path, monkeypatch, calls, stays=None, **more):
             raise stays
 
     monkeypatch.setattr(backup, "new_name", lambda folder: NAME)
-    monkeypatch.setattr(backup, "snapshot", snapshot)
+    monkeypatch.setattr(backup, "hold_snapshot", snapshot)
     monkeypatch.setattr(backup, "copy", lambda args, db, folder: calls.noted("copy")(db, folder))
-    monkeypatch.setattr(backup, "keep", lambda args, name: calls.noted("keep")(name))
+    monkeypatch.setattr(backup, "finish_backup", lambda args, name: calls.noted("keep")(name))
     monkeypatch.setattr(backup, "remove_begun", lambda folder: calls.noted("remove", [])(folder) or [])
     backup.run_into(args_of(tmp_path, volume="V", **more), by)
 
@@ -160,7 +131,7 @@ def test_what_was_left_is_told(tmp_path, monkeypatch, capsys):
     told = "backup: an earlier run left .new-1, which is removed now\n"
     assert os.listdir(tmp_path) == [] and capsys.readouterr().err == told
     (tmp_path / ".new-2").mkdir()
-    backup.clear(args_of(tmp_path))
+    backup.clear_begun(args_of(tmp_path))
     assert os.listdir(tmp_path) == []
 
 
@@ -251,10 +222,10 @@ def root(tmp_path, monkeypatch, calls):
     monkeypatch.setattr(backup, "StoreFolder", lambda db: {"/db/books.db": store}[db])
     monkeypatch.setattr(backup, "tested_user", lambda it, place: calls.append(("tested", str(place))) or user)
     monkeypatch.setattr(backup, "sole_backup", held)
-    monkeypatch.setattr(backup, "snapshot", snapshot)
+    monkeypatch.setattr(backup, "hold_snapshot", snapshot)
     monkeypatch.setattr(backup, "copy_for_trial", calls.noted("trial"))
-    monkeypatch.setattr(backup, "opened_lock", lambda path: calls.append(("opened", path.name)) or os.open(tmp_path,
-        os.O_RDONLY))
+    opened = calls.noted("opened")
+    monkeypatch.setattr(backup, "opened_shared_lock", lambda path: opened(path.name) or os.open(tmp_path, os.O_RDONLY))
     monkeypatch.setattr(backup, "run_into", lambda args, by: by(lambda: calls.append(("run_into",))))
     volumes(monkeypatch, calls)
     return store
@@ -319,7 +290,7 @@ def ran(monkeypatch, calls, args):
     for name in ("run_snapshot", "copy"):
         monkeypatch.setattr(backup, name, calls.noted(name))
     monkeypatch.setattr(backup, "run_into", lambda args, by: by(lambda: calls.append(("run_into",))))
-    backup.run(args)
+    backup.make_backup(args)
     return heads(calls)
 
 
@@ -462,83 +433,4 @@ def test_a_reader_who_has_enough_is_no_fault(monkeypatch):
 
 def test_a_signal_is_an_error():
     with pytest.raises(BackupError, match="stopped by signal 15"):
-        backup.ended(15, None)
-
-
-# ---- words
-
-
-def parsed(monkeypatch, text):
-    monkeypatch.setattr(sys, "argv", ["backup", *text.split()])
-    return backup.checked(backup.words())
-
-
-@pytest.mark.parametrize("text", [
-    "--site S --db D F", "--site S --db D --into A",
-    "--snapshot lvm --site S --db D --into A --recipient R --copy-with C",
-    "--into A --db D --clean", "--snapshot lvm --db D --clean", "--trial --db D --into A F",
-    "--trial --db D --snapshot zfs F",
-])  # fmt: skip
-def test_words(monkeypatch, text):
-    found = parsed(monkeypatch, text)
-    assert (found.keep_days, found.keep_weeks, found.program) == (7, 5, "station")
-
-
-@pytest.mark.parametrize("text", [
-    "", "--db D", "--site S --db D", "--db D F", "--site S --db D --into A F", "--site S --into A",
-    "--site S --db D --snapshot ext4 --into A",
-    "--site S --db D --snapshot lvm F", "--site S --db D --recipient R F", "--site S --db D --copy-with C F",
-    "--clean --db D",
-    "--trial --db D --into A", "--trial --clean --db D --into A F", "--site S --db D --into A --keep-days x",
-])  # fmt: skip
-def test_wrong_words(monkeypatch, capsys, text):
-    with pytest.raises(SystemExit) as error:
-        parsed(monkeypatch, text)
-    assert error.value.code == 2
-
-
-def test_paths_are_whole_ones(tmp_path, monkeypatch):
-    """The user's process begins in another folder."""
-    monkeypatch.chdir(tmp_path)
-    (tmp_path / "keys").write_text("")
-    args = args_of(Path("all"), site="s.toml", db="d/books.db", recipient=["keys", "age1abc"], folder=Path("f"))
-    backup.make_whole(args, "bin/P")
-    assert (args.program, args.site, args.db) == tuple(str(tmp_path / it) for it in ("bin/P", "s.toml", "d/books.db"))
-    assert (args.into, args.folder) == (tmp_path / "all",
-        tmp_path / "f") and args.recipient == [str(tmp_path / "keys"), "age1abc"]
-    args = args_of(None, site=None)
-    backup.make_whole(args, "/bin/P")
-    assert (args.into, args.folder, args.site) == (None, None, None)
-
-
-@pytest.mark.parametrize("text, missing, error, status, is_noted", [
-    ("--site S --db D --into A", "", None, 0, False), ("--site S --db D --into A", "", BackupError("why"), 1, True),
-    ("--site S --db D --into A", "", OSError(5, "why"), 1, True),
-    ("--site S --db D --into A", "", UserError("why"), 1, True),
-    ("--site S --db D F", "", BackupError("why"), 1, False),
-    ("--db D --into A --clean", "", BackupError("why"), 1, False),
-    ("--trial --db D --into A F", "", BackupError("why"), 1, False),
-    ("--site S --db D --into A", "station", None, 1, True),
-    ("--site S --db D --into A", "sqlite3", None, 1, True), ("--db D --into A --clean", "station", None, 0, False),
-])  # fmt: skip
-def test_main(monkeypatch, calls, capsys, text, missing, error, status, is_noted):
-    masks, signals = [], {}
-    calls.fails = {"run": error} if error else {}
-    monkeypatch.setattr(sys, "argv", ["backup", *text.split()])
-    monkeypatch.setattr(backup, "run", calls.noted("run"))
-    monkeypatch.setattr(backup, "note_failure", calls.noted("noted"))
-    monkeypatch.setattr(backup.shutil, "which", lambda name: None if name == missing else f"/bin/{name}")
-    monkeypatch.setattr(backup.os, "umask", masks.append)
-    monkeypatch.setattr(backup.signal, "signal", lambda number, handler: signals.update({number: handler}))
-    assert backup.main() == status and masks == [0o077]
-    assert signals == {number: backup.ended for number in (signal.SIGTERM, signal.SIGINT, signal.SIGHUP)}
-    assert ("noted" in heads(calls)) == is_noted and (status == 0 or "backup: " in capsys.readouterr().err)
-    assert ("run" in heads(calls)) == (not missing or "--clean" in text)
-
-
-def test_the_numbers_of_a_copy_are_printed(monkeypatch, tmp_path, capsys):
-    seen = []
-    monkeypatch.setattr(backup, "copy_store", lambda *words: seen.append(words) or ["orders 1", "seat a1 2"])
-    backup.copy(args_of(tmp_path, snapshot="lvm"), "/snap/books.db", tmp_path / "x")
-    assert seen == [("/bin/P", "/s.toml", "/snap/books.db", tmp_path / "x", "lvm")]
-    assert capsys.readouterr().out == "orders 1\nseat a1 2\n"
+        backup.stop_run(15, None)

@@ -89,11 +89,12 @@ def test_digest_of_file(tmp_path):
     assert backup_copy.digest_of_file(tmp_path / "a") == abc
 
 
-def test_now(monkeypatch):
-    """UTC, as RFC 3339 has it."""
-    monkeypatch.setattr(backup_copy.time, "gmtime", lambda: backup_copy.time.struct_time((2026, 1, 2, 3, 4, 5, 4, 2,
-        0)))
-    assert backup_copy.now() == "2026-01-02T03:04:05Z"
+def test_now():
+    """UTC, as RFC 3339 has it, and as date(1) says it before and after."""
+    words = ["date", "-u", "+%Y-%m-%dT%H:%M:%SZ"]
+    before = subprocess.check_output(words, text=True).strip()
+    found = backup_copy.now_text()
+    assert before <= found <= subprocess.check_output(words, text=True).strip()
 
 
 def test_name_of_user(monkeypatch):
@@ -141,7 +142,7 @@ def test_sqlite3_runs_in_its_safe_mode_and_reads_alone(machine):
 
 def test_who_has_what_a_command_prints_to_holds_nobody():
     begun = time.monotonic()
-    done = backup_copy.ended("sh", "-c", "printf 'a\\377'; echo b >&2; sleep 5 & exit 3")
+    done = backup_copy.run_unpiped("sh", "-c", "printf 'a\\377'; echo b >&2; sleep 5 & exit 3")
     assert (done.returncode, done.stdout, done.stderr) == (3, "a\ufffd", "b\n") and time.monotonic() - begun < 4
 
 
@@ -161,7 +162,7 @@ def test_is_served(monkeypatch, out, err, is_served):
 
 def test_counts_of(tmp_path, machine):
     (tmp_path / "c.db-shm").write_text("")
-    assert backup_copy.counts_of(tmp_path / "c.db", "s") == ["orders 2", "devices 3", "records 4", "seat a1 17"]
+    assert backup_copy.copied_counts(tmp_path / "c.db", "s") == ["orders 2", "devices 3", "records 4", "seat a1 17"]
     ((words, _),) = machine.calls
     assert words[:5] == ["sqlite3", "-safe", "-readonly", "-bail", str(tmp_path / "c.db")]
     assert not (tmp_path / "c.db-shm").exists()
@@ -170,7 +171,7 @@ def test_counts_of(tmp_path, machine):
 def test_counts_that_cannot_be_read(tmp_path, machine):
     machine.status = 1
     with pytest.raises(BackupError, match="sqlite3 can't read the copy of s: Error: why$"):
-        backup_copy.counts_of(tmp_path / "c.db", "s")
+        backup_copy.copied_counts(tmp_path / "c.db", "s")
 
 
 @pytest.mark.skipif(not shutil.which("sqlite3"), reason="sqlite3 isn't there")
@@ -184,7 +185,7 @@ def test_what_is_counted(tmp_path):
         db = tmp_path / f"{number}.db"
         seat = "INSERT INTO seat VALUES ('a1', 7);"
         subprocess.run(["sqlite3", str(db), tables + seat + more], check=True)
-        seen.add(tuple(backup_copy.counts_of(db, "s")))
+        seen.add(tuple(backup_copy.copied_counts(db, "s")))
     assert len(seen) == 6 and ("orders 0", "devices 0", "records 0", "seat a1 7") in seen
 
 
@@ -322,7 +323,7 @@ def test_where_anything_fails_there_is_no_backup(store, tmp_path, machine, progr
 
 
 def test_a_signal_takes_what_was_begun_away(store, tmp_path, machine, program, monkeypatch):
-    monkeypatch.setattr(backup_copy, "counts_of", lambda *_: (_ for _ in ()).throw(KeyboardInterrupt))
+    monkeypatch.setattr(backup_copy, "copied_counts", lambda *_: (_ for _ in ()).throw(KeyboardInterrupt))
     with pytest.raises(KeyboardInterrupt):
         copy_store(program, str(store.with_name("site.toml")), str(store), tmp_path / "made")
     assert not (tmp_path / "made").exists()

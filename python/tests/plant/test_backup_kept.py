@@ -4,7 +4,7 @@ import json
 import os
 
 import pytest
-from wanekupo.plant.backup.folder import NAME, encrypted, last_of, last_snapshot, remove_begun, stay
+from wanekupo.plant.backup.folder import NAME, encrypted, last_of, last_snapshot, remove_begun, staying_backups
 
 LATE, END = "T020000Z", ".tar.age"
 
@@ -42,7 +42,7 @@ CASES = [
 
 @pytest.mark.parametrize("what, found, days, weeks, kept", CASES, ids=[case[0] for case in CASES])
 def test_which_stay(what, found, days, weeks, kept):
-    assert stay(found, days, weeks) == kept
+    assert staying_backups(found, days, weeks) == kept
 
 
 FORMS = [

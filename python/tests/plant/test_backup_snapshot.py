@@ -11,7 +11,8 @@ from types import SimpleNamespace
 from wanekupo.plant.backup import snapshot as backup_snapshot
 import pytest
 from wanekupo.plant.backup.copies import BackupError
-from wanekupo.plant.backup.snapshot import Btrfs, Lvm, SnapshotStaysError, Volume, Zfs, snapshot, unmounted, volume_of
+from wanekupo.plant.backup.snapshot import Btrfs, Lvm, SnapshotStaysError, Volume, Zfs, hold_snapshot
+from wanekupo.plant.backup.snapshot import unmounted, volume_of
 
 DB = Path("/var/lib/station/books.db")
 
@@ -93,7 +94,7 @@ def test_a_command_that_is_missing(monkeypatch):
 def test_a_command_that_fails(machine, said, told):
     machine.fails["x"] = said
     with pytest.raises(BackupError, match=told):
-        backup_snapshot.ran("x", "y")
+        backup_snapshot.command_output("x", "y")
 
 
 def test_a_signal_waits_for_a_command(monkeypatch):
@@ -103,10 +104,10 @@ def test_a_signal_waits_for_a_command(monkeypatch):
     signal.pthread_sigmask(signal.SIG_UNBLOCK, stops)
     backup_snapshot.called("x")
     assert seen[0] >= stops and not blocked() & stops
-    with pytest.raises(ValueError), backup_snapshot.whole():
+    with pytest.raises(ValueError), backup_snapshot.signals_waiting():
         raise ValueError
     assert not blocked() & stops, "also behind an error"
-    with backup_snapshot.whole():
+    with backup_snapshot.signals_waiting():
         backup_snapshot.called("x")
         assert blocked() >= stops, "a step inside another one lets no signal through"
 
@@ -398,7 +399,7 @@ class FakeVolume(Volume):
 
 def test_a_snapshot_goes_behind_its_use():
     volume = FakeVolume()
-    with snapshot(volume) as db:
+    with hold_snapshot(volume) as db:
         assert db == DB and volume.calls == ["made"]
     assert volume.calls == ["made", "fault", "removed"]
 
@@ -408,7 +409,7 @@ def test_a_snapshot_goes_behind_its_use():
 ])  # fmt: skip
 def test_what_was_read_of_a_broken_snapshot_is_nothing(error, fault, told):
     volume = FakeVolume(fault)
-    with pytest.raises(BackupError, match=told) as found, snapshot(volume):
+    with pytest.raises(BackupError, match=told) as found, hold_snapshot(volume):
         if error:
             raise error
     assert volume.calls[-1] == "removed" and not isinstance(found.value, SnapshotStaysError)
@@ -416,23 +417,23 @@ def test_what_was_read_of_a_broken_snapshot_is_nothing(error, fault, told):
 
 def test_a_signal_takes_the_snapshot_away():
     volume = FakeVolume()
-    with pytest.raises(KeyboardInterrupt), snapshot(volume):
+    with pytest.raises(KeyboardInterrupt), hold_snapshot(volume):
         raise KeyboardInterrupt
     assert volume.calls[-1] == "removed"
 
 
 def test_a_snapshot_that_was_half_made_goes():
     volume = FakeVolume(fails=True)
-    with pytest.raises(BackupError, match="not made"), snapshot(volume):
+    with pytest.raises(BackupError, match="not made"), hold_snapshot(volume):
         pytest.fail("nothing is read of it")
     assert volume.calls == ["made", "removed"]
 
 
 def test_a_whole_snapshot_that_stays_is_told_as_such():
     """The backup of it is one; of a snapshot that wasn't whole there is none, and its staying says no other thing."""
-    with pytest.raises(SnapshotStaysError, match="busy"), snapshot(FakeVolume(stays=True)):
+    with pytest.raises(SnapshotStaysError, match="busy"), hold_snapshot(FakeVolume(stays=True)):
         pass
-    with pytest.raises(BackupError) as found, snapshot(FakeVolume("full", stays=True)):
+    with pytest.raises(BackupError) as found, hold_snapshot(FakeVolume("full", stays=True)):
         pass
     assert not isinstance(found.value, SnapshotStaysError)
 

@@ -13,7 +13,7 @@ from types import SimpleNamespace
 from wanekupo.plant.backup import folder as backup_kept
 import pytest
 from wanekupo.common import token_file
-from wanekupo.common import whole_file
+from wanekupo.common import files
 from wanekupo.plant.backup.copies import BackupError
 from wanekupo.plant.backup.folder import (
     copy_off, encrypted, last_snapshot, new_name, note, placed, remove, remove_begun, tidy,
@@ -132,11 +132,11 @@ def test_a_lock_is_waited_for(tmp_path, monkeypatch, patience, is_had):
         if next(looks) < 3:
             raise BlockingIOError
 
-    monkeypatch.setattr(whole_file.fcntl, "flock", flock)
-    monkeypatch.setattr(whole_file.time, "monotonic", lambda: next(moments))
-    monkeypatch.setattr(whole_file.time, "sleep", lambda _: None)
+    monkeypatch.setattr(files.fcntl, "flock", flock)
+    monkeypatch.setattr(files.time, "monotonic", lambda: next(moments))
+    monkeypatch.setattr(files.time, "sleep", lambda _: None)
     with contextlib.nullcontext() if is_had else pytest.raises(BackupError, match="busy"):
-        with whole_file.held(tmp_path / "lock", BackupError("busy"), patience):
+        with files.hold_lock(tmp_path / "lock", BackupError("busy"), patience):
             assert is_had
 
 
@@ -238,8 +238,8 @@ def test_the_room_of_an_encryption_is_told(tmp_path, age, monkeypatch):
 
 
 def test_bytes_of(tmp_path):
-    assert backup_kept.bytes_of(backup(tmp_path, NAME)) == 10
-    assert backup_kept.bytes_of(put(tmp_path / "x.tar.age", "12345")) == 5
+    assert backup_kept.backup_bytes(backup(tmp_path, NAME)) == 10
+    assert backup_kept.backup_bytes(put(tmp_path / "x.tar.age", "12345")) == 5
 
 
 # ---- the way off
@@ -291,7 +291,7 @@ def noted(folder):
 
 
 def test_note(tmp_path, monkeypatch):
-    monkeypatch.setattr(backup_kept, "now", lambda: "2026-01-02T03:04:05Z")
+    monkeypatch.setattr(backup_kept, "now_text", lambda: "2026-01-02T03:04:05Z")
     note(tmp_path, True, 10, "made", ("lvm", "2G"))
     assert noted(tmp_path) == {"at": "2026-01-02T03:04:05Z", "ok": True, "bytes": 10, "said": "made", "snapshot": "lvm",
                                "snapshot_size": "2G"}  # fmt: skip

@@ -4,8 +4,6 @@ import pytest
 from wanekupo.plant.site.faults import LARGEST_WHOLE, Fault, Reader, doubles, of_toml, read, shown, walked
 from wanekupo.plant.site.positions import places_of
 
-DIGITS = "0123456789abcdef" * 4
-
 
 @pytest.mark.parametrize("value, text", [
     ("acme", '"acme"'),
@@ -19,12 +17,6 @@ DIGITS = "0123456789abcdef" * 4
 ])  # fmt: skip
 def test_shown(value, text):
     assert shown(value) == text
-
-
-@pytest.mark.parametrize("text", [DIGITS, DIGITS.upper(), "wanekupo_" + DIGITS, " x" + DIGITS + "y", DIGITS * 3])
-def test_no_token_is_shown(text):
-    told = shown(text)
-    assert DIGITS[:8] not in told.lower() and str(len(text)) in told
 
 
 def reader_of(text):

@@ -5,6 +5,7 @@ import tomllib
 
 import pytest
 from wanekupo.plant.site.growth import customer_lines, taken, tables_of, value_of, with_customer, with_items
+from wanekupo.common.site_file import SiteFileError
 from wanekupo.common.token_file import TokenError
 
 SEAT, POOL = {"name": "a2", "token": "02"}, {"first": "020000000030", "count": 4}
@@ -108,7 +109,7 @@ def test_no_such_customer(call):
 
 def test_no_toml():
     for call in (lambda: with_customer("[", COG, "t.toml"), lambda: with_items("\n[", "a", "seat", [], "t.toml")):
-        with pytest.raises(TokenError, match=r"^t\.toml:[12]: it is no TOML"):
+        with pytest.raises(SiteFileError, match=r"^t\.toml is no site file that can be read as TOML 1\.0: "):
             call()
 
 

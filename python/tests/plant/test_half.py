@@ -123,7 +123,7 @@ def test_a_command_that_takes_too_long_or_is_missing_failed(monkeypatch, error):
         raise error
 
     monkeypatch.setattr(half.subprocess, "run", run)
-    ended = half.run(["x"], 5)
+    ended = half.run_bounded(["x"], 5)
     assert ended.returncode != 0 and ended.stderr and not ended.stdout
     with pytest.raises(StandbyError, match="`x` ended with status 1"):
         half.done(["x"], 5)
@@ -133,7 +133,7 @@ def test_a_command_has_no_terminal_of_the_one_who_typed_the_script():
     """It is tried on a terminal, which a command of the same session opens as /dev/tty."""
     child, terminal = pty.fork()
     if not child:
-        ended = half.run(["sh", "-c", "exec 3<>/dev/tty && echo root: >&3"])
+        ended = half.run_bounded(["sh", "-c", "exec 3<>/dev/tty && echo root: >&3"])
         os._exit(ended.returncode == 0)
     with os.fdopen(terminal, "rb", buffering=0) as shown, contextlib.suppress(OSError):
         assert b"root:" not in shown.read(99)
@@ -150,7 +150,7 @@ def test_done(asked):
 
 
 def test_no_control_character_reaches_a_terminal(capsys):
-    half.tell("a\x1b[2Jb\rc\x9bd é")
+    half.print_told("a\x1b[2Jb\rc\x9bd é")
     assert capsys.readouterr().out == "a?[2Jb?c?d é\n"
 
 
@@ -161,7 +161,7 @@ def test_where_nobody_reads_the_work_goes_on():
 
         flush = write
 
-    half.tell("x", Shut())
+    half.print_told("x", Shut())
 
 
 @pytest.mark.parametrize("user, error, status, told", [
@@ -179,7 +179,7 @@ def test_ended(monkeypatch, capsys, user, error, status, told):
 
     monkeypatch.setattr(half.os, "geteuid", lambda: user)
     monkeypatch.setattr(half.signal, "signal", lambda number, handler: signals.append((number, handler)))
-    assert half.ended("t", call) == status and told in capsys.readouterr().err and bool(calls) == (user == 0)
+    assert half.end_script("t", call) == status and told in capsys.readouterr().err and bool(calls) == (user == 0)
     assert (signal.SIGTERM, signal.default_int_handler) in signals and (signal.SIGHUP,
         signal.default_int_handler) in signals
 

@@ -6,7 +6,7 @@ from types import SimpleNamespace
 from wanekupo.standby import living
 import pytest
 from wanekupo.standby.half import StandbyError
-from wanekupo.common.token_file import Outer, TokenSeat, Tokens, text_of
+from wanekupo.common.token_file import Outer, TokenSeat, Tokens, tokens_text
 
 MARK = "0123456789ab"
 ONE, TWO, ENDS = f"a1:1 {MARK} all -", f"a1:2 {MARK} look -", f"a1:1 {MARK} all 2026-11-29T18:00"
@@ -15,13 +15,13 @@ PAST = f"b1:1 {MARK} all 2026-11-28T23:59"
 
 @pytest.fixture(autouse=True)
 def clock(monkeypatch):
-    monkeypatch.setattr("wanekupo.common.token_file.now", lambda: "2026-11-29T10:00")
+    monkeypatch.setattr("wanekupo.common.token_file.current_minute", lambda: "2026-11-29T10:00")
 
 
 def listed(tmp_path):
     handle = os.open(tmp_path, os.O_PATH | os.O_DIRECTORY)
     try:
-        return living.listed(handle)
+        return living.listed_tokens(handle)
     finally:
         os.close(handle)
 
@@ -71,10 +71,10 @@ class Machine:
             name, mark, may, until = line.split()
             until = until.strip("-") and until
             tokens.outers.append(
-                Outer(name, number, name[:2], may == "look", mark, "2026-11-01T00:00", f"t{number}", until=until)
+                Outer(name, number, name[:2], may == "look", mark, "2026-11-01T00:00", f"wanekupo_{number:064x}", until=until)
             )
         path = folder / "tokens.conf"
-        path.write_text(text_of(tokens))
+        path.write_text(tokens_text(tokens))
         path.chmod(0o600)
         self.settings = SimpleNamespace(tokens=str(path))
 
@@ -105,10 +105,10 @@ def test_takeover(tmp_path, capsys, own, there, refused, lacking):
     half = Machine(tmp_path, *own)
     if refused:
         with pytest.raises(StandbyError) as error:
-            living.test(half, there, False)
+            living.test_tokens(half, there, False)
         assert refused in str(error.value) and "--ended-tokens-may-ask" in str(error.value)
         assert (f"401 here: {lacking}\n" in capsys.readouterr().out) == bool(lacking)
-    living.test(half, there, bool(refused))
+    living.test_tokens(half, there, bool(refused))
     said = capsys.readouterr().out
     assert ("may ask here by your word" in said) == bool(refused)
     assert (f"401 here: {lacking}\n" in said) == bool(lacking)
@@ -118,4 +118,4 @@ def test_tokens_that_cant_be_read_refuse(tmp_path):
     half = Machine(tmp_path, ONE)
     os.chmod(half.settings.tokens, 0o644)
     with pytest.raises(StandbyError, match="can't be read: .* may be read by others"):
-        living.test(half, {ONE}, True)
+        living.test_tokens(half, {ONE}, True)

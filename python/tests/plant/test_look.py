@@ -40,7 +40,7 @@ def machine(monkeypatch):
     made = Machine()
     for module in (look, needed):
         monkeypatch.setattr(module, "done", made.done)
-    monkeypatch.setattr(look, "run", made.run)
+    monkeypatch.setattr(look, "run_bounded", made.run)
     monkeypatch.setattr(Half, "disk", lambda it: "/dev/vg/half")
     monkeypatch.setattr(Half, "mount", lambda it, device, where: made.calls.append(f"mount {device} {where}"))
     return made
@@ -53,7 +53,7 @@ def own(tmp_path):
 
 
 def test_a_snapshot_is_of_the_disk_as_it_is_and_goes(machine, own, tmp_path):
-    with look.snapshot(own, str(tmp_path)) as device:
+    with look.device_snapshot(own, str(tmp_path)) as device:
         assert device == "/dev/mapper/station-look"
         changes = os.stat(tmp_path / "changes")
         assert changes.st_size == 65536 and stat.S_IMODE(changes.st_mode) == 0o600
@@ -77,7 +77,7 @@ def test_a_snapshot_is_of_the_disk_as_it_is_and_goes(machine, own, tmp_path):
 ])  # fmt: skip
 def test_what_was_made_goes_where_the_rest_fails(machine, own, tmp_path, fails, left):
     machine.fails = [fails]
-    with pytest.raises(StandbyError), look.snapshot(own, str(tmp_path)):
+    with pytest.raises(StandbyError), look.device_snapshot(own, str(tmp_path)):
         pytest.fail("nothing is shown")
     begun = next(at for at, it in enumerate(machine.calls) if it.startswith(fails))
     assert machine.calls[begun + 1 :] == left
@@ -85,7 +85,7 @@ def test_what_was_made_goes_where_the_rest_fails(machine, own, tmp_path, fails, 
 
 def test_mounted_in_a_folder_that_goes(machine, own, monkeypatch):
     calls = []
-    monkeypatch.setattr(look, "clear", lambda it: calls.append("clear"))
+    monkeypatch.setattr(look, "clear_look", lambda it: calls.append("clear"))
     with pytest.raises(ValueError), look.mounted(own) as shown:
         assert calls == ["clear"] and shown.parent.stat().st_mode & 0o777 == 0o711
         assert machine.calls[-1] == f"mount /dev/mapper/station-look {shown}" and shown.is_dir()
@@ -103,7 +103,7 @@ def test_what_a_killed_look_left_goes(machine, own, tmp_path):
     (scratch / "station-look-link").symlink_to(tmp_path / "mine")
     (scratch / "station-look-file").write_text("")
     machine.prints["losetup --associated"] = "/dev/loop7: [64768]:1 (/dev/vg/half)\n/dev/loop8: []: (/x)\n"
-    look.clear(own)
+    look.clear_look(own)
     assert machine.calls == [
         f"umount {scratch}/station-look-1/shown", "dmsetup info station-look", "dmsetup remove --retry station-look",
         "dmsetup mknodes", "losetup --associated /dev/vg/half", "losetup --detach /dev/loop7",
@@ -121,7 +121,7 @@ def test_a_folder_of_another_user_stays(machine, own, monkeypatch):
     real = Path.lstat
     monkeypatch.setattr(Path, "lstat", lambda it: SimpleNamespace(st_uid=1000, st_mode=real(it).st_mode))
     machine.fails = ["dmsetup info"]
-    look.clear(own)
+    look.clear_look(own)
     assert os.listdir(scratch) == ["station-look-1"] and all("umount" not in it for it in machine.calls)
 
 
@@ -130,14 +130,14 @@ def test_what_is_still_mounted_is_not_removed(machine, own, monkeypatch):
     (scratch / "station-look-1/shown").mkdir(parents=True)
     monkeypatch.setattr(look.os.path, "ismount", lambda path: True)
     machine.fails = ["dmsetup info"]
-    look.clear(own)
+    look.clear_look(own)
     assert (scratch / "station-look-1/shown").is_dir() and "dmsetup remove --retry station-look" not in machine.calls
 
 
 def test_a_look_that_is_at_work_still(machine, own):
     machine.fails = ["dmsetup remove"]
     with pytest.raises(StandbyError, match="is at work still"):
-        look.clear(own)
+        look.clear_look(own)
 
 
 # ---- what is read
@@ -197,7 +197,7 @@ def test_the_contents_of_a_half(monkeypatch, own, tmp_path):
     monkeypatch.setattr(look, "StoreFolder", lambda path: {tmp_path / "books.db": store}[path])
     monkeypatch.setattr(look, "user_named", lambda name: user)
     monkeypatch.setattr(look, "seats_of", lambda site: {"/etc/station/site.toml": ["a1", "b1"]}[site])
-    monkeypatch.setattr(look.living, "listed", lambda handle: {"x"} if handle == store.handle else None)
+    monkeypatch.setattr(look.living, "listed_tokens", lambda handle: {"x"} if handle == store.handle else None)
     assert look.contents(own) == look.Contents({"a1": 17, "b1": 0}, {"x"})
     program, sqlite3 = (words for words, _, _ in user.calls)
     assert program == ("station", "replay", "--site", "/etc/station/site.toml", "--db", "books.db", "--existing")
@@ -239,7 +239,7 @@ def resource(**changes):
 def needs(machine, monkeypatch, own, text, handler):
     machine.prints["drbdsetup show"] = text
     monkeypatch.setattr(Half, "asked", lambda it, what: f"    handlers {{\n{handler}    }}\n" if what == "dump" else "")
-    needed.test(own)
+    needed.test_resource(own)
 
 
 HANDLER = f"        fence-peer       {needed.HANDLER};\n"

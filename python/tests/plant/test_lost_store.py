@@ -6,7 +6,7 @@ from pathlib import Path
 
 import pytest
 from wanekupo.plant.restore import lost_store as restore_look
-from wanekupo.plant.restore.lost_store import lost_copy, missing_rows, rows_of
+from wanekupo.plant.restore.lost_store import lost_copy, missing_rows, query_rows
 from wanekupo.plant.restore.plan import RestoreError
 
 # The columns that are read, of docs/reference/files.md.
@@ -53,8 +53,8 @@ def test_rows_that_the_restored_store_lacks(tmp_path):
 def test_rows_that_cannot_be_read(tmp_path):
     (tmp_path / "broken.db").write_text("no database, and longer than the head of one is" * 9)
     restored = store(tmp_path / "restored.db")
-    assert rows_of(tmp_path / "broken.db", "SELECT 1 FROM given") is None
-    assert rows_of(restored, "SELECT 1 FROM given WHERE 0") == []
+    assert query_rows(tmp_path / "broken.db", "SELECT 1 FROM given") is None
+    assert query_rows(restored, "SELECT 1 FROM given WHERE 0") == []
     assert set(missing_rows(tmp_path / "broken.db", restored).values()) == {None}
     assert all(missing_rows(restored,
         tmp_path / "broken.db").values()), "what can't be read of the new one is missing there"
@@ -63,7 +63,7 @@ def test_rows_that_cannot_be_read(tmp_path):
 @pytest.mark.parametrize("fails, is_opened", [(False, True), (False, False), (True, False)])
 def test_the_copy(tmp_path, monkeypatch, fails, is_opened):
     calls = []
-    monkeypatch.setattr(restore_look, "ended", lambda *words: calls.append(list(words)) or
+    monkeypatch.setattr(restore_look, "run_unpiped", lambda *words: calls.append(list(words)) or
                         subprocess.CompletedProcess(words, int(fails), "", "full\n"))  # fmt: skip
     monkeypatch.setattr(restore_look, "opened_by", lambda program, site,
         db: calls.append((program, site, db)) or is_opened)

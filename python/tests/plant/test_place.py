@@ -2,6 +2,8 @@
 
 import argparse
 import contextlib
+import os
+import signal
 import subprocess
 from pathlib import Path
 from types import SimpleNamespace
@@ -10,8 +12,9 @@ import pytest
 from wanekupo.plant import trial_copy as store_copy
 from conftest import TOP
 from wanekupo.plant.site import place as places
-from wanekupo.plant.site.place import Place, text_in, written
+from wanekupo.plant.site.place import Place, text_in
 from wanekupo.plant.trial_copy import Backup, NoCopyError, copy_files, copy_running
+from wanekupo.common.store_user import UserError
 from wanekupo.common.token_file import TokenError
 
 
@@ -46,6 +49,19 @@ def test_a_text_as_it_is(tmp_path, data, text):
     assert text_in(tmp_path / "f") == text
 
 
+def test_a_text_is_a_plain_files(tmp_path):
+    """Another user may have put a pipe, a link or an endless file where root looks."""
+    (tmp_path / "link").symlink_to("f")
+    (tmp_path / "f").write_bytes(bytes((1 << 20) + 1))  # of docs/reference/program.md: a byte more than a site may have
+    os.mkfifo(tmp_path / "pipe")
+    signal.signal(signal.SIGALRM, lambda *_: pytest.fail("waited for ever"))
+    signal.alarm(60)
+    for name in ("link", "f", "pipe", "."):
+        with pytest.raises((UserError, OSError)):
+            text_in(tmp_path / name)
+    signal.alarm(0)
+
+
 def test_the_line_of_what_is_no_text(tmp_path):
     for data, line in ((b"a\nb\nc\xff", 3), (b"\n\xff\n", 2), (b"\xff", 1)):
         (tmp_path / "f").write_bytes(data)
@@ -57,12 +73,6 @@ def test_names(place, tmp_path):
     assert (place.next, place.plan) == (tmp_path / "site.next.toml", tmp_path / "site.growth")
     program = str(TOP / "python/bin/station-token")
     assert place.token_words() == [program, "--file", "/t/tokens.conf", "--no-reload", "--wait", "1 2"]
-
-
-@pytest.mark.parametrize("found, has", [(None, False), ("/bin/P", True)])
-def test_has_program(place, monkeypatch, found, has):
-    monkeypatch.setattr(places.shutil, "which", lambda name: found if name == "P" else "/bin/x")
-    assert place.has_program() is has
 
 
 def runs(monkeypatch, status, out="", err=""):
@@ -87,21 +97,40 @@ def test_service(place, monkeypatch, status, out, err, answer):
     assert place.service("systemctl stop 'a b'") == answer and calls == [("systemctl", "stop", "a b", "")]
 
 
-@pytest.mark.parametrize("status, err, said",
-    [(0, "warning", ""), (1, "station: site fault 3\n", "station: site fault 3"), (-9, "", "status -9"),
-                                               (1, "a\x1b[2Jb", "a?[2Jb")])  # fmt: skip
-def test_replayed(place, monkeypatch, status, err, said):
-    """A program that is killed took nothing, and what it prints is harmless."""
-    calls = runs(monkeypatch, status, err=err)
-    assert place.replayed(Path("/s")) == said and place.replayed(Path("/s"), Path("/d")) == said
-    assert calls == [("P", "replay", "--site", "/s", ""),
-        ("P", "replay", "--site", "/s", "--db", "/d", "--existing", "")]
+class FakeReader:
+    """Who runs the program over texts: what it is given is noted as it reads it, by the names of its words."""
+
+    def __init__(self, status=0, err=""):
+        self.calls, self.status, self.err = [], status, err
+
+    def run(self, *words, fds, seconds=0):
+        names = {f"/proc/self/fd/{it}": it for it in fds}
+        self.calls.append([Path(it).read_text() if it in names else it for it in words])
+        return subprocess.CompletedProcess(words, self.status, "", self.err)
 
 
-def test_a_store_is_opened_as_its_user(place, monkeypatch):
-    calls = runs(monkeypatch, 0)
-    assert place.replayed(Path("/s"), Path("/d"), place.user) == "" and calls == []
-    assert place.user.calls == [("P", "replay", "--site", "/s", "--db", "/d", "--existing")]
+@pytest.mark.parametrize("status, err, said", [
+    (0, "warning", ""), (1, "station: site fault 3: x\n", "station: site fault 3: x"), (-9, "", "status -9"),
+    (1, "a\x1b[2Jb", "a?[2Jb"),
+])  # fmt: skip
+def test_what_the_program_says(place, status, err, said):
+    """A program that is killed took nothing, and what it prints is harmless. It gets no name of a file."""
+    place.reader = place.store.user = reader = FakeReader(status, err)
+    assert place.refusal("check-map", "a map") == place.refusal("check-site", "é", "") == said
+    assert place.store_refusal("text", Path("/d")) == said
+    assert reader.calls == [
+        ["P", "check-map", "a map"], ["P", "check-site", "é", "--from", ""],
+        ["P", "replay", "--site", "text", "--db", "/d", "--existing"],
+    ]  # fmt: skip
+
+
+def test_who_reads_a_text(place, monkeypatch, tmp_path):
+    monkeypatch.setattr(places, "reader_for", lambda db: ("of", db))
+    monkeypatch.setattr(places.shutil, "which", lambda name: None)
+    with pytest.raises(TokenError, match="^there is no program P, .*: --program P$"):
+        place.refusal("check-site", "")
+    monkeypatch.setattr(places.shutil, "which", lambda name: f"/bin/{name}")
+    assert place.reader == ("of", tmp_path / "books.db")
 
 
 def in_room(place, monkeypatch):
@@ -138,10 +167,9 @@ def held(place, monkeypatch, refused, out="4142\n", fails=()):
         yield Path(f"/copy{len(made)}")
 
     monkeypatch.setattr(place, "copied", copied)
-    monkeypatch.setattr(place, "replayed", lambda text, db,
-        user: made.append((text.name, db, user)) or refused[text.name])
+    monkeypatch.setattr(place, "store_refusal", lambda text, db: made.append((text, db)) or refused[text])
     place.store.user = FakeUser(out, "why", fails)
-    return place.held_text([Path("new"), Path("old")]), made
+    return place.held_text(["new", "old"]), made
 
 
 @pytest.mark.parametrize("refused", [{"new": "", "old": ""}, {"new": "fault", "old": ""}, {"new": "", "old": "fault"}])
@@ -149,7 +177,7 @@ def test_held_text(place, monkeypatch, refused):
     """The program opens one copy, and sqlite3 reads another in its safe mode: `AB` is 4142 in hexadecimal digits."""
     text, made = held(place, monkeypatch, refused)
     own = (place.db, 42)
-    assert text == "AB" and made == [own, ("new", Path("/copy1"), place.user), ("old", Path("/copy1"), place.user), own]
+    assert text == "AB" and made == [own, ("new", Path("/copy1")), ("old", Path("/copy1")), own]
     ((*words, statement),) = place.user.calls
     assert words == ["sqlite3", "-safe", "-readonly", "/copy4"] and "site_text" in statement
 
@@ -164,12 +192,6 @@ def test_no_held_text(place, monkeypatch, refused, out, fails, told):
     with pytest.raises(TokenError, match=told) as error:
         held(place, monkeypatch, refused, out, fails)
     assert error.value.status == 4
-
-
-def test_written():
-    with written("é\r\n") as path:
-        assert path.read_bytes() == "é\r\n".encode() and path.parent.stat().st_mode & 0o077 == 0
-    assert not path.parent.exists()
 
 
 # ---- the newest backup, by what `find -printf` lists for the store's user
@@ -210,7 +232,7 @@ def test_copy_files(fails):
 ])  # fmt: skip
 def test_copy_running(monkeypatch, capsys, status, err, kind, told):
     calls = []
-    monkeypatch.setattr(store_copy.subprocess, "run", lambda words, **more: calls.append(words) or
+    monkeypatch.setattr(subprocess, "run", lambda words, **more: calls.append(words) or
                         subprocess.CompletedProcess(words, status, "", err))  # fmt: skip
     words = (Path("/d/books.db"), Path("/b"), kind, Path("/room/store"))
     if told:

@@ -27,7 +27,7 @@ def text_of(**changes):
 
 
 def args_of(**more):
-    return argparse.Namespace(**{**vars(restart.words().parse_args([])), **more})
+    return argparse.Namespace(**{**vars(restart.restart_parser().parse_args([])), **more})
 
 
 def test_no_metrics(tmp_path, monkeypatch):
@@ -154,10 +154,10 @@ def test_a_pipe_in_the_place_of_what_is_written_is_waited_for_by_nobody(tmp_path
     assert (tmp_path / "restart.prom").read_bytes() == b"text" and len(list(tmp_path.iterdir())) == 1
 
 
-@pytest.mark.parametrize("out, is_healthy", [(b"200", True), (b"503", False), (b"", False), (b"2000", False)])
+@pytest.mark.parametrize("out, is_healthy", [("200", True), ("503", False), ("", False), ("2000", False)])
 def test_is_healthy(monkeypatch, out, is_healthy):
     calls = []
-    monkeypatch.setattr(restart.subprocess, "run", lambda words,
+    monkeypatch.setattr(subprocess, "run", lambda words,
         **more: calls.append(words) or SimpleNamespace(stdout=out))
     assert restart.is_healthy(args_of(health="https://h/health")) is is_healthy
     ((*words,),) = calls
@@ -186,7 +186,7 @@ def test_restart(monkeypatch):
 @pytest.mark.parametrize("status", [0, 3])
 def test_service(monkeypatch, status):
     calls = []
-    monkeypatch.setattr(restart.subprocess, "run", lambda words,
+    monkeypatch.setattr(subprocess, "run", lambda words,
         **more: calls.append(words) or SimpleNamespace(returncode=status))
     assert restart.service("is-active", "--quiet", "station") is (status == 0)
     assert calls == [["systemctl", "is-active", "--quiet", "station"]]
@@ -203,7 +203,7 @@ def ran(monkeypatch, is_active=True, reasons=("why",), needs=1, **more):
     monkeypatch.setattr(restart, "planned_until", lambda args, store, moment: calls.append(("until", moment)))
     monkeypatch.setattr(restart, "restart", lambda args, store, wait: calls.append(("restart", wait)) or 11.6)
     monkeypatch.setattr(restart.time, "time", lambda: NOW)
-    restart.run(args_of(**more))
+    restart.run_restart(args_of(**more))
     return calls
 
 
@@ -239,7 +239,7 @@ def test_main(monkeypatch, capsys, error, status):
         if error:
             raise error
 
-    monkeypatch.setattr(restart, "run", run)
+    monkeypatch.setattr(restart, "run_restart", run)
     monkeypatch.setattr(restart.os, "umask", lambda mask: None)
     monkeypatch.setattr(restart.signal, "signal", lambda *_: None)
     monkeypatch.setattr(sys, "argv", ["restart", "--check"])
@@ -249,10 +249,10 @@ def test_main(monkeypatch, capsys, error, status):
 @pytest.mark.parametrize("text", ["--check --now", "--log x", "--chec", "x"])
 def test_wrong_words(capsys, text):
     with pytest.raises(SystemExit) as error:
-        restart.words().parse_args(text.split())
+        restart.restart_parser().parse_args(text.split())
     assert error.value.code == 2
 
 
 def test_a_signal_is_an_error():
     with pytest.raises(restart.NoRestartError, match="stopped by a signal"):
-        restart.stopped(15, None)
+        restart.stop_restart(15, None)

@@ -79,7 +79,7 @@ def place(tmp_path):
 @pytest.mark.parametrize("status", [0, 1])
 def test_stop(monkeypatch, status):
     calls = []
-    monkeypatch.setattr(restore.subprocess, "run", lambda words,
+    monkeypatch.setattr(subprocess, "run", lambda words,
         **more: calls.append(words) or subprocess.CompletedProcess(
         words, status, "", "not loaded\n"))  # fmt: skip
     if status:
@@ -92,7 +92,7 @@ def test_stop(monkeypatch, status):
 
 def test_a_signal_is_an_error():
     with pytest.raises(RestoreError, match="stopped by signal 15"):
-        restore.stopped(15, None)
+        restore.stop_restore(15, None)
 
 
 # ---- the copy
@@ -102,7 +102,7 @@ def copy_in(monkeypatch, tmp_path, place, opens, counts, about):
     """Opens with each site in turn, as `opens` says by the site's file."""
     asked = []
     monkeypatch.setattr(restore, "opened_by", lambda program, site, db: asked.append(Path(site)) or opens.pop(0))
-    monkeypatch.setattr(restore, "counts_of", lambda db, store: counts)
+    monkeypatch.setattr(restore, "copied_counts", lambda db, store: counts)
     found = restore.copy_in(args_of(tmp_path), place, about)
     return found, asked
 
@@ -169,7 +169,7 @@ def test_nothing_to_compare_with(tmp_path, place, capsys):
 
 def held(monkeypatch, tmp_path, place, found, is_opened=True, **more):
     monkeypatch.setattr(restore, "lost_copy", lambda program, site, lost, folder: (folder / lost.name, is_opened))
-    monkeypatch.setattr(restore, "contradictions", lambda *words: iter([tuple(it.split(": ")) for it in found]))
+    monkeypatch.setattr(restore, "lost_contradictions", lambda *words: iter([tuple(it.split(": ")) for it in found]))
     monkeypatch.setattr(restore, "last_numbers", lambda counts: {"a1": 17})
     return restore.hold_against_lost(args_of(tmp_path, **more), place, [], {}, COUNTS)
 
@@ -199,7 +199,7 @@ def test_the_rest_of_what_was_moved_is_moved_first(monkeypatch, tmp_path):
 
 def test_listed(tmp_path, place, capsys):
     left = {"acme": {"c1": ("ready", "blank"), "c2": ("ready", "blank"), "c3": ("shipped", None)}}
-    restore.listed(place, left, {"orders": ROWS})
+    restore.write_lists(place, left, {"orders": ROWS})
     assert json.loads((place.work / "left.json").read_text()) == json.loads(json.dumps(left))
     assert json.loads((place.work / "missing.json").read_text()) == {"orders": ROWS}
     told = capsys.readouterr().out
@@ -210,9 +210,9 @@ def ended(monkeypatch, tmp_path, place, keeps, **more):
     saved = []
     monkeypatch.setattr(restore, "copy_store",
         lambda *words: saved.append(words) or place.calls.append("backed up") or COUNTS)
-    monkeypatch.setattr(restore, "steps_of", lambda requests, numbers: (["a1"], ["b1"]))
+    monkeypatch.setattr(restore, "seats_out_of_step", lambda requests, numbers: (["a1"], ["b1"]))
     monkeypatch.setattr(restore, "free_name", lambda folder, kind: folder / f"{kind}-2")
-    return restore.end(args_of(tmp_path, **more), place, keeps, {}), saved
+    return restore.end_restore(args_of(tmp_path, **more), place, keeps, {}), saved
 
 
 def test_what_keeps_stations_puts_no_store_in_place(monkeypatch, tmp_path, place, capsys):
@@ -231,7 +231,7 @@ def test_the_restored_store_is_backed_up_before_it_gets_its_name(monkeypatch, tm
 def test_no_backup_no_store(monkeypatch, tmp_path, place):
     monkeypatch.setattr(restore, "copy_store", lambda *words: (_ for _ in ()).throw(BackupError("full")))
     with pytest.raises(BackupError):
-        restore.end(args_of(tmp_path), place, [], {})
+        restore.end_restore(args_of(tmp_path), place, [], {})
     assert place.calls == []
 
 
@@ -254,18 +254,18 @@ def test_all_steps(monkeypatch, tmp_path, capsys):
     for name, answer in {"check_folders": None, "gather": {"a1": "R"}, "check_backup": {"at": "T"}, "copy_in": COUNTS,
                          "hold_against_lost": None, "replay": {"acme": {}}, "number_gaps": ["gap"],
                          "look": (["row"], {}),
-                         "listed": None, "end": 3, "last_numbers": {"a1": 17}}.items():  # fmt: skip
+                         "write_lists": None, "end_restore": 3, "last_numbers": {"a1": 17}}.items():  # fmt: skip
         monkeypatch.setattr(restore, name, noted(name, answer))
     args = args_of(tmp_path, leave_out=["bolt"], without="a7,b3")
-    assert restore.restored(args, place, {"acme": acme, "bolt": bolt}, {}, {}) == 3
+    assert restore.restore_store(args, place, {"acme": acme, "bolt": bolt}, {}, {}) == 3
     order = [it for it in place.calls if it != "last_numbers"]
     assert order == ["refuse_links", "sole_restore", "check_folders", "gather", "check_backup", "locked", "copy_in",
         "hold_against_lost",
-                     "put_aside", "end of locked", "replay", "number_gaps", "look", "listed", "end",
+                     "put_aside", "end of locked", "replay", "number_gaps", "look", "write_lists", "end_restore",
                      "end of sole_restore"]  # fmt: skip
     assert given["replay"][-1] == [acme], "a customer who is left out gets nothing back"
     assert given["number_gaps"][0] == [acme] and given["number_gaps"][3] == {"a7", "b3"}
-    assert given["end"][2] == ["gap", "row"]
+    assert given["end_restore"][2] == ["gap", "row"]
     told = capsys.readouterr().out
     assert "the backup of T: orders 2" in told and f"what was there is in {tmp_path / 'lost-1'}" in told
 
@@ -273,7 +273,7 @@ def test_all_steps(monkeypatch, tmp_path, capsys):
 def test_a_run_that_was_cut_at_the_end_goes_on_there(monkeypatch, tmp_path):
     place = FakePlace(tmp_path, {"placing": True})
     monkeypatch.setattr(restore, "check_folders", lambda *_: pytest.fail("all else is done"))
-    assert restore.restored(args_of(tmp_path), place, {}, {}, {}) == 0
+    assert restore.restore_store(args_of(tmp_path), place, {}, {}, {}) == 0
     assert place.calls == ["refuse_links", "sole_restore", "put_in_place", "end of sole_restore"]
 
 
@@ -290,7 +290,7 @@ def main(monkeypatch, text, answer, missing=""):
             raise answer
         return answer
 
-    monkeypatch.setattr(restore, "run", run)
+    monkeypatch.setattr(restore, "restore_as_root", run)
     monkeypatch.setattr(restore.os, "umask", lambda mask: seen.append(mask))
     monkeypatch.setattr(restore.signal, "signal", lambda number, handler: seen.append((number, handler)))
     monkeypatch.setattr(restore.shutil, "which", lambda name: None if name == missing else f"/bin/{name}")
@@ -309,7 +309,7 @@ def test_main(monkeypatch, capsys, tmp_path, answer, status, told):
     assert found == status and told in err and ("stays stopped" in err) == (status == 1)
     args = seen[-1]
     assert 0o077 in seen and {it for it in seen if isinstance(it, tuple)} == {
-        (number, restore.stopped) for number in (signal.SIGTERM, signal.SIGINT, signal.SIGHUP)}  # fmt: skip
+        (number, restore.stop_restore) for number in (signal.SIGTERM, signal.SIGINT, signal.SIGHUP)}  # fmt: skip
     assert (args.backup, args.site, args.backups) == (tmp_path / "b", tmp_path / "s.toml", tmp_path)
     assert args.journals == [str(tmp_path / "a1.journal")] and args.program == "/bin/station"
 
@@ -322,7 +322,7 @@ def test_what_is_needed(monkeypatch, capsys, missing):
 
 
 def test_the_defaults(monkeypatch):
-    args = restore.words().parse_args(["b", "s"])
+    args = restore.restore_parser().parse_args(["b", "s"])
     assert (args.db, str(args.tokens), args.port) == ("/var/lib/station/books.db", "/etc/station/tokens.conf", 880)
     assert (args.accept_missing, args.distrust_lost, args.backups) == ([], [], None)
     assert args.without == "" and args.stop == ""
@@ -352,7 +352,7 @@ def test_root_reads_the_tokens_and_stops_the_server_before_it_becomes_another(mo
     for name, answer in {"customers_of": {}, "tokens_at": ({}, []), "folders_at": {}, "check_left_out": None,
         "stop": None}.items():
         monkeypatch.setattr(restore, name, noted(name, answer))
-    assert restore.run(args_of(tmp_path, stop="station")) == 3
+    assert restore.restore_as_root(args_of(tmp_path, stop="station")) == 3
     assert calls.index("tokens_at") < calls.index("as the user") and calls[-3:] == ["stop", ("server", 880),
         "as the user"]
     calls.clear()
@@ -360,9 +360,9 @@ def test_root_reads_the_tokens_and_stops_the_server_before_it_becomes_another(mo
         for more in ([], ["acne"]):
             words = ["b", "s", option, *more, "--db", "/db/books.db"]
             with pytest.raises(RestoreError, match=f"{option} (goes for one customer|acne: the site file has no)"):
-                restore.run(restore.words().parse_args(words))
+                restore.restore_as_root(restore.restore_parser().parse_args(words))
     assert "stop" not in calls and "as the user" not in calls, "it is refused before anything is done"
-    restore.run(args_of(tmp_path))
+    restore.restore_as_root(args_of(tmp_path))
     assert "stop" not in calls and calls[-2:] == [("server", 880), "as the user"]
 
 
@@ -381,7 +381,7 @@ def replayed(monkeypatch, tmp_path, place, customers, opens=True):
         calls.append((url, token, state.name, journal, closes_journal))
         yield "STATION"
 
-    monkeypatch.setattr(restore, "served",
+    monkeypatch.setattr(restore, "serve_alone",
         lambda *words: calls.append(("served", *words)) or contextlib.nullcontext("URL"))
     monkeypatch.setattr(restore, "Journal", lambda path, seat: (path.name, seat))
     monkeypatch.setattr(restore, "Station", station)

@@ -5,7 +5,7 @@ import sqlite3
 from contextlib import closing
 
 import pytest
-from wanekupo.plant.restore.lost_store import contradictions, gaps_of, last_numbers, number_gaps, steps_of
+from wanekupo.plant.restore.lost_store import lost_contradictions, gaps_of, last_numbers, number_gaps, seats_out_of_step
 from wanekupo.plant.restore.plan import CustomerPlan, JournalRequest, SeatJournal, asked_of
 
 GAPS = (
@@ -56,7 +56,7 @@ def test_what_is_not_known_of_seats(name, one, found, before, without, told):
 
 def test_which_stations_stop_by_themselves():
     found = requests(a1=[1, 2, 3], a2=[1, 2, 3], a3=[1, 2, 3], a4=[])
-    assert steps_of(found, {"a1": 1, "a2": 2, "a3": 3}) == (["a1"], ["a2", "a3", "a4"])
+    assert seats_out_of_step(found, {"a1": 1, "a2": 2, "a3": 3}) == (["a1"], ["a2", "a3", "a4"])
 
 
 def test_the_last_numbers_of_a_backup():
@@ -110,7 +110,7 @@ LOST = (
 def test_what_the_lost_store_says_of_numbers(name, found, before, told, lost):
     before = before or {"restore-acme": 5}
     one = customer(seats=("a1", "a9", "restore-acme"))
-    assert list(contradictions([one], found, lost, before)) == [("acme", it) for it in told]
+    assert list(lost_contradictions([one], found, lost, before)) == [("acme", it) for it in told]
 
 
 def line(path, number, members, reply=None):
@@ -145,7 +145,7 @@ def test_what_the_lost_store_says_of_orders_and_numbers(name, lines, told, lost)
     one = customer()
     one.journals = [SeatJournal("a1", lines)]
     one.asked = asked_of(one)
-    assert list(contradictions([one], {}, lost, {})) == [("acme", it) for it in told]
+    assert list(lost_contradictions([one], {}, lost, {})) == [("acme", it) for it in told]
 
 
 def test_a_lost_store_without_these_tables_says_nothing(tmp_path):
@@ -155,4 +155,4 @@ def test_a_lost_store_without_these_tables_says_nothing(tmp_path):
     one = customer()
     one.journals = [SeatJournal("a1", line("/v1/order", 1, {"name": "o2"}, {"name": "o2"}))]
     one.asked = asked_of(one)
-    assert list(contradictions([one], requests(a1=[9]), path, {})) == []
+    assert list(lost_contradictions([one], requests(a1=[9]), path, {})) == []

@@ -14,12 +14,12 @@ import pytest
 from conftest import FAMILIES
 from wanekupo.plant.restore import lost_store as restore_look
 from wanekupo.plant.restore.journals import Source, take_journals
-from wanekupo.plant.restore.plan import CustomerPlan, RestoreError, asked_of, named, requests_of_seats
+from wanekupo.plant.restore.plan import CustomerPlan, RestoreError, asked_of, name_customer, requests_of_seats
 from wanekupo.books.audit import audit_of
 from wanekupo.books.audit_page import as_html, as_text, found_table
 from wanekupo.books.schema import CREATED, statements
 from wanekupo.books.shift import period_of, shift_of
-from wanekupo.books.shift_page import as_html as shift_page, tables
+from wanekupo.books.shift_page import as_html as shift_page, shift_tables
 from wanekupo.books.steps import book_of, books_of
 from wanekupo.books.store import StoreCopy
 from wanekupo.books.store_rows import Books
@@ -126,12 +126,12 @@ def restored(all_of_them, file, lost):
     sources = [Source(all_of_them / "pc8", frozenset(["a1"])), Source(all_of_them / "pc7", frozenset(["b1"]))]
     take_journals(sources, customers, [])
     bolt = customers["bolt"]
-    with named("bolt"):
+    with name_customer("bolt"):
         bolt.asked = asked_of(bolt)
         requests = requests_of_seats([bolt])
     restore_look.number_gaps([bolt], requests, {}, set())
-    restore_look.steps_of(requests, {})
-    list(restore_look.contradictions([bolt], requests, Path(), {}))
+    restore_look.seats_out_of_step(requests, {})
+    list(restore_look.lost_contradictions([bolt], requests, Path(), {}))
     states_of(bolt.asked), records_of(bolt.asked)
 
 
@@ -142,7 +142,7 @@ def audited(all_of_them, file, lost):
 
 def shifted(all_of_them, file, lost):
     shift = shift_of([("bolt", it) for it in books_of([file])], PERIOD)
-    found = tables(shift, None)
+    found = shift_tables(shift, None)
     (shift_page(shift, found) + "".join(it.as_text() + it.as_csv() for it in found)).encode()
 
 
@@ -165,7 +165,7 @@ def witnessed(all_of_them, file, lost):
 
 @pytest.mark.parametrize("path", PATHS)
 def test_no_line_moves_another(path, tmp_path, lost, monkeypatch):
-    monkeypatch.setattr(restore_look, "rows_of", lambda db, query: [])
+    monkeypatch.setattr(restore_look, "query_rows", lambda db, query: [])
     (tmp_path / "journals.toml").write_text('[folders]\npc7 = ["b1"]\npc8 = ["a1"]\n')
     file, other = tmp_path / "all/pc7/b1.journal", tmp_path / "all/pc8/a1.journal"
     for it in (file, other):

@@ -400,7 +400,7 @@ class Server:
 def test_served(monkeypatch, tmp_path):
     server = Server("listening on 127.0.0.1:PORT\n")
     monkeypatch.setattr(restore_place.subprocess, "Popen", server)
-    with restore_place.served("P", tmp_path / "s", tmp_path / "d") as url:
+    with restore_place.serve_alone("P", tmp_path / "s", tmp_path / "d") as url:
         port = server.words[server.words.index("--port") + 1]
         assert url == f"http://127.0.0.1:{port}" and server.calls == [] and int(port) > 1024
     assert server.calls == ["kill", "wait"]
@@ -415,7 +415,7 @@ def test_served(monkeypatch, tmp_path):
 def test_a_program_that_does_not_serve(monkeypatch, tmp_path, line):
     server = Server(line)
     monkeypatch.setattr(restore_place.subprocess, "Popen", server)
-    with pytest.raises(RestoreError, match="doesn't serve"), restore_place.served("P", tmp_path, tmp_path):
+    with pytest.raises(RestoreError, match="doesn't serve"), restore_place.serve_alone("P", tmp_path, tmp_path):
         pytest.fail("nobody asks it")
     assert server.calls == ["kill", "wait"]
 
@@ -423,7 +423,7 @@ def test_a_program_that_does_not_serve(monkeypatch, tmp_path, line):
 def test_what_asks_may_fail(monkeypatch, tmp_path):
     server = Server("listening on 127.0.0.1:PORT\n")
     monkeypatch.setattr(restore_place.subprocess, "Popen", server)
-    with pytest.raises(KeyboardInterrupt), restore_place.served("P", tmp_path, tmp_path):
+    with pytest.raises(KeyboardInterrupt), restore_place.serve_alone("P", tmp_path, tmp_path):
         raise KeyboardInterrupt
     assert server.calls == ["kill", "wait"]
 

@@ -1,14 +1,14 @@
 """The command that grows a site: what its words ask for, what is refused, and what is written when."""
 
-import signal
 import subprocess
 import sys
 
 import pytest
 from scripts import script
+from wanekupo.common.site_file import read_site
 from wanekupo.plant.site.apply import Stopped
 from wanekupo.plant.site.plan import PLACED, PREPARED, GrowthPlan, SeatWish, keep_plan, read_plan
-from wanekupo.common.token_file import TokenSeat, TokenError, Tokens, put, text_of
+from wanekupo.common.token_file import TokenSeat, TokenError, Tokens, put, tokens_text
 
 site = script("site")
 ONE, TWO = "%064x" % 1, "%064x" % 2
@@ -30,12 +30,8 @@ class FakePlace:
 
     def __init__(self, folder):
         self.site, self.next, self.plan = folder / "site.toml", folder / "site.next.toml", folder / "site.growth"
-        self.tokens, self.program, self.has = folder / "tokens.conf", "station", True
-        self.calls = []
+        self.tokens, self.calls = folder / "tokens.conf", []
         self.site.write_text(TEXT)
-
-    def has_program(self):
-        return self.has
 
     def token_words(self):
         return ["token"]
@@ -45,7 +41,7 @@ class FakePlace:
         if "seat" in words and "x9" not in words:
             seats = dict(site.known_seats(self).seats)
             seats[words[3]] = TokenSeat(words[3], words[5], "hello")
-            put(self.tokens, text_of(Tokens(seats)))
+            put(self.tokens, tokens_text(Tokens(seats)))
         return subprocess.CompletedProcess(words, int("x9" in words), "", "why\n")
 
 
@@ -101,7 +97,7 @@ def test_pool_of(first, count, is_one):
 
 def test_known_seats(place):
     assert site.known_seats(place).seats == {}
-    put(place.tokens, text_of(Tokens({"a1": TokenSeat("a1", "acme", "hello")})))
+    put(place.tokens, tokens_text(Tokens({"a1": TokenSeat("a1", "acme", "hello")})))
     assert site.known_seats(place).seats == {"a1": TokenSeat("a1", "acme", "hello")}
 
 
@@ -118,7 +114,7 @@ def test_for_a_trial_no_token_is_made(place):
 
 
 def test_a_seat_of_another_customer_or_that_is_refused(place):
-    put(place.tokens, text_of(Tokens({"a2": TokenSeat("a2", "bolt", "hello")})))
+    put(place.tokens, tokens_text(Tokens({"a2": TokenSeat("a2", "bolt", "hello")})))
     for is_trial in (True, False):
         with pytest.raises(TokenError, match="the seat a2 is bolt's"):
             site.seat_of(place, "acme", "a2", is_trial)
@@ -163,14 +159,11 @@ def test_no_file_of_somebody_is_a_token(place, tmp_path, kind):
     ("seat", [{"name": "a1", "token": TWO}, {"name": "a", "token": TWO}], [{"name": "a", "token": TWO}]),
 ])  # fmt: skip
 def test_new_ones(kind, items, left):
-    assert site.new_ones(TEXT, "t", "acme", kind, items) == left
-    with pytest.raises(TokenError, match="t has no customer acm: add-customer"):
-        site.new_ones(TEXT, "t", "acm", kind, items)
-    assert (site.added(TEXT, "t", "acme", kind, items) == TEXT) == (not left)
+    assert site.new_ones(given(TEXT)["acme"], kind, items) == left
 
 
 def given(text):
-    return site.given_of(text, "t").customers
+    return read_site(text, "t").customers
 
 
 @pytest.mark.parametrize("line, customer, issuers, pools, seats", [
@@ -203,13 +196,6 @@ def test_no_such_customer_and_no_names(place, line):
 
 
 # ---- commands
-
-
-def test_nothing_is_prepared_without_the_program(place):
-    place.has = False
-    with pytest.raises(TokenError, match="--program P"):
-        site.prepare(words("add-seat", "acme", "a2"), place)
-    assert place.calls == [] and not place.next.exists() and not place.plan.exists()
 
 
 def test_prepare(place, tmp_path, capsys):
@@ -310,27 +296,20 @@ def test_apply_goes_on_with_what_is_placed_without_a_look(place, monkeypatch):
     assert place.calls == [("APPLY", PLACED)]
 
 
-@pytest.mark.parametrize("lines, as_map, others, is_refused", [
-    ([], False, [], False), (["a", "b"], False, [], True), ([], True, ["o"], False), ([], False, ["o"], False),
+@pytest.mark.parametrize("lines, as_map, others", [
+    ([], False, []), (["a", "b"], False, []), ([], True, ["o"]), ([], False, ["o"]),
 ])  # fmt: skip
-def test_check(place, tmp_path, monkeypatch, capsys, lines, as_map, others, is_refused):
-    monkeypatch.setattr(site, "checked", lambda it, path, is_map: lines if is_map == as_map else ["wrong kind"])
+def test_check(place, tmp_path, monkeypatch, capsys, lines, as_map, others):
+    monkeypatch.setattr(site, "checked", lambda it, path: lines)
     (tmp_path / "f").write_text('wr = "x"' if as_map else TEXT)
     args = words("check", "f", *(word for it in others for word in ("--other-site", it)))
-    if is_refused:
+    if lines:
         with pytest.raises(TokenError, match="^a\nb$"):
             site.check(args, place)
         return
     site.check(args, place)
     assert capsys.readouterr().out == f"f is a {'fuse map' if as_map else 'site'}, says the program\n"
     assert place.tested == ([(TEXT, others)] if others and not as_map else [])
-
-
-def test_check_without_the_program_says_so(place, monkeypatch, capsys):
-    place.has = False
-    monkeypatch.setattr(site, "checked", lambda *_: [])
-    site.check(words("check", str(place.site)), place)
-    assert "this tool alone" in capsys.readouterr().out
 
 
 def test_diff(place, tmp_path, capsys):
@@ -360,13 +339,11 @@ def test_the_defaults_are_those_of_the_package():
     assert (args.stop, args.start) == ("systemctl stop station", "systemctl start station")
 
 
-def test_a_second_signal_does_nothing(monkeypatch):
-    handlers = {}
-    monkeypatch.setattr(site.signal, "signal", lambda number, handler: handlers.update({number: handler}))
-    with pytest.raises(Stopped, match="signal 15"):
-        site.stopped(15, None)
-    assert set(handlers) == {signal.SIGTERM, signal.SIGINT, signal.SIGHUP}
-    assert all(callable(it) and it(15, None) is None for it in handlers.values()), "it isn't ignored by what is started"
+def test_a_second_signal_ends_what_the_first_waits_for(monkeypatch):
+    monkeypatch.setattr(site.signal, "signal", lambda *_: pytest.fail("the second one is met otherwise"))
+    for _ in range(2):
+        with pytest.raises(Stopped, match="signal 15"):
+            site.stopped(15, None)
 
 
 @pytest.mark.parametrize("error, status, told", [

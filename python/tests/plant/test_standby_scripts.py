@@ -55,8 +55,8 @@ def put_in(monkeypatch, module, own, words=(), fenced=False):
     monkeypatch.setattr(module, "Half", own)
     monkeypatch.setattr(module, "read_settings", lambda: own.settings)
     for name, call in {
-        "run": lambda it: own.calls.append(" ".join(it)) or half.subprocess.CompletedProcess(it, 0, "", ""),
-        "done": lambda it: own.calls.append(" ".join(it)), "tell": lambda *it: own.calls.append(("TELL", it[0])),
+        "run_bounded": lambda it: own.calls.append(" ".join(it)) or half.subprocess.CompletedProcess(it, 0, "", ""),
+        "done": lambda it: own.calls.append(" ".join(it)), "print_told": lambda *it: own.calls.append(("TELL", it[0])),
         "take_word": lambda: own.calls.append("take_word") or next(left, False),
         "give_word": lambda: own.calls.append("give_word"),
         "fenced_by_command": lambda settings: own.calls.append("fence") or fenced,
@@ -165,7 +165,7 @@ def test_the_handler_itself_does_not_wait(monkeypatch):
 
 def say(monkeypatch, own, name="there", **more):
     put_in(monkeypatch, other, own, **more)
-    return other.say(name)
+    return other.give_operators_word(name)
 
 
 @pytest.mark.parametrize("now, name, told", [
@@ -204,7 +204,7 @@ def test_an_interrupted_word_is_taken_back(monkeypatch):
     put_in(monkeypatch, other, own)
     monkeypatch.setattr(other, "waited_for", lambda *_: (_ for _ in ()).throw(KeyboardInterrupt))
     with pytest.raises(KeyboardInterrupt):
-        other.say("there")
+        other.give_operators_word("there")
     assert own.calls == ["give_word", "take_word"]
 
 
@@ -296,7 +296,7 @@ def test_fence_peer_that_is_refused_says_nothing_is_off(monkeypatch, capsys):
 def test_a_command_is_ended_by_what_it_was_called(monkeypatch, name, words, is_alone):
     calls = []
     for module in (takeover, down, other):
-        monkeypatch.setattr(module, "ended", lambda title, call, alone=False: calls.append((title, alone)) or 5)
+        monkeypatch.setattr(module, "end_script", lambda title, call, alone=False: calls.append((title, alone)) or 5)
     monkeypatch.setattr(sys, "argv", ["station-standby", name, *words])
     assert command.main() == 5
     assert calls == [("takeover" if name == "look" else name, is_alone)]
@@ -310,13 +310,13 @@ def test_a_command_that_there_is_not(monkeypatch, capsys):
 def test_the_address_is_taken_again_where_two_took_it_at_once(monkeypatch):
     own = FakeHalf(PRIMARY)
     put_in(monkeypatch, other, own)
-    monkeypatch.setattr(other, "run", lambda words: half.subprocess.CompletedProcess(words, 1, "", ""))
-    assert other.say("there") == 0 and own.calls[-2] == "take_address"
+    monkeypatch.setattr(other, "run_bounded", lambda words: half.subprocess.CompletedProcess(words, 1, "", ""))
+    assert other.give_operators_word("there") == 0 and own.calls[-2] == "take_address"
 
 
 def test_the_name_is_the_words(monkeypatch):
     monkeypatch.setattr(half.os, "geteuid", lambda: 0)
-    monkeypatch.setattr(other, "say", lambda name: 7 if name == "there" else 0)
+    monkeypatch.setattr(other, "give_operators_word", lambda name: 7 if name == "there" else 0)
     assert other.main(["there"]) == 7
     with pytest.raises(SystemExit):
         other.main([])

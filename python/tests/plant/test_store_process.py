@@ -2,6 +2,8 @@
 needs root is tried by tests/plant/test_roads.py."""
 
 import contextlib
+import errno
+import io
 import math
 import os
 import signal
@@ -97,15 +99,9 @@ class FakeChild:
     def __init__(self, words, **more):
         FakeChild.words, FakeChild.more = words, more
         FakeChild.given = os.read(more["stdin"], 100)
-        self.pid = 0
+        self.pid, self.stdout, self.stderr = 0, io.BytesIO(), io.BytesIO()
 
-    def __enter__(self):
-        return self
-
-    def __exit__(self, *_):
-        pass
-
-    def wait(self):
+    def wait(self, patience):
         return 3
 
 
@@ -217,10 +213,31 @@ def test_where_memory_runs_out_these_are_ended_first(monkeypatch):
     monkeypatch.setattr(store_user.os, "getgrouplist", lambda *_: [])
     for name in ("setresgid", "setresuid"):
         monkeypatch.setattr(store_user.os, name, lambda *_, name=name: steps.append(name))
-    monkeypatch.setattr(store_user.ctypes, "CDLL", lambda *_, **__: SimpleNamespace(prctl=lambda *_: 0))
+    libc = SimpleNamespace(prctl=lambda *_: 0, syscall=lambda *words: steps.append(words) or 1)
+    monkeypatch.setattr(store_user.ctypes, "CDLL", lambda *_, **__: libc)
     monkeypatch.setattr(store_user.os, "environ", {})
+    monkeypatch.setattr(store_user.os, "geteuid", lambda: 0)
+    monkeypatch.setattr(store_user.os, "uname", lambda: SimpleNamespace(machine="x86_64"))
     USER._become(os.getppid())
-    assert steps == ["end_first", "setresgid", "setresuid"]
+    # keyctl(2): 250 on x86-64, KEYCTL_JOIN_SESSION_KEYRING is 1, and without a name it is a new one.
+    assert steps == ["end_first", (250, 1, None), "setresgid", "setresuid"]
+
+
+@pytest.mark.parametrize("number, is_refused", [(errno.ENOSYS, False), (errno.EPERM, False), (errno.EDQUOT, True)])
+def test_roots_keys_are_left(monkeypatch, number, is_refused):
+    """A command has none of them either. Where there are keyrings, and no new one, nothing is begun."""
+    monkeypatch.setattr(store_user.subprocess, "Popen", FakeChild)
+    monkeypatch.setattr(store_user, "_gathered", lambda child, most, end: [b"", b""])
+    USER.run("find")
+    monkeypatch.setattr(store_user, "end_first", lambda: None)
+    monkeypatch.setattr(store_user.os, "geteuid", lambda: 0)
+    monkeypatch.setattr(store_user.ctypes, "CDLL", lambda *_, **__: SimpleNamespace(syscall=lambda *_: -1))
+    monkeypatch.setattr(store_user.ctypes, "get_errno", lambda: number)
+    if is_refused:
+        with pytest.raises(UserError, match="keyctl: "):
+            FakeChild.more["preexec_fn"]()
+    else:
+        FakeChild.more["preexec_fn"]()
 
 
 def test_each_run_has_a_bound(monkeypatch):
@@ -240,6 +257,20 @@ def test_what_a_process_prints_is_bounded():
             gathered(parts)
     with pytest.raises(UserError, match="took too long"):
         gathered([b"x", b"y"], end=0)
+
+
+def test_a_process_that_is_kept_is_given_up(monkeypatch):
+    """By ptrace(2) another process of the store's user keeps one that has ended: it can't be waited for."""
+    monkeypatch.setattr(store_user.subprocess, "Popen", FakeChild)
+    monkeypatch.setattr(store_user, "_gathered", lambda *_: [b"", b""])
+    monkeypatch.setattr(FakeChild, "wait", lambda self, patience: (_ for _ in ()).throw(
+        subprocess.TimeoutExpired("find", patience)))  # fmt: skip
+    with pytest.raises(UserError, match="another one of his keeps it"):
+        USER.run("find")
+    monkeypatch.setattr(store_user, "PATIENCE", 0.1)
+    monkeypatch.setattr(store_user.os, "waitpid", lambda child, how: (0, 0) if how == os.WNOHANG else pytest.fail("waits"))
+    with pytest.raises(UserError, match="another one of his keeps it"):
+        called_as_another(monkeypatch, lambda: 0)
 
 
 class Stubborn:

@@ -105,6 +105,21 @@ def test_no_user(owner: int, runs_as: int, told: str, tmp_path: Path, monkeypatc
         user_of(0, tmp_path)
 
 
+@pytest.mark.parametrize("runs_as, has_store, name", [(990, True, ""), (0, True, "store"), (0, False, "nobody")])
+def test_who_reads_a_text(runs_as: int, has_store: bool, name: str, monkeypatch: pytest.MonkeyPatch) -> None:
+    """Never root. Of who runs this no store is asked for, so `check` needs none."""
+
+    def folder_of(db: Path) -> SimpleNamespace:
+        if not has_store:
+            raise UserError(f"there is no folder {db.parent}")
+        return SimpleNamespace(user=store_user.StoreUser("store", 991, 992))
+
+    monkeypatch.setattr(store_user, "StoreFolder", folder_of)
+    monkeypatch.setattr(os, "geteuid", lambda: runs_as)
+    found = store_user.reader_for(Path("/s/books.db"))
+    assert found.name == name and found.number != 0 and found.is_own() == (runs_as == 990)
+
+
 def of_user(folder: Path) -> StoreFolder:
     """A store in a folder, whose user is who runs this."""
     store = StoreFolder.__new__(StoreFolder)

@@ -68,17 +68,17 @@ def put_in(monkeypatch):
         monkeypatch.setattr(takeover, "Half", own)
         monkeypatch.setattr(takeover, "read_settings", lambda: own.settings)
         monkeypatch.setattr(takeover, "done", lambda words: own.calls.append(" ".join(words)) or noted(words[1])())
-        monkeypatch.setattr(takeover, "tell", lambda *words: None)
+        monkeypatch.setattr(takeover, "print_told", lambda *words: None)
         monkeypatch.setattr(takeover, "alone_since", lambda received: own.calls.append(("since", received)) or SINCE)
         for name in ("forget_alone", "give_word", "take_word"):
             monkeypatch.setattr(takeover, name, noted(name))
         monkeypatch.setattr(takeover, "fenced_by_command", noted("fence", fenced))
-        monkeypatch.setattr(takeover.needs, "test", noted("needs"))
-        monkeypatch.setattr(takeover.witness, "gathered",
+        monkeypatch.setattr(takeover.needs, "test_resource", noted("needs"))
+        monkeypatch.setattr(takeover.witness, "highest_numbers",
             lambda *words: own.calls.append(("gathered", *words)) or {"a1": 1})
-        monkeypatch.setattr(takeover.witness, "compare", noted("compare"))
+        monkeypatch.setattr(takeover.witness, "compare_numbers", noted("compare"))
         monkeypatch.setattr(takeover.look, "contents", noted("look", Contents({"a1": 1}, None)))
-        monkeypatch.setattr(takeover.living, "test", noted("living"))
+        monkeypatch.setattr(takeover.living, "test_tokens", noted("living"))
         monkeypatch.setattr(takeover.living, "here", noted("here"))
         monkeypatch.setattr(takeover.living, "leave", noted("leave"))
         return own
@@ -165,7 +165,7 @@ def test_the_words_for_tokens_go_on(put_in, monkeypatch):
     seen = []
     own = put_in(FakeHalf(BOTH))
     monkeypatch.setattr(takeover.look, "contents", lambda it: Contents({}, {"x"}))
-    monkeypatch.setattr(takeover.living, "test", lambda it, there, is_known: seen.append((there, is_known)))
+    monkeypatch.setattr(takeover.living, "test_tokens", lambda it, there, is_known: seen.append((there, is_known)))
     for is_known in (True, False):
         takeover.tested_contents(own, words(ended_tokens_may_ask=is_known), None)
     assert seen == [({"x"}, True), ({"x"}, False)]
@@ -175,7 +175,7 @@ def test_compared_are_the_half_and_its_witness(put_in, monkeypatch):
     seen = []
     own = put_in(FakeHalf(BOTH))
     monkeypatch.setattr(takeover.look, "contents", lambda it: Contents({"a1": 7}, None))
-    monkeypatch.setattr(takeover.witness, "compare", lambda *it: seen.append(it))
+    monkeypatch.setattr(takeover.witness, "compare_numbers", lambda *it: seen.append(it))
     assert takeover.compared(own, words(witness=["f"]), None).numbers == {"a1": 7}
     assert seen == [({"a1": 7}, {"a1": 1})]
 
@@ -229,7 +229,7 @@ def test_what_has_changed_meanwhile_is_looked_at_anew(put_in, before, after):
 def test_served(put_in, is_there):
     """The volume, then the server, then the address: nobody asks for the store before it is there."""
     own = put_in(FakeHalf(BOTH, is_there=is_there))
-    assert takeover.served(own) == 0
+    assert takeover.serve_here(own) == 0
     assert own.calls == [*([] if is_there else ["mount"]), ("start", 900), ("take_address", 60), "here", "leave"]
 
 
@@ -321,12 +321,12 @@ def left(monkeypatch, tmp_path, now, error=None):
         handle=handle)}[db])
     monkeypatch.setattr(living, "living", lambda tokens: ["a", "b"])
 
-    def put_whole(path, text):
+    def replace_file(path, text):
         calls.append((path, text))
         if error:
             raise error
 
-    monkeypatch.setattr(living, "put_whole", put_whole)
+    monkeypatch.setattr(living, "replace_file", replace_file)
     try:
         living.leave(own, "TOKENS")
     finally:

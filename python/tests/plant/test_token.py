@@ -19,11 +19,11 @@ DAY = "2026-11-29"
 @pytest.fixture(autouse=True)
 def clock(monkeypatch):
     for module in (token_file, token):
-        monkeypatch.setattr(module, "now", lambda: f"{DAY}T10:00")
+        monkeypatch.setattr(module, "current_minute", lambda: f"{DAY}T10:00")
 
 
 def args_of(*words):
-    return token.parser().parse_args(words)
+    return token.token_parser().parse_args(words)
 
 
 def tokens_with(*outers):
@@ -35,7 +35,8 @@ def tokens_with(*outers):
 
 
 def outer(number, seat="a1", **more):
-    kept = {"text": "t" * number, "mark": mark_of("t" * number), "looks": False, "since": f"{DAY}T00:00"}
+    text = f"{token.PREFIX}{number:064x}"
+    kept = {"text": text, "mark": mark_of(text), "looks": False, "since": f"{DAY}T00:00"}
     return Outer(token=f"{seat}:{number}", number=number, seat=seat, **{**kept, **more})
 
 
@@ -140,8 +141,8 @@ def test_not_rotated(outers, name, told):
 
 def test_add_gives_what_is_asked_for():
     tokens = tokens_with()
-    token.add(args_of("add", "a1", "--look", "--until", "2026-12-24", "--holder", "office"), tokens)
-    token.add(args_of("add", "b1", "--certificate", "CN=pc7,O=Our plant"), tokens)
+    token.add_outer(args_of("add", "a1", "--look", "--until", "2026-12-24", "--holder", "office"), tokens)
+    token.add_outer(args_of("add", "b1", "--certificate", "CN=pc7,O=Our plant"), tokens)
     looks, certificate = tokens.outers
     assert (looks.token, looks.looks, looks.until, looks.holder) == ("a1:10", True, f"2026-12-24{LAST}", "office")
     assert (certificate.text, certificate.subject, certificate.number) == ("", "CN=pc7,O=Our plant", 2)
@@ -150,7 +151,7 @@ def test_add_gives_what_is_asked_for():
                         (("add", "a1", "--certificate", 'CN="x'), "is no subject"),
                         (("add", "a1", "--holder", "x\x1b"), "is no text")):  # fmt: skip
         with pytest.raises(TokenError, match=told):
-            token.add(args_of(*words), tokens)
+            token.add_outer(args_of(*words), tokens)
     assert len(tokens.outers) == 2
 
 
@@ -175,7 +176,8 @@ def files(tmp_path):
 
 def test_a_site_file_is_written_whole_with_its_mode(tmp_path, monkeypatch):
     path, site = files(tmp_path)
-    token.run(args_of("--file", str(path), "--no-reload", "seat", "a1", "--customer", "acme", "--into", str(site)))
+    words = ["--file", str(path), "--no-reload", "seat"]
+    token.run_token(args_of(*words, "a1", "--customer", "acme", "--into", str(site)))
     seat = tokens_of(path.read_text(), path).seats["a1"]
     printed = subprocess.run(["sha256sum"], input=seat.inner, capture_output=True, text=True, check=True).stdout
     found = tomllib.loads(site.read_text())["customer"]
@@ -190,7 +192,7 @@ def test_a_site_file_is_written_whole_with_its_mode(tmp_path, monkeypatch):
 
     monkeypatch.setattr(os, "replace", full)
     with pytest.raises(TokenError, match="No space left") as error:
-        token.run(args_of("--file", str(path), "--no-reload", "seat", "a2", "--customer", "acme", "--into", str(site)))
+        token.run_token(args_of(*words, "a2", "--customer", "acme", "--into", str(site)))
     assert error.value.status == 7, "of station-token(8): the tokens' file is changed"
     assert site.read_bytes() == before and sorted(it.name for it in tmp_path.iterdir()) == [
         "new.toml", "tokens.conf", "tokens.conf.lock"]  # fmt: skip
@@ -200,8 +202,28 @@ def test_a_link_to_a_site_file_stays_one(tmp_path):
     path, site = files(tmp_path)
     link = tmp_path / "link.toml"
     link.symlink_to(site)
-    token.run(args_of("--file", str(path), "--no-reload", "seat", "a1", "--customer", "acme", "--into", str(link)))
+    words = ["--file", str(path), "--no-reload", "seat", "a1"]
+    token.run_token(args_of(*words, "--customer", "acme", "--into", str(link)))
     assert link.is_symlink() and "a1" in site.read_text()
+
+
+def test_a_site_file_lies_where_nobody_else_puts_another(tmp_path):
+    """Whoever may write the folder may put a link in the file's place, behind the reading of it."""
+    path, site = files(tmp_path)
+    shared = tmp_path / "shared"
+    shared.mkdir(mode=0o777)
+    shared.chmod(0o777)
+    there = shared / "new.toml"
+    there.write_text(SITE)
+    (shared / "link.toml").symlink_to(site)
+    (tmp_path / "way").symlink_to(shared)
+    for name in (there, shared / "link.toml", tmp_path / "way/new.toml"):
+        with pytest.raises(TokenError, match="others (may|can) write"):
+            token.run(args_of("--file", str(path), "--no-reload", "seat", "a1", "--customer", "acme", "--into", str(name)))
+    site.chmod(0o666)
+    with pytest.raises(TokenError, match="others may write it"):
+        token.run(args_of("--file", str(path), "--no-reload", "seat", "a1", "--customer", "acme", "--into", str(site)))
+    assert there.read_text() == site.read_text() == SITE and not path.exists()
 
 
 def test_a_list_that_cant_be_left_is_status_6(tmp_path, monkeypatch):
@@ -212,10 +234,10 @@ def test_a_list_that_cant_be_left_is_status_6(tmp_path, monkeypatch):
     frozen = token.StandbyError("frozen.")
     monkeypatch.setattr(token.living, "leave", lambda half, tokens: (_ for _ in ()).throw(frozen))
     with pytest.raises(TokenError, match="the other machine doesn't know it. frozen") as error:
-        token.run(args_of("--file", str(path), "--no-reload", "seat", "a1", "--customer", "acme"))
+        token.run_token(args_of("--file", str(path), "--no-reload", "seat", "a1", "--customer", "acme"))
     assert error.value.status == 6 and "a1" in tokens_of(path.read_text(), path).seats
     left = []
     monkeypatch.setattr(token.living, "leave", lambda half, tokens: left.append(sorted(tokens.seats)))
-    token.run(args_of("--file", str(path), "--no-reload", "seat", "b1", "--customer", "bolt"))
-    token.run(args_of("--file", str(path), "--no-reload", "list"))
+    token.run_token(args_of("--file", str(path), "--no-reload", "seat", "b1", "--customer", "bolt"))
+    token.run_token(args_of("--file", str(path), "--no-reload", "list"))
     assert left == [["a1", "b1"]]

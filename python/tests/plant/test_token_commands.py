@@ -10,7 +10,7 @@ import pytest
 from wanekupo.common import token_file
 from wanekupo.standby.half import StandbySettings
 from scripts import script
-from wanekupo.common.token_file import Outer, TokenSeat, TokenError, Tokens, put, read, text_of, tokens_of
+from wanekupo.common.token_file import Outer, TokenSeat, TokenError, Tokens, put, read, tokens_text, tokens_of
 
 token = script("token")
 NOW = "2026-06-15T12:00"
@@ -24,22 +24,23 @@ SITE = f"""customer = [
 ]
 manager = {{ token = "{TEST}" }}
 """
+A1, B1 = TokenSeat("a1", "acme", "abc"), TokenSeat("b1", "bolt", "hello")
+MANAGER = TokenSeat("@manager", "@manager", "test")
 
 
 def seats(*made):
-    return Tokens({it.seat: it for it in made or (TokenSeat("a1", "acme", "abc"), TokenSeat("b1", "bolt", "hello"))})
+    return Tokens({it.seat: it for it in made or (A1, B1)})
 
 
 def outer(number, seat="a1", **more):
-    mine = {"token": f"{seat}:{number}", "looks": False, "mark": "0" * 12, "since": NOW,
-        "text": f"wanekupo_{number:064x}"}
-    return Outer(**{"number": number, "seat": seat, **mine, **more})
+    mine = {"looks": False, "mark": "0" * 12, "since": NOW, "text": f"wanekupo_{number:064x}"}
+    return Outer(**{"number": number, "seat": seat, "token": f"{seat}:{number}", **mine, **more})
 
 
 @pytest.fixture(autouse=True)
 def moment(monkeypatch):
     for module in (token, token_file):
-        monkeypatch.setattr(module, "now", lambda: NOW)
+        monkeypatch.setattr(module, "current_minute", lambda: NOW)
 
 
 @pytest.fixture
@@ -48,13 +49,13 @@ def file(tmp_path):
 
 
 def words(file, *text):
-    return token.parser().parse_args(["--file", str(file), "--no-reload", *text])
+    return token.token_parser().parse_args(["--file", str(file), "--no-reload", *text])
 
 
 def done(file, *text):
     """What a command makes of the file, and what it prints."""
     args = words(file, *text)
-    token.run(args)
+    token.run_token(args)
     return tokens_of(read(file), file)
 
 
@@ -85,9 +86,9 @@ def test_forms(form, text, is_one):
 def test_where_nginx_refuses_the_file_of_before_is_back(file, monkeypatch, before):
     if before:
         put(file, before)
-    monkeypatch.setattr(token, "ran", lambda command: (False, "emerg"))
-    monkeypatch.setattr(token, "told", lambda *_: pytest.fail("what fails its test isn't read"))
-    args = token.parser().parse_args(["--file", str(file), "list"])
+    monkeypatch.setattr(token, "test_nginx", lambda command: (False, "emerg"))
+    monkeypatch.setattr(token, "reload_nginx", lambda *_: pytest.fail("what fails its test isn't read"))
+    args = token.token_parser().parse_args(["--file", str(file), "list"])
     with pytest.raises(TokenError, match="nothing was changed:\nemerg") as error:
         token.commit(args, seats(), before)
     assert error.value.status == 4 and (file.read_text() if before else os.listdir(file.parent)) == (before or [])
@@ -96,61 +97,61 @@ def test_where_nginx_refuses_the_file_of_before_is_back(file, monkeypatch, befor
 @pytest.mark.parametrize("wrong, status", [("", None), ("no worker", 5)])
 def test_commit(file, monkeypatch, wrong, status):
     calls = []
-    monkeypatch.setattr(token, "ran", lambda command: calls.append((command, file.exists())) or (True, ""))
-    monkeypatch.setattr(token, "told", lambda command, pid: calls.append((command, pid)) or wrong)
-    late = token.commit(token.parser().parse_args(["--file", str(file), "list"]), seats(), None)
-    assert (late and late.status) == status and read(file) == text_of(seats())
+    monkeypatch.setattr(token, "test_nginx", lambda command: calls.append((command, file.exists())) or (True, ""))
+    monkeypatch.setattr(token, "reload_nginx", lambda command, pid: calls.append((command, pid)) or wrong)
+    late = token.commit(token.token_parser().parse_args(["--file", str(file), "list"]), seats(), None)
+    assert (late and late.status) == status and read(file) == tokens_text(seats())
     assert calls == [("nginx -t -q", True), ("nginx -s reload", "/run/nginx.pid")]
     assert token.commit(words(file, "list"), seats(), None) is None and len(calls) == 2, "--no-reload"
 
 
 @pytest.mark.parametrize("fails, error", [
-    ("ran", PermissionError(13, "why")), ("told", UnicodeDecodeError("utf-8", b"\xff", 0, 1, "why")),
-    ("told", ValueError("why")), ("put", OSError(28, "why")),
+    ("test_nginx", PermissionError(13, "why")), ("reload_nginx", UnicodeDecodeError("utf-8", b"\xff", 0, 1, "why")),
+    ("reload_nginx", ValueError("why")), ("put", OSError(28, "why")),
 ])  # fmt: skip
 def test_whatever_fails_behind_the_write_is_no_refusal(file, monkeypatch, fails, error):
     """The statuses of station-token(8): with 1 nothing was changed, and 5 has an operator look at nginx."""
     def fail(*_):
         raise error
 
-    monkeypatch.setattr(token, "ran", lambda command: (fails != "put", "emerg"))
-    monkeypatch.setattr(token, "told", lambda *_: "")
+    monkeypatch.setattr(token, "test_nginx", lambda command: (fails != "put", "emerg"))
+    monkeypatch.setattr(token, "reload_nginx", lambda *_: "")
     real, calls = token.put, []
     monkeypatch.setattr(token, "put", lambda *it: fail() if fails == "put" and calls else calls.append(real(*it)))
     if fails != "put":
         monkeypatch.setattr(token, fails, fail)
-    late = token.commit(token.parser().parse_args(["--file", str(file), "list"]), seats(), "old")
-    assert late.status == 5 and "why" in str(late) and read(file) == text_of(seats())
+    late = token.commit(token.token_parser().parse_args(["--file", str(file), "list"]), seats(), "old")
+    assert late.status == 5 and "why" in str(late) and read(file) == tokens_text(seats())
 
 
 @pytest.mark.parametrize("command", ["nginx 'x", "/nowhere/nginx -t"])
 def test_a_command_that_can_not_be_begun(command):
-    assert token.ran(command)[0] is False
+    assert token.test_nginx(command)[0] is False
 
 
 def test_a_second_revoke_has_nginx_read_the_file_again(file, monkeypatch, capsys):
     with_outers(file, outer(1, text="", ended=NOW), outer(2, text="", ended=NOW))
     calls = []
-    monkeypatch.setattr(token, "ran", lambda command: calls.append(command) or (True, ""))
-    monkeypatch.setattr(token, "told", lambda command, pid: calls.append(command) or "")
+    monkeypatch.setattr(token, "test_nginx", lambda command: calls.append(command) or (True, ""))
+    monkeypatch.setattr(token, "reload_nginx", lambda command, pid: calls.append(command) or "")
     for name in ("a1:1", "a1"):
-        token.run(token.parser().parse_args(["--file", str(file), "revoke", name]))
+        token.run_token(token.token_parser().parse_args(["--file", str(file), "revoke", name]))
         assert calls[-2:] == ["nginx -t -q", "nginx -s reload"] and "had ended before" in capsys.readouterr().err
     with pytest.raises(TokenError, match="no outer token"):
-        token.run(words(file, "revoke", "a1:3"))
+        token.run_token(words(file, "revoke", "a1:3"))
 
 
 def test_where_nothing_is_printed_a_change_is_none_that_was_refused(file, monkeypatch):
     def fail(*_, **__):
         raise OSError(32, "nobody reads")
 
-    put(file, text_of(seats()))
+    put(file, tokens_text(seats()))
     monkeypatch.setattr("builtins.print", fail)
     with pytest.raises(TokenError, match="nobody reads") as error:
-        token.run(words(file, "add", "a1"))
+        token.run_token(words(file, "add", "a1"))
     assert error.value.status == 7
     with pytest.raises(OSError, match="nobody reads"):
-        token.run(words(file, "list"))
+        token.run_token(words(file, "list"))
 
 
 # ---- seats
@@ -183,12 +184,12 @@ def test_two_seats_have_two_tokens(file):
 ])  # fmt: skip
 def test_refused_words_change_nothing(file, text):
     with pytest.raises(TokenError) as error:
-        token.run(words(file, *text))
+        token.run_token(words(file, *text))
     assert error.value.status == 1 and not file.exists()
 
 
 def test_another_server(file, capsys):
-    put(file, text_of(seats()))
+    put(file, tokens_text(seats()))
     assert done(file, "seat", "a1", "--server", "127.0.0.1:881").seats["a1"] == TokenSeat("a1", "acme", "abc",
         "127.0.0.1:881")
 
@@ -235,7 +236,7 @@ def test_a_seat_into_a_site_file(file, tmp_path):
 def test_no_line_stands_in_a_string():
     """What looks like the customer's section in a text of several lines is none."""
     text = "note = '''\n[[customer]]\nname = \"acme\"\n[x]\n'''\n[[customer]]\nname = \"acme\"\nissuer = []\n"
-    found = tomllib.loads(token.grown(text, TokenSeat("a1", "acme", "abc"), "t"))
+    found = tomllib.loads(token.with_seat(text, TokenSeat("a1", "acme", "abc"), "t"))
     assert found["customer"] == [{"name": "acme", "issuer": [], "seat": [{"name": "a1", "token": ABC}]}]
     assert found["note"] == tomllib.loads(text)["note"]
 
@@ -266,7 +267,7 @@ def test_titles():
     (["--look", "--certificate", "CN=pc7"], {"looks": True, "subject": "CN=pc7", "text": ""}),
 ])  # fmt: skip
 def test_add(file, capsys, more, changes):
-    put(file, text_of(seats()))
+    put(file, tokens_text(seats()))
     found = done(file, "add", "a1", *more)
     (made,) = found.outers
     out, err = capsys.readouterr()
@@ -285,16 +286,16 @@ def test_add(file, capsys, more, changes):
     ["--holder", "é"],
 ])  # fmt: skip
 def test_add_refuses(file, more):
-    put(file, text_of(seats()))
+    put(file, tokens_text(seats()))
     with pytest.raises(TokenError):
         done(file, "add", "a1", *more)
-    assert read(file) == text_of(seats())
+    assert read(file) == tokens_text(seats())
 
 
 def test_a_certificate_has_one_seat(file):
     tokens = seats()
     tokens.outers = [outer(1, text="", subject="CN=pc7")]
-    put(file, text_of(tokens))
+    put(file, tokens_text(tokens))
     with pytest.raises(TokenError, match="has a seat already"):
         done(file, "add", "b1", "--certificate", "CN=pc7")
     assert done(file, "add", "b1", "--certificate", "CN=pc").outers[1].subject == "CN=pc"
@@ -303,7 +304,7 @@ def test_a_certificate_has_one_seat(file):
 
 
 def test_a_number_and_a_name_are_never_given_again(file):
-    put(file, text_of(seats()))
+    put(file, tokens_text(seats()))
     for text in (["add", "a1"], ["add", "b1"], ["add", "a1"], ["revoke", "a1"], ["add", "a1"]):
         found = done(file, *text)
     assert [(it.token, it.number) for it in found.outers] == [("a1:1", 1), ("b1:1", 2), ("a1:2", 3), ("a1:3", 4)]
@@ -314,7 +315,7 @@ def with_outers(file, *outers):
     a1, b1 = TokenSeat("a1", "acme", "abc", given=9), TokenSeat("b1", "bolt", "hello", given=9)
     tokens = seats(a1, TokenSeat("a", "acme", "x"), b1)
     tokens.outers = list(outers)
-    put(file, text_of(tokens))
+    put(file, tokens_text(tokens))
 
 
 @pytest.mark.parametrize("name, ended", [("a1", [1, 2]), ("a1:1", [1]), ("a1:2", [2]), ("b1", [4])])
@@ -356,13 +357,13 @@ def test_list(file, capsys):
 
 
 def test_the_seat_of_health_needs_no_outer_token(file, capsys):
-    put(file, text_of(seats(TokenSeat("health", "acme", "x"))))
+    put(file, tokens_text(seats(TokenSeat("health", "acme", "x"))))
     done(file, "list")
     assert capsys.readouterr().err == ""
 
 
 def test_inner(file, tmp_path, capsys):
-    put(file, text_of(seats()))
+    put(file, tokens_text(seats()))
     done(file, "inner", "a1", "--to", str(tmp_path / "a1.token"))
     made = tmp_path / "a1.token"
     assert made.read_text() == "abc\n" and stat.S_IMODE(made.stat().st_mode) == 0o600
@@ -374,18 +375,13 @@ def test_inner(file, tmp_path, capsys):
 
 
 @pytest.mark.parametrize("made, told", [
-    ((TokenSeat("a1", "acme", "abc"), TokenSeat("b1", "bolt", "hello"), TokenSeat("@manager", "@manager", "test")), ""),
-    ((TokenSeat("a1", "acme", "abc"), TokenSeat("b1", "bolt", "hello")), "@manager"),
-    ((TokenSeat("a1", "acme", "abc"), TokenSeat("b1", "bolt", "xx"), TokenSeat("@manager", "@manager", "test")), "b1"),
-    ((TokenSeat("a1", "acme", "abc"), TokenSeat("b1", "bolt", "hello"), TokenSeat("c1", "acme", "xx"),
-      TokenSeat("@m", "@m", "test")),
-     "c1"),
-    ((TokenSeat("a1", "bolt", "abc"), TokenSeat("b1", "bolt", "hello"), TokenSeat("@manager", "@manager", "test")),
-     "a1"),
+    ((A1, B1, MANAGER), ""), ((A1, B1), "@manager"), ((A1, TokenSeat("b1", "bolt", "xx"), MANAGER), "b1"),
+    ((A1, B1, TokenSeat("c1", "acme", "xx"), TokenSeat("@m", "@m", "test")), "c1"),
+    ((TokenSeat("a1", "bolt", "abc"), B1, MANAGER), "a1"),
 ])  # fmt: skip
 def test_check(file, tmp_path, capsys, made, told):
     (tmp_path / "site.toml").write_text(SITE)
-    put(file, text_of(seats(*made)))
+    put(file, tokens_text(seats(*made)))
     if told:
         with pytest.raises(TokenError, match=told) as error:
             done(file, "check", "--site", str(tmp_path / "site.toml"))
@@ -396,10 +392,10 @@ def test_check(file, tmp_path, capsys, made, told):
 
 
 def test_write_makes_a_changed_file_anew(file):
-    put(file, text_of(seats()) + "# mine\n")
+    put(file, tokens_text(seats()) + "# mine\n")
     for text in (["list"], ["add", "a1"]):
         with pytest.raises(TokenError, match="changed by hand"):
-            token.run(words(file, *text))
+            token.run_token(words(file, *text))
     assert done(file, "write") == seats()
 
 
@@ -407,58 +403,51 @@ def test_write_makes_a_changed_file_anew(file):
 
 
 def test_a_token_is_in_its_file_and_on_no_screen(file, tmp_path, capsys):
-    put(file, text_of(seats()))
+    put(file, tokens_text(seats()))
     made = done(file, "add", "a1", "--to", str(tmp_path / "a1.token")).outers[0]
     out, err = capsys.readouterr()
     assert (tmp_path / "a1.token").read_text() == made.text + "\n" and made.text not in out + err
     assert stat.S_IMODE((tmp_path / "a1.token").stat().st_mode) == 0o600
 
 
-def test_a_token_that_nginx_refuses_is_in_no_file(file, tmp_path, monkeypatch, capsys):
-    put(file, text_of(seats()))
-    monkeypatch.setattr(token, "ran", lambda command: (False, "emerg"))
-    args = token.parser().parse_args(["--file", str(file), "add", "a1", "--to", str(tmp_path / "a1.token")])
+@pytest.mark.parametrize("is_taken, status", [(False, 4), (True, 5)])
+def test_a_token_that_nginx_refuses_is_in_no_file(file, tmp_path, monkeypatch, capsys, is_taken, status):
+    """And it stays where nginx may go on as before."""
+    put(file, tokens_text(seats()))
+    monkeypatch.setattr(token, "test_nginx", lambda command: (is_taken, "emerg"))
+    monkeypatch.setattr(token, "reload_nginx", lambda *_: "no worker")
+    args = token.token_parser().parse_args(["--file", str(file), "add", "a1", "--to", str(tmp_path / "a1.token")])
     with pytest.raises(TokenError) as error:
-        token.run(args)
-    assert error.value.status == 4 and not (tmp_path / "a1.token").exists() and read(file) == text_of(seats())
-    assert capsys.readouterr().out == ""
-
-
-def test_a_token_stays_where_nginx_may_go_on_as_before(file, tmp_path, monkeypatch, capsys):
-    put(file, text_of(seats()))
-    monkeypatch.setattr(token, "ran", lambda command: (True, ""))
-    monkeypatch.setattr(token, "told", lambda *_: "no worker")
-    args = token.parser().parse_args(["--file", str(file), "add", "a1", "--to", str(tmp_path / "a1.token")])
-    with pytest.raises(TokenError) as error:
-        token.run(args)
-    assert error.value.status == 5 and (tmp_path / "a1.token").exists() and len(tokens_of(read(file), file).outers) == 1
+        token.run_token(args)
+    assert error.value.status == status and (tmp_path / "a1.token").exists() == is_taken
+    assert is_taken or (read(file), capsys.readouterr().out) == (tokens_text(seats()), "")
+    assert len(tokens_of(read(file), file).outers) == is_taken
 
 
 def test_where_a_token_can_have_no_file_none_is_made(file, tmp_path):
-    put(file, text_of(seats()))
+    put(file, tokens_text(seats()))
     (tmp_path / "a1.token").write_text("mine")
     with pytest.raises(FileExistsError):
         done(file, "add", "a1", "--to", str(tmp_path / "a1.token"))
-    assert (tmp_path / "a1.token").read_text() == "mine" and read(file) == text_of(seats())
+    assert (tmp_path / "a1.token").read_text() == "mine" and read(file) == tokens_text(seats())
 
 
 def test_one_run_at_a_time(file):
-    put(file, text_of(seats()))
+    put(file, tokens_text(seats()))
     with token.alone(file, 0), pytest.raises(TokenError) as error:
-        token.run(token.parser().parse_args(["--file", str(file), "--no-reload", "--wait", "0", "add", "a1"]))
-    assert error.value.status == 3 and read(file) == text_of(seats())
+        token.run_token(words(file, "--wait", "0", "add", "a1"))
+    assert error.value.status == 3 and read(file) == tokens_text(seats())
 
 
 def test_a_look_changes_no_file(file, monkeypatch):
-    put(file, text_of(seats()))
+    put(file, tokens_text(seats()))
     monkeypatch.setattr(token, "commit", lambda *_: pytest.fail("nothing is changed"))
-    token.run(words(file, "list"))
+    token.run_token(words(file, "list"))
 
 
 @pytest.mark.parametrize("error, status, told", [
     (None, 0, ""), (TokenError(3, "busy"), 3, "busy"), (TokenError(5, "late"), 5, "late"),
-    (OSError(2, "No such file", "/f"), 1, "/f"),
-    (UnicodeDecodeError("ascii", b"\xff", 0, 1, "why"), 1, "why"),
+    (OSError(2, "No such file", "/f"), 1, "/f"), (UnicodeDecodeError("ascii", b"\xff", 0, 1, "why"), 1, "why"),
 ])  # fmt: skip
 def test_main(monkeypatch, capsys, error, status, told):
     def run(args):
@@ -466,7 +455,7 @@ def test_main(monkeypatch, capsys, error, status, told):
         if error:
             raise error
 
-    monkeypatch.setattr(token, "run", run)
+    monkeypatch.setattr(token, "run_token", run)
     monkeypatch.setattr(sys, "argv", ["token", "list"])
     assert token.main() == status and told in capsys.readouterr().err
 
@@ -475,7 +464,7 @@ def test_main(monkeypatch, capsys, error, status, told):
     "add a1 --untill 2026-12-24"])
 def test_wrong_words(text, capsys):
     with pytest.raises(SystemExit) as error:
-        token.parser().parse_args(text.split())
+        token.token_parser().parse_args(text.split())
     assert error.value.code == 2
 
 
@@ -495,10 +484,10 @@ def test_one_of_two_machines(file, tmp_path, monkeypatch, capsys, is_mounted, le
     monkeypatch.setattr(token.living, "leave", leave)
     missed = token.left_to_the_other(file, seats())
     assert (missed and missed.status) == status and told in capsys.readouterr().err
-    put(file, text_of(seats()))
+    put(file, tokens_text(seats()))
     monkeypatch.setattr(token, "commit", lambda *_: TokenError(5, "no worker"))
     with pytest.raises(TokenError, match="no worker" + ("\n.*frozen" if left else "")) as error:
-        token.run(words(file, "add", "a1"))
+        token.run_token(words(file, "add", "a1"))
     assert error.value.status == 5
 
 

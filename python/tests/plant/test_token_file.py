@@ -11,7 +11,7 @@ import pytest
 from conftest import DEPLOY
 from wanekupo.common import token_file
 from wanekupo.common.token_file import (
-    PREFIX, Outer, TokenError, TokenSeat, Tokens, is_past, later_than, living, mark_of, read, text_of,
+    PREFIX, Outer, TokenError, TokenSeat, Tokens, is_past, later_minute, living, mark_of, read, tokens_text,
 )  # fmt: skip
 from wanekupo.common.token_file import tokens_of as parsed
 
@@ -98,7 +98,7 @@ def sample():
     return tokens
 
 
-NGINX = Nginx(CONF, text_of(sample()))
+NGINX = Nginx(CONF, tokens_text(sample()))
 # Only GET and HEAD look (RFC 9110: the two safe methods that the server has). nginx itself refuses small letters.
 LOOKING, CHANGING = ("GET", "HEAD"), ("POST", "PUT", "PATCH", "DELETE", "OPTIONS", "TRACE", "GETPOST", "1 GET", "")
 CERTIFICATE = "Bearer certificate"
@@ -158,12 +158,12 @@ MINUTES = ["2026-11-29T09:59", "2026-11-29T10:00", "2026-12-24T23:59", "2026-12-
 
 @pytest.mark.parametrize("minute", MINUTES)
 def test_later_minutes_are_those_behind_it(minute):
-    found = [it for it in MINUTES if re.search(later_than(minute), f"{it}:30+01:00")]
+    found = [it for it in MINUTES if re.search(later_minute(minute), f"{it}:30+01:00")]
     assert found == [it for it in MINUTES if it > minute]
 
 
 def test_the_file_is_read_again_as_it_was():
-    written = text_of(sample())
+    written = tokens_text(sample())
     assert parsed(written, Path("f")) == sample()
     for changed in (written.replace("inner-of-a1", "inner-of-b1", 1), written + "\n", written.replace('"1"', '"2"', 1)):
         with pytest.raises(TokenError, match="changed by hand"):
@@ -174,13 +174,13 @@ def test_the_file_is_read_again_as_it_was():
 
 
 def test_which_tokens_live(monkeypatch):
-    monkeypatch.setattr("wanekupo.common.token_file.now", lambda: "2026-12-24T23:59")
+    monkeypatch.setattr("wanekupo.common.token_file.current_minute", lambda: "2026-12-24T23:59")
     marks = {it.number: it.mark for it in sample().outers}
     assert living(sample()) == sorted([
         f"a1:1 {marks[1]} all -", f"a1:2 {marks[2]} look -", f"b1:3 {marks[3]} all {END}", f"b1:5 {marks[5]} all -",
         f"b1:6 {marks[6]} look -", f"a1:8 {marks[8]} all -", f"b1:10 {marks[10]} look {END}",
     ])  # fmt: skip
-    monkeypatch.setattr("wanekupo.common.token_file.now", lambda: "2026-12-25T00:00")
+    monkeypatch.setattr("wanekupo.common.token_file.current_minute", lambda: "2026-12-25T00:00")
     assert [it.split()[0] for it in living(sample())] == ["a1:1", "a1:2", "a1:8", "b1:5", "b1:6"]
     assert [is_past(it) for it in ("", END, "2026-12-25T00:00")] == [False, True, False]
     assert not any(PREFIX in it or "inner" in it for it in living(sample()))
@@ -206,6 +206,31 @@ def test_a_file_of_others_isnt_read(tmp_path):
 def test_a_record_that_is_none_is_told_in_a_sentence(record):
     with pytest.raises(TokenError, match="^f isn't what token writes"):
         parsed(f"#: {record}\n", Path("f"))
+
+
+# Members of a record that would be a directive of nginx, or are of another kind than station-token writes.
+EVIL = 'x" 0;\n}\naccess_log /etc/cron.d/evil evil;\nmap $uri $zz {\n    "y'
+ODD = [*[(name, EVIL) for name in ("token", "mark", "since", "text", "subject", "until", "holder", "ended")],
+       ("text", "x"), ("text", PREFIX + "\u0661" * 64), ("number", True), ("number", "1"), ("number", 0),
+       ("looks", "yes"), ("looks", 1), ("until", "2026-12-24T23:59\n")]  # fmt: skip
+ODD_SEATS = [*[(name, EVIL) for name in ("seat", "customer", "inner", "server")], ("given", -1), ("inner", "$http_x"),
+             ("server", "127.0.0.1:\u0661"), ("customer", "")]  # fmt: skip
+
+
+@pytest.mark.parametrize("name, value, is_seat", [*((*it, False) for it in ODD), *((*it, True) for it in ODD_SEATS)])
+def test_no_member_of_a_record_has_another_form(monkeypatch, name, value, is_seat):
+    """A file that somebody handed over is all made of its records, and what stands in them becomes nginx's."""
+    tokens = sample()
+    if is_seat:
+        tokens.seats["a1"] = replace(tokens.seats["a1"], **{name: value})
+    else:
+        tokens.outers[0] = replace(tokens.outers[0], **{name: value})
+    with monkeypatch.context() as before:
+        before.setattr(token_file, "_test_form", lambda record: None, raising=False)
+        handed = tokens_text(tokens)
+    for made in (lambda: parsed(handed, Path("f")), lambda: parsed(handed, Path("f"), True), lambda: tokens_text(tokens)):  # fmt: skip
+        with pytest.raises(TokenError, match=f"another form than station-token writes: its {name}$"):
+            made()
 
 
 # The owner and the mode of a folder, and whether a token may be made in it: by root, and by the user 7.

@@ -20,8 +20,8 @@ def test_ran(monkeypatch, command, is_fine, told):
             raise FileNotFoundError(2, "No such file", "gone")
         return subprocess.CompletedProcess(words, int(not is_fine), "", f"{told}\n")
 
-    monkeypatch.setattr(token.subprocess, "run", run)
-    found, said = token.ran(f"{command} -a 'b c'")
+    monkeypatch.setattr(subprocess, "run", run)
+    found, said = token.test_nginx(f"{command} -a 'b c'")
     assert (found, told in said) == (is_fine, True) and calls == [([command, "-a", "b c"], subprocess.DEVNULL)]
 
 
@@ -29,8 +29,8 @@ def test_a_warning_is_no_reason(monkeypatch):
     """What nginx 1.26 says of `listen .. http2`, and takes."""
     warning = 'nginx: [warn] the "listen ... http2" directive is deprecated, use the "http2" directive instead in x:158'
     done = subprocess.CompletedProcess(["nginx"], 1, "", f"{warning}\nnginx: [emerg] bind() failed\n")
-    monkeypatch.setattr(token.subprocess, "run", lambda *words, **more: done)
-    assert token.ran("nginx -t") == (False, "nginx: [emerg] bind() failed")
+    monkeypatch.setattr(subprocess, "run", lambda *words, **more: done)
+    assert token.test_nginx("nginx -t") == (False, "nginx: [emerg] bind() failed")
 
 
 def process(folder, number, title, parent):
@@ -63,10 +63,10 @@ def told(monkeypatch, seen, answer=(True, "")):
     """What is told where the workers are those of `seen`, one after the other; what was run."""
     calls, left, moments = [], iter(seen), iter(range(0, 10000, 4))
     monkeypatch.setattr(token, "workers", lambda pid: calls.append(pid) or next(left, seen[-1]))
-    monkeypatch.setattr(token, "ran", lambda command: calls.append(command) or answer)
+    monkeypatch.setattr(token, "test_nginx", lambda command: calls.append(command) or answer)
     monkeypatch.setattr(token.time, "monotonic", lambda: next(moments))
     monkeypatch.setattr(token.time, "sleep", lambda _: None)
-    return token.told("RELOAD", "PID"), calls
+    return token.reload_nginx("RELOAD", "PID"), calls
 
 
 def test_nginx_has_read_it_where_a_new_worker_is_there(monkeypatch):

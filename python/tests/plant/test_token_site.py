@@ -1,10 +1,12 @@
-"""The lines of a seat in a site file, by Python's own reader of TOML, and SHA-256 as FIPS 180 has it of `abc`."""
+"""A seat in a site file: whether it is there, and its lines in a new text, by Python's own reader of TOML."""
 
 import tomllib
 
 import pytest
-from wanekupo.common.token_file import TokenSeat, TokenError
-from wanekupo.common.site_file import digest_of, digests_of, grown, is_in, lines_of
+from wanekupo.common.errors import PlantError
+from wanekupo.common.token_file import TokenSeat
+from wanekupo.plant.site.growth import lines_of, with_seat
+from wanekupo.plant.token import digests_of, is_in
 
 ABC = "ba7816bf8f01cfea414140de5dae2223b00361a396177a9cb410ff61f20015ad"
 A2 = TokenSeat("a2", "acme", "abc")
@@ -25,19 +27,17 @@ name = 'bolt'
 """.format("0" * 64)
 
 
-def test_digest():
-    assert digest_of("abc") == ABC
+def test_lines():
     assert lines_of(A2) == f'[[customer.seat]]\nname = "a2"\ntoken = "{ABC}"\n'
     assert lines_of(TokenSeat("@manager", "@manager", "abc")) == f'[manager]\ntoken = "{ABC}"\n'
 
 
-def test_digests_of_a_site():
-    site = BOTH + f'[manager]\ntoken = "{ABC.upper()}"\n'
-    assert digests_of(site, "f") == {"a1": ("acme", "0" * 64), "@manager": ("@manager", ABC)}
-    assert digests_of("customer = []\n", "f") == {}
-    for text in ("customer =", "[" * 5000):
-        with pytest.raises((TokenError, RecursionError)):
-            digests_of(text, "f")
+def test_digests_of_a_site(tmp_path):
+    site = tmp_path / "site.toml"
+    site.write_text(BOTH + f'[manager]\ntoken = "{ABC.upper()}"\n')
+    assert digests_of(site) == {"a1": ("acme", "0" * 64), "@manager": ("@manager", ABC)}
+    site.write_text("customer = []\n")
+    assert digests_of(site) == {}
 
 
 IN = [
@@ -72,34 +72,27 @@ SITES = [
 def test_a_seat_more_and_nothing_else(site, customer, place):
     wanted = tomllib.loads(site)
     wanted["customer"][place].setdefault("seat", []).append({"name": "a2", "token": ABC})
-    assert tomllib.loads(grown(site, TokenSeat("a2", customer, "abc"), "f")) == wanted
+    assert tomllib.loads(with_seat(site, TokenSeat("a2", customer, "abc"), "f")) == wanted
 
 
-def test_a_manager_more():
-    assert tomllib.loads(grown(BOTH, TokenSeat("@manager", "@manager", "abc"), "f"))["manager"] == {"token": ABC}
+@pytest.mark.parametrize("site", [BOTH, BOTH.rstrip(), "\ufeff" + BOTH, "customer = []"], ids=range(4))
+def test_a_manager_more(site):
+    new = with_seat(site, TokenSeat("@manager", "@manager", "abc"), "f")
+    assert new.startswith(site)
+    site, new = (tomllib.loads(it.removeprefix("\ufeff")) for it in (site, new))
+    assert new == {**site, "manager": {"token": ABC}}
 
 
 NOWHERE = [
     (BOTH, TokenSeat("c1", "cole", "abc"), "has no customer cole"),
     ('customer = [{name = "acme", issuer = []}]\n', A2, "there is no place"),
-    ("customer =", A2, "f: "),
+    ("customer =", A2, "^f is no site file"),
+    ("", A2, "^f is no site file"),
     (BOTH + '[manager]\ntoken = "x"\n', TokenSeat("@manager", "@manager", "abc"), "there is no place"),
 ]
 
 
 @pytest.mark.parametrize("site, seat, told", NOWHERE)
 def test_no_place_that_is_sure(site, seat, told):
-    with pytest.raises(TokenError, match=told):
-        grown(site, seat, "f")
-
-
-DEEP = "x = " + 5000 * "[" + 5000 * "]" + "\n"
-NO_SITES = [DEEP, "x = " + 5000 * "9" + "\n", "customer = 1\n", "customer = [1]\n", 'customer = ["a"]\n',
-            '[[customer]]\nname = "acme"\nseat = 5\n', '[[customer]]\nseat = [{name = "a1", token = 5}]\n',
-            "manager = 5\n", "[manager]\ntoken = 5\n"]  # fmt: skip
-
-
-@pytest.mark.parametrize("text", NO_SITES, ids=lambda text: text[:30])
-def test_what_is_no_site_is_told_in_a_sentence(text):
-    with pytest.raises(TokenError, match="^site.toml"):
-        digests_of(text, "site.toml")
+    with pytest.raises(PlantError, match=told):
+        with_seat(site, seat, "f")

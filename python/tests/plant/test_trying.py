@@ -1,13 +1,12 @@
-"""The tests of a new text: a program that fails without a word refuses too, and what it says holds."""
+"""The tests of a new text: what the program says of it holds, and is told."""
 
-import subprocess
+import re
 from contextlib import contextmanager
-from types import SimpleNamespace
 
 import pytest
 from wanekupo.plant.site import trials as trying
-from wanekupo.plant.site.faults import Fault
 from wanekupo.plant.trial_copy import Backup
+from wanekupo.common.site_file import read_site
 from wanekupo.common.store_user import UserError
 from wanekupo.common.token_file import TokenError
 
@@ -18,31 +17,19 @@ NO_SITE = SITE.replace("'a1'", "'a/1'")
 
 
 class FakePlace:
-    """A place whose program says what the test wants of each text, by `says`: of site and store, or of a map."""
+    """A place whose program says what the test wants of a text, of one behind an old one, and of a store's copy."""
 
     def __init__(self, folder, says=lambda *_: ""):
-        self.site, self.next, self.backups, self.program = folder / "site.toml", folder / "new.toml", folder / "b", "P"
-        self.says, self.calls, self.has, self.map_done = says, [], True, (0, "")
-        self.user = SimpleNamespace(run=self.wrote)
-        self.backup = None
+        self.site, self.next, self.backups = folder / "site.toml", folder / "new.toml", folder / "b"
+        self.says, self.calls, self.backup = says, [], None
 
-    def has_program(self):
-        return self.has
+    def refusal(self, command, text, old=None):
+        self.calls.append((command, text, old))
+        return self.says(text, old)
 
-    def wrote(self, *words, given=""):
-        """dd as the store's user."""
-        open(words[-1].removeprefix("of="), "w").write(given)
-        return subprocess.CompletedProcess(words, 0, "", "")
-
-    def ran(self, *words, given=""):
-        self.calls.append(words)
-        status, said = self.map_done
-        return subprocess.CompletedProcess(words, status, "", said)
-
-    def replayed(self, site, db=None, user=None):
-        text = site.read_text()
-        self.calls.append(("replayed", text, db and db.name, bool(user)))
-        return self.says(text, db)
+    def store_refusal(self, text, copy):
+        self.calls.append(("store", text, copy.name))
+        return self.says(text, copy)
 
     def newest_backup(self):
         return self.backup
@@ -50,7 +37,6 @@ class FakePlace:
     @contextmanager
     def copied(self, *what):
         self.calls.append(("copied", *what))
-        (self.site.parent / "room").mkdir(exist_ok=True)
         yield self.site.parent / "room/books.db"
 
     copied_running = copied
@@ -81,117 +67,69 @@ def test_is_map(text, is_map):
     assert trying.is_map(text) == is_map
 
 
-@pytest.mark.parametrize("done, said", [
-    ((0, "ready"), ""), ((1, "station: map fault 2\n"), "station: map fault 2"), ((-9, ""), "status -9"),
-    ((1, "\n"), "status 1"),
-])  # fmt: skip
-def test_a_map_is_the_programs_to_take(place, done, said):
-    """A program that was killed says nothing, and took nothing."""
-    place.map_done = done
-    assert trying.program_says(place, place.site, True) == said
-    assert place.calls == [("P", "check-map", str(place.site))]
-
-
-def test_a_site_is_the_programs_to_take(tmp_path):
-    place = FakePlace(tmp_path, lambda *_: "why")
-    place.site.write_text(SITE)
-    assert trying.program_says(place, place.site, False) == "why" and place.calls == [("replayed", SITE, None, False)]
+NO_TOML = SITE.replace("[]", "[")
+MAP = "name = 'm'\nwr = 'W'\nrd = 'R'\nblock = [{ words = 9 }]\nfield = [{ name = 'W', block = 0, bit = 0 }]\n"
+FIELD = "F:5: field.count: count is missing (fault 2)"
+WORDS = "F:4: block.words: words is 9, and has to be 1 to 8 (fault 2)"
 
 
 @pytest.mark.parametrize("text, said, lines", [
-    (SITE, "", []),
-    (NO_SITE, "station: site fault 2",
-     ["F:5: customer.seat.name: \"a/1\" is no name: 1 to 32 of A-Z a-z 0-9 . _ - (fault 2)",
-                                        "station: site fault 2"]),
-    (SITE, "status -9", ["F: this tool reads it otherwise than the program does, whose number holds: tell its makers",
-     "status -9"]),
-    (SITE, "station: site fault 4",
-     ["F: this tool reads it otherwise than the program does, whose number holds: tell its makers",
-                                     "station: site fault 4"]),
-    (NO_SITE, "", ["F: this tool reads it otherwise than the program does, whose number holds: tell its makers"]),
-    (NO_SITE, "station: site fault 3",
-     ["F: this tool reads it otherwise than the program does, whose number holds: tell its makers",
-                                        "station: site fault 3"]),
+    (SITE, "", []), (MAP, "", []), (NO_TOML, "", []),
+    (SITE, "station: site fault 3: customer acme, seat 1: the name is there already", []),
+    (NO_SITE, "station: site fault 2: customer acme, seat 1: a name has to be 1 to 32 of A-Z a-z 0-9 . _ -", []),
+    (NO_TOML, "station: site fault 1: the text is no TOML document", [r"F:4: the text: it is no TOML 1\.0.* 1\)"]),
+    (SITE, "station: site fault 1: the text is no TOML document", []),
+    (NO_TOML, "station: site fault 2: manager: ", []), (SITE, "status -9", []), (NO_TOML, "status -9", []),
+    (MAP, "station: map fault 2", [WORDS, FIELD]), (MAP, "station: map fault 3", []), (MAP, "status -9", []),
+    (MAP + "x = '\n", "station: map fault 1", [r"F:6: the text: it is no TOML 1\.0.* 1\)"]),
+    (MAP + 'x = "\\e"\n', "station: map fault 2", [r"F:6: the text: it is no TOML 1\.0.* 1\)"]),
 ])  # fmt: skip
 def test_checked(tmp_path, text, said, lines):
+    """The program's own line is the last, and holds. Of what is no TOML 1.0 the line is told where the program names
+    no other place, and of a map the places of the number that it told."""
     place = FakePlace(tmp_path, lambda *_: said)
     place.site.write_text(text)
-    assert [it.replace(str(place.site), "F") for it in trying.checked(place, place.site, False)] == lines
-
-
-def test_checked_by_this_tool_alone(place):
-    place.has = False
-    place.site.write_text(NO_SITE)
-    (line,) = trying.checked(place, place.site, False)
-    assert line.endswith("(fault 2)") and place.calls == []
-    (line,) = trying.checked(place, place.site, True)[:1]
-    assert "block" in line, "as a map it has other faults"
-
-
-def test_toml_of_a_later_form(place):
-    """What the program takes and this tool doesn't read is no fault; its line is told where the program refuses it."""
-    fault = Fault(1, 7, "the text", "why")
-    assert trying.disagreement([fault], "", place.site) == []
-    (line,) = trying.disagreement([fault], "station: site fault 2", place.site)
-    assert f"{place.site}:7:" in line and "1.1" in line
+    found = [it.replace(str(place.site), "F") for it in trying.checked(place, place.site)]
+    assert place.calls == [("check-site" if "acme" in text else "check-map", text, None)]
+    assert found[-1:] == ([f"F: {said}"] if said else [])
+    wanted = [it if "\\." in it else re.escape(it) for it in lines]
+    assert len(found[:-1]) == len(wanted) and all(map(re.fullmatch, wanted, found))
 
 
 def test_tested_site(tmp_path):
-    place = FakePlace(tmp_path, lambda text, db: "why" if text == MORE else "")
-    assert trying.tested_site(place, SITE, "t").seat_names() == {"a1": "acme"}
+    place = FakePlace(tmp_path, lambda text, old: "why" if text == MORE else "")
+    assert trying.tested_site(place, SITE, "t") == read_site(SITE, "t")
     with pytest.raises(TokenError, match="^t: why$"):
         trying.tested_site(place, MORE, "t")
-    with pytest.raises(TokenError, match="^t:5: "):
-        trying.tested_site(place, NO_SITE, "t")
 
 
-def growth(place, old, new, done=(0, "")):
-    place.map_done = done
-    return trying.tested_growth(place, old, new, "t")
+def test_a_growth(place):
+    assert trying.tested_growth(place, SITE, MORE, "t") == ["acme gets 1 issuer (n)"]
+    assert place.calls == [("check-site", SITE, None), ("check-site", MORE, SITE)]
 
 
-def test_a_growth_is_tried_over_a_store_that_holds_the_old_text(place):
-    assert growth(place, SITE, MORE) == ["acme gets 1 issuer (n)"]
-    alone, (first, *words), over = place.calls
-    assert alone == ("replayed", MORE, None, False) and over == ("replayed", MORE, "books.db", False)
-    assert (first, words[0], words[1], words[3]) == ("P", "replay", "--site", "--db") and words[4].endswith("/books.db")
-    assert "--existing" not in words, "the store is a new one"
+LOST = "station: store fault 1: customer acme, issuer 1: it is gone, or has changed"
 
 
-@pytest.mark.parametrize("done, says, told", [
-    ((1, "station: fault\n"), "", "station: fault"), ((-9, ""), "", "status -9"),
-    ((0, ""), "store fault 1", "store fault 1"),
+@pytest.mark.parametrize("says, told", [
+    ({(SITE, MORE): LOST}, f"t: {LOST}\nnothing of a site can be taken away"),
+    ({(SITE, MORE): "station: site fault 1: x"}, "t: station: site fault 1: x"), ({(SITE, MORE): "why"}, "t: why"),
+    ({(MORE, None): "station: site fault 3: x"}, "the text of before: station: site fault 3: x"),
 ])  # fmt: skip
-def test_what_is_no_growth_to_the_program(tmp_path, done, says, told):
-    place = FakePlace(tmp_path, lambda text, db: says if db else "")
-    with pytest.raises(TokenError, match=f"^t: the program doesn't take it as a growth: {told}$"):
-        growth(place, SITE, MORE, done)
-
-
-def test_a_loss_is_no_growth(place):
-    with pytest.raises(TokenError, match="^acme loses the issuer n\nnothing of a site can be taken away: t$"):
-        growth(place, MORE, SITE)
-    assert all(it[0] != "P" for it in place.calls)
+def test_what_is_no_growth_to_the_program(tmp_path, says, told):
+    place = FakePlace(tmp_path, lambda *texts: says.get(texts, ""))
+    with pytest.raises(TokenError, match=f"^{re.escape(told)}$"):
+        trying.tested_growth(place, MORE, SITE, "t")
 
 
 @pytest.mark.parametrize("text, refused", [("old", 0), ("new", 1)])
 def test_a_copy_is_opened_with_the_text_of_now_and_then_with_the_new_one(place, tmp_path, text, refused):
-    (tmp_path / "room").mkdir()
-    copy = tmp_path / "room/books.db"
-    trying.try_over(place, copy, "old", "new", "what")
-    over = [it for it in place.calls if it[0] == "replayed"]
-    assert over == [("replayed", "old", "books.db", True), ("replayed", "new", "books.db", True)]
-    place.says = lambda it, db: "why" if it == text else ""
+    trying.try_over(place, tmp_path / "books.db", "old", "new", "what")
+    assert place.calls == [("store", "old", "books.db"), ("store", "new", "books.db")]
+    place.says = lambda it, copy: "why" if it == text else ""
     title = [place.site, place.next][refused]
     with pytest.raises(TokenError, match=f"^{title}: what refuses it: why$"):
-        trying.try_over(place, copy, "old", "new", "what")
-
-
-def test_a_text_that_cannot_be_written_is_not_tried(place, tmp_path):
-    place.user = SimpleNamespace(run=lambda *words, given="": subprocess.CompletedProcess(words, 1, "", "full\n"))
-    with pytest.raises(TokenError, match="full"):
         trying.try_over(place, tmp_path / "books.db", "old", "new", "what")
-    assert place.calls == []
 
 
 def test_over_the_newest_backup(place, tmp_path):
@@ -231,8 +169,7 @@ def test_others(tmp_path):
     (tmp_path / "two.toml").write_text(MORE.replace("acme", "bolt").replace("'a1'", "'b1'").replace(ONE, TWO))
     trying.tested_others(place, SITE, [str(tmp_path / "two.toml")])
     other, both = (it[1] for it in place.calls)
-    assert other == (tmp_path / "two.toml").read_text() and set(trying.given_of(both, "t").customers) == {"acme",
-        "bolt"}
+    assert other == (tmp_path / "two.toml").read_text() and set(read_site(both, "t").customers) == {"acme", "bolt"}
     (tmp_path / "three.toml").write_text(SITE.replace("acme", "cog").replace("'a1'", "'c1'"))
     with pytest.raises(TokenError, match="three.toml has it too: the token of the seat a1"):
         trying.tested_others(place, SITE, [str(tmp_path / "two.toml"), str(tmp_path / "three.toml")])

@@ -11,8 +11,8 @@ from wanekupo.standby import witness
 from wanekupo.standby.half import StandbyError
 from wanekupo.standby.look import SEAT, numbers_of
 from wanekupo.standby.needs import secret_faults
-from wanekupo.standby.witness import Reply, compare, gathered
-from wanekupo.standby.witness import tested as witness_of
+from wanekupo.standby.witness import Reply, compare_numbers, highest_numbers
+from wanekupo.standby.witness import tested_numbers as witness_of
 
 OLDER, UNSEEN, LACKS = "This half is an older one", "No witness has the seats", "The witness lacks replies"
 NOW = datetime.now(timezone.utc)
@@ -50,20 +50,20 @@ REFUSED = [
 
 @pytest.mark.parametrize("store, witness", PASSED)
 def test_compare_passes(store, witness):
-    compare(store, replies(witness))
+    compare_numbers(store, replies(witness))
 
 
 @pytest.mark.parametrize("store, witness, why, told", REFUSED)
 def test_compare_refuses(store, witness, why, told):
     with pytest.raises(StandbyError) as refused:
-        compare(store, replies(witness))
+        compare_numbers(store, replies(witness))
     assert str(refused.value).startswith(why) and told in str(refused.value)
 
 
 def test_seats_of_the_site_count_as_zero():
     assert numbers_of("seat a1 17\nseat b1 3\n", ["a1", "a5"]) == {"a1": 17, "a5": 0, "b1": 3}
     with pytest.raises(StandbyError):
-        compare(numbers_of("seat a1 17\n", ["a1", "a5"]), replies({"a1": 17}))
+        compare_numbers(numbers_of("seat a1 17\n", ["a1", "a5"]), replies({"a1": 17}))
 
 
 # A name is 1 to 32 of A-Z a-z 0-9 . _ -, and a number has at most 16 digits.
@@ -103,7 +103,7 @@ def test_witnesses_of_files_and_commands_are_one(tmp_path):
     one, two = tmp_path / "one", tmp_path / "two"
     one.write_text(at(NOW) + "seat a1 17\n")
     two.write_text(at(NOW) + "seat b1 4\nseat a1 3\n")
-    found = gathered([str(one)], [f"cat {two}"], None)
+    found = highest_numbers([str(one)], [f"cat {two}"], None)
     assert found == {"a1": Reply(17, f"{one}, line 2"), "b1": Reply(4, f"`cat {two}`, line 2")}
 
 
@@ -134,16 +134,16 @@ def test_a_part_has_its_own_seats_alone(tmp_path, monkeypatch, parts, told, is_c
     given = ([], words) if is_command else (words, [])
     if told:
         with pytest.raises(StandbyError) as refused:
-            gathered(*given, None, table)
+            highest_numbers(*given, None, table)
         assert told in str(refused.value).replace("`", "")
     else:
-        assert {it: reply.number for it, reply in gathered(*given, None, table).items()} == \
+        assert {it: reply.number for it, reply in highest_numbers(*given, None, table).items()} == \
             {"a1": 17, "a2": 3, "b1": 4, "health": 0}
 
 
 def test_without_a_table_it_says_that_nobody_held_the_parts(tmp_path, capsys):
     (tmp_path / "one").write_text(at(NOW) + "seat a1 17\nseat b1 4\n")
-    assert set(gathered([f"pc1={tmp_path}/one"], [], None, tmp_path / "none")) == {"a1", "b1"}
+    assert set(highest_numbers([f"pc1={tmp_path}/one"], [], None, tmp_path / "none")) == {"a1", "b1"}
     assert "nobody has looked whether each part has its own PC's seats alone" in capsys.readouterr().out
 
 
@@ -162,13 +162,13 @@ def test_a_table_that_is_none(tmp_path, monkeypatch, user, mode, text, told):
     found = SimpleNamespace(st_uid=user, st_mode=mode)
     monkeypatch.setattr(witness, "os", SimpleNamespace(stat=lambda path: found))
     with pytest.raises(StandbyError, match=told):
-        gathered([], [], None, table)
+        highest_numbers([], [], None, table)
 
 
 def test_seats_that_only_look_as_the_page_has_them():
     page = (TOP / "docs/how-to/standby.md").read_text(encoding="utf-8")
     (command,) = re.findall(r'`"(date -u [^"]*)"`', page)
-    found = gathered([], [tomllib.loads(f'it = "{command}"')["it"]], NOW - timedelta(seconds=1))
+    found = highest_numbers([], [tomllib.loads(f'it = "{command}"')["it"]], NOW - timedelta(seconds=1))
     assert {seat: reply.number for seat, reply in found.items()} == {"health": 0, "restore-acme": 0}
 
 
@@ -205,7 +205,7 @@ COMMANDS = [
 @pytest.mark.parametrize("command, told", COMMANDS)
 def test_a_command_that_gives_no_witness(command, told):
     with pytest.raises(StandbyError) as refused:
-        gathered([], [command], None)
+        highest_numbers([], [command], None)
     assert command in str(refused.value) and told in str(refused.value) and len(str(refused.value)) < 1000
 
 

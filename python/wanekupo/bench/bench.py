@@ -25,14 +25,15 @@ from wanekupo.seat.settings import Settings, changed, looking_station_of, statio
 from wanekupo.bench.endings import STOP, Ended, ended_by
 from wanekupo.common.errors import BadSettings
 from wanekupo.chips.espefuse import KeyFile
-from wanekupo.bench.bench_files import BenchFiles, now_text
-from wanekupo.bench.life import Life, steps_of
+from wanekupo.bench.bench_files import BenchFiles
+from wanekupo.common.moments import now_text
+from wanekupo.bench.life import Life, life_steps
 from wanekupo.bench.page import Page
 from wanekupo.bench.parts import part_of
 from wanekupo.common.printing import warn
 from wanekupo.bench.questions import Questions
 from wanekupo.bench.recipe import Recipe, recipe_of
-from wanekupo.bench.recipe_checks import faults_of
+from wanekupo.bench.recipe_checks import recipe_faults
 from wanekupo.seat.replies import Identity, Order
 from wanekupo.bench.scrap import Scrapping
 from wanekupo.bench.screen import Screen
@@ -72,7 +73,7 @@ class Bench:
         sockets = [_found_in(name, kept) for name in recipe.sockets]
         if kept.operator():
             station.operated_by(kept.operator())
-        words = recipe.name, recipe.order, sockets, recipe.start, kept.shift(), steps_of(recipe)
+        words = recipe.name, recipe.order, sockets, recipe.start, kept.shift(), life_steps(recipe)
         self.board = Board(*words, kept.operator() or station.operator(), kept.last_chips(MOST_LAST))
         self.board.under_way(kept.under_way())
         self.leaving = threading.Event()
@@ -358,7 +359,7 @@ def _found_in(name: str, kept: BenchFiles) -> Socket:
 # The command.
 
 
-def add_arguments(parser: argparse.ArgumentParser) -> None:
+def add_bench_words(parser: argparse.ArgumentParser) -> None:
     parser.add_argument("recipe", type=Path, metavar="RECIPE", help="the recipe's file")
     parser.add_argument("--port", type=int, help="the page's port on this machine, in place of the recipe's; 0 is any")
     parser.add_argument("--no-page", action="store_true", help="show no page, but the terminal alone")
@@ -383,7 +384,7 @@ def main(settings: Settings, arguments: argparse.Namespace) -> int:
     settings = settings_for(recipe, settings, vars(arguments))
     take(recipe.display.words)
     os.chdir(recipe.file.parent)  # from where the commands of sockets and hooks count
-    faults = faults_of(recipe, settings.spool)
+    faults = recipe_faults(recipe, settings.spool)
     if faults:
         warn(*(f"{recipe.file}: {fault}." for fault in faults), "No chip was begun: mend this, and start again.")
         return NOT_STARTED

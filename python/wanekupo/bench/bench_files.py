@@ -24,8 +24,9 @@ from typing import Any, Iterator, Mapping, Optional
 from wanekupo.bench.board import FAILED, PASSED, Before, Failure, ShiftCounts, Socket, state_of
 from wanekupo.bench.endings import ENDINGS, NO_LABEL, Ended
 from wanekupo.common.errors import BadStateFile
+from wanekupo.common.moments import now_text
 from wanekupo.common.files import locked, opened_lock, opened_own, removed_folder
-from wanekupo.common.files import replace_file, synced_folder, tested_folder
+from wanekupo.common.files import replace_file, sync, tested_folder
 from wanekupo.common.texts import compact_json
 
 
@@ -34,10 +35,6 @@ CHIP = re.compile("[0-9a-f]{12}")
 
 # Why a chip isn't at its first stay that another bench began; and how many that failed are known, the last ones.
 ELSEWHERE, MOST_BEFORE = "elsewhere", 1000
-
-
-def now_text() -> str:
-    return time.strftime("%Y-%m-%dT%H:%M:%SZ", time.gmtime())
 
 
 class BenchFiles:
@@ -195,7 +192,7 @@ class BenchFiles:
         folder = self._folder / "chips" / chip
         if not folder.is_dir():
             folder.mkdir(mode=0o700)
-            synced_folder(folder.parent)
+            sync(folder.parent)
         return folder
 
     def chips(self) -> list[str]:
@@ -302,9 +299,5 @@ def synced_files(folder: Path) -> None:
     """Syncs what a command left in a folder, so that a power cut doesn't take it."""
     for file in folder.iterdir():
         if file.is_file():
-            opened = os.open(file, os.O_RDONLY)
-            try:
-                os.fsync(opened)
-            finally:
-                os.close(opened)
-    synced_folder(folder)
+            sync(file)
+    sync(folder)

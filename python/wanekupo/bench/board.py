@@ -20,8 +20,8 @@ RESULTS = (PASSED, FAILED, LABEL)
 
 # Where a chip goes, by the effect of its ending, and by its name where that says more; else somebody is called.
 BOXES = {PASS: "green", RED: "red", AGAIN: "again"}
-OWN_BOXES = {NO_LABEL: "again", **dict.fromkeys(("no_serial", "gave_way"), "red")}
-OWN_BOXES |= dict.fromkeys(("shipped_before", "other_order", "no_dump"), "ask")
+OWN_BOXES = {NO_LABEL: "again", "no_serial": "red", "gave_way": "red"}
+OWN_BOXES |= {"shipped_before": "ask", "other_order": "ask", "no_dump": "ask"}
 
 # How many of the last chips are shown.
 MOST_LAST = 10
@@ -110,7 +110,7 @@ def state_of(ending: Ending) -> str:
 
 def box_of(ending: Ending) -> str:
     """Where the chip goes, as the words' table of boxes has it."""
-    return OWN_BOXES.get(ending.name) or BOXES.get(ending.effect, "call")
+    return OWN_BOXES.get(ending.name, BOXES.get(ending.effect, "call"))
 
 
 def ended_socket(name: str, ended: Ended, step: str, chip: str, serial: str, order: str, took: float = 0) -> Socket:

@@ -7,19 +7,19 @@ each command that may take minutes, as another chip may be there.
 
 from __future__ import annotations
 
-import os
 from pathlib import Path
 from typing import Any, Callable, Mapping, Optional, Protocol, Sequence, TypeVar
 
-from wanekupo.chips.chip import shows
+from wanekupo.chips.chip import shows_work
 from wanekupo.bench.endings import REFUSALS, Ended, ended_by
 from wanekupo.common.errors import Refused, StationError
 from wanekupo.chips.espefuse import KeyFile, wishes_of
 from wanekupo.chips.families import Blocks, Told, family_of
 from wanekupo.bench.hooks import HookResult, run_hook
 from wanekupo.bench.bench_files import BenchFiles, synced_files
+from wanekupo.common.files import PRIVATE, place_file
 from wanekupo.seat.keys import keep_csr, public_key_of
-from wanekupo.seat.records import addresses_of
+from wanekupo.seat.lot_records import addresses_of
 from wanekupo.bench.parts import Part
 from wanekupo.bench.recipe import RecipeCommand, Recipe, Wish
 from wanekupo.chips.layout import Layout, Place, places_of, wanted_of
@@ -54,7 +54,7 @@ def _shown(names: Sequence[str]) -> str:
     return ", ".join(names[:SHOWN_NAMES]) + (" .." if len(names) > SHOWN_NAMES else "")
 
 
-def steps_of(recipe: Recipe) -> list[str]:
+def life_steps(recipe: Recipe) -> list[str]:
     """The steps of a chip's life in their order, of which a chip may pass over those that it doesn't need."""
     keys = [it.command.name for it in recipe.wishes if it.command]
     burning = [f"{it} {batch}" for batch in (1, 2) for it in ("burn", "read back")] if recipe.wishes else []
@@ -245,7 +245,7 @@ class Life:
             blocks = self.part.read()
             if blocks.chip != self.chip:
                 raise Ended("other_chip")
-            if shows(blocks, work):
+            if shows_work(blocks, work):
                 break
         verdict = self._ask(Station.read_back, blocks)
         if verdict.outcome not in (*OUTCOMES, "match"):
@@ -301,8 +301,7 @@ class Life:
         self._run(command, {"KEY_FILE": str(new)})
         if not new.is_file() or new.stat().st_size != 32:
             raise Ended("no_key", detail=f"{command.name} left no file of 32 bytes at KEY_FILE")
-        os.chmod(new, 0o600)
-        os.replace(new, file)
+        place_file(new, file, PRIVATE)
         synced_files(file.parent)
 
     # The identity.

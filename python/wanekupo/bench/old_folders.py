@@ -8,7 +8,7 @@ from __future__ import annotations
 import sys
 
 from wanekupo.bench.bench_files import BenchFiles
-from wanekupo.common.printing import say
+from wanekupo.common.printing import print_shown
 from wanekupo.seat.station import Station
 
 DONE = 0
@@ -21,14 +21,15 @@ def clear_old(kept: BenchFiles, station: Station) -> int:
     known = {chip: station.find_device(chip) for chip in kept.chips() if chip not in begun}
     gone = [chip for chip, device in known.items() if device and device.state in GONE]
     others = len(known) - len(gone)
-    say(f"{len(gone)} folders are those of shipped and scrapped chips, with their keys; {others} others stay.\n")
+    told = f"{len(gone)} folders are those of shipped and scrapped chips, with their keys"
+    print_shown(f"{told}; {others} others stay.\n")
     if not gone:
         return DONE
-    say("Type yes to remove them for good: ")
+    print_shown("Type yes to remove them for good: ")
     sys.stdout.flush()
     if sys.stdin.readline().strip() != "yes":
-        say("Nothing is removed.\n")
+        print_shown("Nothing is removed.\n")
         return DONE
     kept.clear(*gone)
-    say("They are removed.\n")
+    print_shown("They are removed.\n")
     return DONE

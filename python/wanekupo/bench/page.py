@@ -66,7 +66,7 @@ class Handler(http.server.BaseHTTPRequestHandler):
             self._send(200, json.dumps(board.shown()).encode(), "application/json")
         elif path == "/words":
             display = self.server.bench.recipe.display
-            told = {**SAID, "inches": display.inches, "sound": display.sound}
+            told: dict[str, object] = {**SAID, "inches": display.inches, "sound": display.sound}
             self._send(200, json.dumps(told).encode(), "application/json")
         elif path in FILES:
             name, kind = FILES[path]
@@ -93,7 +93,7 @@ class Handler(http.server.BaseHTTPRequestHandler):
         """Whether the browser took this machine for what it asks, and asks for a page from here."""
         origin = self.headers.get("Origin")
         hosts = [f"{name}:{self.server.server_address[1]}" for name in (HOST, "localhost")]
-        named = self.headers.get_all("Host", [])
+        named: list[str] = self.headers.get_all("Host", [])
         is_here = len(named) == 1 and named[0] in hosts
         return is_here and origin in (None, *(f"http://{it}" for it in hosts))
 

@@ -3,13 +3,13 @@
 from __future__ import annotations
 
 import re
-import subprocess
 from typing import Mapping, Sequence, Union
 
 from wanekupo.bench.endings import Ended
 from wanekupo.chips.espefuse import Espefuse, KeyFile, NoFuses
 from wanekupo.chips.families import Told, family_of
 from wanekupo.chips.work import Work
+from wanekupo.common.process import run_command
 
 # The family of parts without fuses, and how many seconds a command has that prints a part's name.
 NO_FUSES, LONGEST_NAME = "none", 30
@@ -23,7 +23,8 @@ class NamedPart:
 
     def read(self) -> Told:
         try:
-            done = subprocess.run(self._tool, check=True, capture_output=True, text=True, timeout=LONGEST_NAME)
+            done = run_command(self._tool, LONGEST_NAME)
+            done.check_returncode()
         except OSError as error:
             raise Ended("no_tool", detail=f"{self._tool[0]}: {error.strerror}") from error
         name = re.sub("[:-]", "", done.stdout.strip().lower())

@@ -27,8 +27,11 @@ class Questions:
 
     def ask_for(self, text: str, call: Callable[[], None], left: str) -> None:
         """Asks whether something is to be done. `left` is said where it isn't."""
-        is_yes = lambda words: [it.lower() for it in words] == [YES]
-        self.ask(text, lambda words: call() if is_yes(words) else self._board.notice(left))
+
+        def take(words: Sequence[str]) -> None:
+            call() if [it.lower() for it in words] == [YES] else self._board.notice(left)
+
+        self.ask(text, take)
 
     def stands(self) -> bool:
         return self._taker is not None

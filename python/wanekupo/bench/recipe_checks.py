@@ -26,7 +26,7 @@ KNOWN, KEY_LENGTH = ("4", "5"), 32
 OTHERS = stat.S_IRWXG | stat.S_IRWXO
 
 
-def faults_of(recipe: Recipe, spool: Optional[Path]) -> list[str]:
+def recipe_faults(recipe: Recipe, spool: Optional[Path]) -> list[str]:
     """The faults of a recipe, of the files that it names, and of the folder for requests for certificates."""
     found = [*_map_faults(recipe), *_key_faults(recipe), *_command_faults(recipe), *_tool_faults(recipe)]
     if spool and not (spool.is_dir() and os.access(spool, os.W_OK | os.X_OK)):

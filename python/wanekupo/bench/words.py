@@ -45,7 +45,7 @@ def blanks_of(text: str) -> frozenset[str]:
     return frozenset(name for name, _, _ in found if name is not None)
 
 
-def read(file: Path) -> dict[str, Any]:
+def read_words(file: Path) -> dict[str, Any]:
     """The tables of a file, of which each text can be said."""
     try:
         tables = tomllib.loads(file.read_text(encoding="utf-8"))
@@ -78,7 +78,7 @@ def _test(file: Path, table: str, texts: Mapping[str, Any], english: Mapping[str
 
 def take(file: Path) -> None:
     """Has all that is said from here on in the words of a file."""
-    found = read(file)
+    found = read_words(file)
     for table in TABLES:
         SAID[table].update(found.get(table, {}))
     for name, (told, todo) in found.get("endings", {}).items():

@@ -10,11 +10,11 @@ from itertools import chain
 from typing import Iterable, Iterator, NamedTuple, Union
 
 from wanekupo.books.asked import asked_faults
-from wanekupo.books.clocks import Contradiction, Timed, ToCome, Window, contradictions, to_come, window_of
+from wanekupo.books.clocks import Contradiction, Timed, ToCome, Window, clock_contradictions, to_come, window_of
 from wanekupo.books.coherence import faults_of
 from wanekupo.books.given import given_twice
 from wanekupo.books.matches import Matched, Seated, matched, seated, steps_by_chip
-from wanekupo.books.numbers import Span, counts, spans_of, whole_customers
+from wanekupo.books.numbers import Span, begun_customers, counts, spans_of, whole_customers
 from wanekupo.books.once import twice
 from wanekupo.books.papers import papers, repeated, unasked
 from wanekupo.books.shift import Period
@@ -54,7 +54,7 @@ class Held:
 class Audit:
     """All of it. `bare` is how many entries outside of the period have no line and aren't found, `held_lines` how many
     lines of it there are, `parts` the customers of whose seats the journals lack the first number, `repeated` lines
-    that changed nothing."""
+    that changed nothing, and `replayed` what the program answered once more, in words."""
 
     period: Period
     found: list[Found] = field(default_factory=list)
@@ -66,10 +66,17 @@ class Audit:
     parts: list[str] = field(default_factory=list)
     held_lines: int = 0
     repeated: list[Step] = field(default_factory=list)
+    replayed: str = ""
+
+    def add(self, found: Iterable[Found]) -> None:
+        """Adds what was found, in the order of its times, each once."""
+        both = dict.fromkeys((*self.found, *found))
+        self.found = sorted(both, key=lambda it: (it.at, it.customer, it.chip, it.kind, it.told))
 
 
-def audit_of(store: Books, books: Iterable[Book], period: Period, now: str) -> Audit:
-    """Holds a store to the journals of its seats. `now` is the moment of the audit."""
+def audit_of(store: Books, books: Iterable[Book], period: Period, now: str, site: str = "") -> Audit:
+    """Holds a store to the journals of its seats. `now` is the moment of the audit, and `site` the SHA-256 of the
+    auditor's own file of the site, where he has one."""
     journals = [seated(book, store) for book in books]
     spans = spans_of(journals, store, period)
     audit, laid = Audit(period), Laid(store, period)
@@ -88,18 +95,21 @@ def audit_of(store: Books, books: Iterable[Book], period: Period, now: str) -> A
     audit.found += _out_of_turn(laid.pairs, store)
     whole, window = whole_customers(spans, store), window_of(laid.pairs, period)
     audit.found += laid.found()
-    audit.found += _left_faults(audit, laid, window, spans, lost, whole)
+    audit.found += _left_faults(audit, laid, window, spans, lost, begun_customers(spans, store))
     audit.found += _idle_faults(lost, counted, store)
     audit.found += [Found("numbers", it.at, it.customer, it.seat, "", told) for it in spans for told in it.faults]
     audit.found += [Found("journal", at, it.customer, it.seat, "", told) for it in spans for at, told in it.lost]
     audit.found += [Found(kind, at, customer, "", chip, told) for kind, at, customer, chip, told in twice(store)]
     rows = chain(papers(journals, store, period), unasked(journals, store, whole), given_twice(journals))
     audit.found += [Found(*it) for it in chain(rows, asked_faults(journals, store, laid.taken(), whole))]
+    if site not in ("", store.site):
+        told = f"the site's text isn't the given file: its SHA-256 is {store.site} in the store, and {site} of the file"
+        audit.found.append(Found("store", "", "", "", "", told))
     audit.parts = sorted({it.customer for it in store.seats.values() if it.last} - whole)
     audit.repeated = repeated(journals)
     audit.held = list(_held(journals, laid.lines, spans, store, period))
     audit.held_lines = sum(period.has(step.at) for it in journals for step in it.book.steps)
-    audit.found = sorted(dict.fromkeys(audit.found), key=lambda it: (it.at, it.customer, it.chip, it.kind, it.told))
+    audit.add(())
     return audit
 
 
@@ -187,16 +197,17 @@ class Unheld:
 
 
 def _left_faults(
-    audit: Audit, laid: Laid, window: Window, spans: Iterable[Span], lost: set[str], whole: set[str]
+    audit: Audit, laid: Laid, window: Window, spans: Iterable[Span], lost: set[str], begun: set[str]
 ) -> Iterator[Found]:
-    """The entries that are left over. A seat without a journal is told once. Of customers whose journals are `whole`
-    each counts; of others none that is outside of the period, or in front of the first line."""
-    inside = sum(audit.period.has(step.at) for _, step, *_ in chain(laid.pairs, laid.odd))
+    """The entries that are left over. A seat without a journal is told once. Of customers whose journals have `begun`
+    with number 1 each counts; of others none that is outside of the period, or in front of the first line."""
+    steps = chain((step for _, step, *_ in laid.pairs), (step for _, step, *_ in laid.odd))
+    inside = sum(audit.period.has(step.at) for step in steps)
     audit.entries, audit.outside = inside, len(laid.pairs) + len(laid.odd) - inside
     without: dict[tuple[str, str], int] = defaultdict(int)
     unheld = Unheld(laid.pairs, spans)
     for left in sorted(laid.left):
-        is_outside, is_whole = window.is_outside(left.id), left.customer in whole
+        is_outside, is_whole = window.is_outside(left.id), left.customer in begun
         if not is_whole and not is_outside and unheld.has(left):
             audit.unheld += 1
             continue
@@ -250,7 +261,7 @@ def _journal_faults(journals: Iterable[Seated], store: Books) -> Iterator[Found]
 def _clock_faults(journals: Iterable[Seated], pairs: list[Timed], period: Period, now: str) -> Iterator[Found]:
     """Times that can't be, told once for a file: where the first one is, what it contradicts, and how many more."""
     wrong: dict[str, dict[int, Union[Contradiction, ToCome]]] = defaultdict(dict)
-    for it in contradictions(pairs):
+    for it in clock_contradictions(pairs):
         if it.is_of(period):
             wrong[it.step.file][it.step.line] = it
     for own in journals:
@@ -325,7 +336,7 @@ def _held(
         both = sum(lines[file] for file in it.book.files)
         last = store.seats[it.seat].last if it.seat in store.seats else 0
         name = ", ".join(it.book.files)
-        bare = sum(step.status is None for step in it.book.steps)
+        bare = sum(not step.answered for step in it.book.steps)
         yield Held(it.customer, it.seat, name, it.known, count, both, bare, numbers.get(it.seat, ""), last)
     for name in sorted(_without_journal(journals, store)):
         it_seat = store.seats[name]

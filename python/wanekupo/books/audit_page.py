@@ -19,8 +19,8 @@ KINDS = {
     "device": "a device, its ledger and its record contradict each other: somebody wrote to the store by hand",
     "exchanged": "an entry is at another place in its ledger than its line in the journal",
     "import": "an imported serial number isn't in the store as the journal has it",
-    "journal": "a line is none, was changed, answers what isn't asked, has no reply, another's number or an earlier "
-    "time: get the journal anew",
+    "journal": "a line is none, was changed, answers what isn't asked, has no reply or one of another form, another's "
+    "number or an earlier time: get the journal anew",
     "late_copy": "a request that was refused was accepted later: look at what it did",
     "map": "a fuse map isn't in the store as it was imported, or can't be read here",
     "no_entry": "a station's step isn't in the store: the store is an older one, or an entry was taken away",
@@ -33,7 +33,9 @@ KINDS = {
     "other_note": "an entry says something else than its line",
     "other_seat": "an entry is under another seat than its line",
     "record": "a record isn't in the store as it was given, or isn't of its order or its issuer's customer",
-    "store": "rows that no server opens, or of a customer or a seat that the site doesn't have so",
+    "replay": "the program makes something else of the stations' lines than these or the store say",
+    "store": "rows that no server opens, or of a customer or a seat that the site doesn't have so, or another site's "
+    "text than the given file",
     "twice": "what is given but once stands twice, or was given to two chips",
 }
 
@@ -85,6 +87,8 @@ def counted(audit: Audit) -> str:
     if audit.repeated:
         said = f"{len(audit.repeated)} maps and imports were asked for again, which changes nothing"
         told = f"{told}. {said} (the first: {audit.repeated[0].place()})"
+    if audit.replayed:
+        told = f"{told}. {audit.replayed}"
     return f"{told}."
 
 

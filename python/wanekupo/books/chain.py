@@ -18,7 +18,7 @@ from typing import Iterable, Iterator, Optional
 
 from wanekupo.books.stamp import AGAIN, Service, is_near, moment_in
 from wanekupo.common.errors import StationError
-from wanekupo.common.files import PRIVATE, locked, opened_lock, replace_bytes, replaced, synced_folder, tested_folder
+from wanekupo.common.files import PRIVATE, locked, opened_lock, replace_bytes, replaced, sync, tested_folder
 from wanekupo.common.moments import moment_of
 from wanekupo.common.signing import Signer
 
@@ -144,9 +144,10 @@ class Chain:
         try:
             count, digest = self._write_rows(number, rows)
             seal = sealed(last, number, at, whose, count, digest)
-            replace_bytes(self.seal_file(number), f"{seal.line()}\n".encode(), READABLE)
+            line = f"{seal.line()}\n".encode()
+            replace_bytes(self.seal_file(number), line, READABLE)
             if signer:
-                signer.sign(self.seal_file(number))
+                signer.sign(self.seal_file(number), line)
             if service:
                 self._stamp(seal, service)
         except BaseException:
@@ -187,8 +188,8 @@ class Chain:
             folder.mkdir(mode=0o700)
             for file in files:
                 file.rename(folder / file.name)
-            synced_folder(folder)
-            synced_folder(self.folder)
+            sync(folder)
+            sync(self.folder)
 
     def _write_rows(self, number: int, rows: Iterable[str]) -> tuple[int, str]:
         """Writes the rows one after another; how many there are, and their digest."""

@@ -67,7 +67,7 @@ class Contradiction(NamedTuple):
         return times[1] >= period.start and times[0] < period.end
 
 
-def contradictions(pairs: Sequence[Timed]) -> Iterator[Contradiction]:
+def clock_contradictions(pairs: Sequence[Timed]) -> Iterator[Contradiction]:
     """The lines whose times contradict the longest run of lines whose times don't fall along the ids. Pairs come in the
     order of their ids, and so do these."""
     run = longest_run([begin_of(step) for _, step in pairs])
@@ -89,7 +89,7 @@ def begin_of(step: Step) -> str:
 
 
 def end_of(step: Step) -> str:
-    return step.answered if step.is_done() else NEVER
+    return (step.answered if step.is_done() else "") or NEVER
 
 
 def is_behind(at: str, other: str) -> bool:

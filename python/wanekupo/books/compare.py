@@ -11,7 +11,7 @@ from dataclasses import dataclass, field
 from typing import Any, Iterable, Iterator, Optional
 
 from wanekupo.books.coherence import faults_of
-from wanekupo.books.lines import BadRow, parts_of
+from wanekupo.books.lines import BadRow, line_parts
 from wanekupo.seat.states import LATER
 
 Members = dict[str, Any]
@@ -61,7 +61,7 @@ class Text:
             key = tuple(words)
             try:
                 if rows.get((kind, key)) != line:
-                    parts_of(line)
+                    line_parts(line)
             except BadRow as error:
                 made.bad.append(f"line {number} {error}")
                 continue
@@ -73,7 +73,7 @@ class Text:
         return made
 
     def members(self, key: Key) -> Members:
-        return parts_of(self.rows[key])[2]
+        return line_parts(self.rows[key])[2]
 
 
 def differences(before: Text, after: Text) -> Iterator[RowDifference]:

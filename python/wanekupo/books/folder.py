@@ -5,12 +5,8 @@ What was done is counted, so that nobody takes a test that had nothing to test f
 
 from __future__ import annotations
 
-import gzip
 import hashlib
-import io
-import os
 import re
-import zlib
 from dataclasses import dataclass, field
 from pathlib import Path
 from typing import Iterator, Optional
@@ -20,7 +16,7 @@ from wanekupo.books.compare import Text, contradictions, differences
 from wanekupo.books.shift import seconds_between
 from wanekupo.books.stamp import Service, is_near, moment_in, verified
 from wanekupo.common.errors import BadSettings
-from wanekupo.common.files import opened_plain
+from wanekupo.common.files import unpacked
 from wanekupo.common.sentences import sentence_of
 from wanekupo.common.signing import CMS, MINISIG, BadSignature, beside, verify
 
@@ -30,7 +26,6 @@ A_DAY = 25 * 3600
 # More bytes than a row has, and than the rows of a seal that a machine can compare.
 LONGEST_ROW, MOST_ROWS = 1 << 16, 2 << 30
 
-GZIP = b"\x1f\x8b"
 COMPRESSED = ".gz"
 
 # The files of a chain, and those of a seal behind its number.
@@ -72,9 +67,9 @@ def _counted(number: int, what: str) -> str:
     return f"{number} {what}" if number == 1 else f"{number} {what}s"
 
 
-def rows_of(name: Path) -> Text:
+def sealed_text(name: Path) -> Text:
     """The rows of a file of a seal, which may be compressed. A file in which no line is a row is another one."""
-    data = _bytes_of(name, MOST_ROWS)
+    data = unpacked(name, MOST_ROWS)
     if len(data) > MOST_ROWS:
         raise BadSettings(f"{name} has more than {MOST_ROWS >> 20} MB of rows", "Look who wrote it.")
     text = _text_of(data)
@@ -87,19 +82,6 @@ def rows_of(name: Path) -> Text:
 def _text_of(data: bytes, known: Optional[Text] = None) -> Text:
     lines = data.decode("ascii", "backslashreplace").split("\n")
     return Text.of(lines if lines[-1] else lines[:-1], known)
-
-
-def _bytes_of(file: Path, most: int) -> bytes:
-    """The bytes of a plain file of rows, of more than so many one more. What is compressed and damaged stays as it is:
-    a few bytes of it may be any number."""
-    with open(opened_plain(file, os.O_RDONLY, follows_links=True), "rb") as source:
-        data = source.read(most + 1)
-    if not data.startswith(GZIP):
-        return data
-    try:
-        return gzip.GzipFile(fileobj=io.BytesIO(data)).read(most + 1)
-    except (OSError, EOFError, zlib.error):
-        return data
 
 
 def sentences_of(before: Text, after: Text) -> list[str]:
@@ -137,8 +119,10 @@ def tested(chain: Chain, trusted: Trusted) -> Tested:
 
 
 def _gaps(seals: list[Seal]) -> Iterator[str]:
-    """The longest time between two seals, and that in front of the last one, where seals may have been taken away."""
-    pairs = [(seconds_between(before.at, seal.at), before, seal) for before, seal in zip(seals, seals[1:])]
+    """The longest time between two seals, and that in front of the last one, where seals may have been taken away. A
+    time that falls is found elsewhere, and is no time without a seal."""
+    both = [(before, seal) for before, seal in zip(seals, seals[1:]) if before.at <= seal.at]
+    pairs = [(seconds_between(before.at, seal.at), before, seal) for before, seal in both]
     if pairs and (longest := max(pairs, key=lambda it: it[0]))[0] > A_DAY:
         for said, (seconds, before, seal) in (("The longest time", longest), ("The last time", pairs[-1])):
             told = f"from {before.number:06} of {before.at} to {seal.number:06} of {seal.at}"
@@ -269,7 +253,7 @@ def _test_rows(chain: Chain, seals: list[Seal], made: Tested) -> None:
             made.missing.append(seal.number)
             continue
         most = min(MOST_ROWS, LONGEST_ROW * (seal.rows + 1))
-        data = [_bytes_of(it, most) for it in files]
+        data = [unpacked(it, most) for it in files]
         changed = [it for it, its in zip(files, data) if hashlib.sha256(its).hexdigest() != seal.text]
         large = {it for it, its in zip(files, data) if len(its) > most}
         told = f"has more than {most} bytes, and its seal is of {_counted(seal.rows, 'row')}"

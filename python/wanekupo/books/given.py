@@ -8,7 +8,7 @@ from typing import Iterable, Iterator, NamedTuple, Optional
 from wanekupo.books.matches import Seated, Told
 from wanekupo.books.papers import Row
 from wanekupo.books.steps import Step
-from wanekupo.seat.rows import rows_of
+from wanekupo.seat.import_rows import rows_of
 
 
 class GivenNumbers(NamedTuple):

@@ -130,7 +130,7 @@ FORMS: dict[str, Callable[[Any], bool]] = {
 }
 
 
-def parts_of(text: str) -> tuple[str, tuple[str, ...], dict[str, Any]]:
+def line_parts(text: str) -> tuple[str, tuple[str, ...], dict[str, Any]]:
     """The kind, the key and the members of a line, which has to be in the form in which `line` writes it."""
     head, brace, members = text.partition(" {")
     kind, *key = head.split(" ")

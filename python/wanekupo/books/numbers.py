@@ -6,6 +6,7 @@ that it had, the store was replaced by an older one, and a turn of the seat begi
 
 from __future__ import annotations
 
+import contextlib
 import heapq
 import json
 from bisect import bisect_left
@@ -14,11 +15,13 @@ from dataclasses import dataclass, field
 from itertools import accumulate
 from typing import Any, Iterable, Iterator, NamedTuple, Optional, Sequence, Union
 
-from wanekupo.books.clocks import longest_run
+from wanekupo.books.clocks import NEVER, is_behind, longest_run
 from wanekupo.books.matches import Seated
 from wanekupo.books.shift import Period
-from wanekupo.books.steps import Book, Step
+from wanekupo.books.steps import Book, Step, odd_members, part_text
 from wanekupo.books.store_rows import Books, StoredSeat
+from wanekupo.common.texts import compact_json
+from wanekupo.seat.journal_lines import form_fault
 
 
 @dataclass
@@ -37,25 +40,27 @@ class Span:
 
 class Turn(NamedTuple):
     """Where a seat's lines may go on with a number that they had: a person said so, or a journal begins. `digest` is
-    that of the journal's first request."""
+    that of the journal's next accepted request, where that has the number."""
 
     at: str
     number: int
     told: str
     digest: str
+    is_begin: bool = False
 
 
 def counts(it: Seated, step: Step, store: Books, period: Period) -> bool:
     """Whether the store has to have a line: not one that an older copy can't have. One of before the period counts
     where no older store took it away, and so does the first of a journal with the one behind it, as nothing contradicts
-    its time. One of behind the period counts as long as the store has its number."""
+    its time. One of behind the period counts as long as the store has its number. A line is of a period also where only
+    its reply is."""
     last = store.seats[it.seat].last if it.seat in store.seats else 0
     if step.turn > 0 or step.answered >= period.end and step.number > last:
         return False
     if step.at >= period.end:
         return step.turn == 0 and step.number <= last
     first = it.book.steps[:2]
-    return step.at >= period.start or not step.is_lost or (
+    return max(step.at, step.answered) >= period.start or not step.is_lost or (
         step is first[0] and first[-1].at >= period.start and first[-1].turn == step.turn
     )
 
@@ -66,6 +71,11 @@ def whole_customers(spans: Iterable[Span], store: Books) -> set[str]:
     whole = {it.seat for it in spans if it.first == 1}
     parts = {it.customer for it in store.seats.values() if it.last and it.name not in whole}
     return store.customers() - parts
+
+
+def begun_customers(spans: Iterable[Span], store: Books) -> set[str]:
+    """The same, whichever seats have no journal: an entry of theirs has no line, wherever it is."""
+    return store.customers() - {it.customer for it in spans if it.first != 1 and store.seats[it.seat].last}
 
 
 def spans_of(journals: Iterable[Seated], store: Books, period: Period) -> list[Span]:
@@ -81,54 +91,88 @@ def spans_of(journals: Iterable[Seated], store: Books, period: Period) -> list[S
 # Turns.
 
 
-# A line of a journal, or where a turn may begin, and the time by which it is laid among those of other journals.
-Laid = tuple[str, Union[Step, Turn]]
+# A line of a journal, or where a turn may begin, the time by which it is laid among those of other journals, and the
+# place of its journal.
+Laid = tuple[str, int, Union[Step, Turn]]
 
 
 def _lines_of(book: Book) -> Iterator[Union[Step, Turn]]:
     """A journal's lines, with where turns may begin."""
     marks: dict[int, list[Turn]] = defaultdict(list)
+    done = [(place, it) for place, it in enumerate(book.steps) if it.is_done()]
     for it in book.resynchronized:
-        marks[it.behind].append(Turn(it.at, it.number, f"line {it.line} of {it.file}", ""))
+        place = bisect_left(done, it.behind, key=lambda it: it[0])
+        step = done[place][1] if place < len(done) else None
+        digest = step.digest if step and step.number == it.number else ""
+        marks[it.behind].append(Turn(it.at, it.number, f"line {it.line} of {it.file}", digest))
     if book.steps and book.steps[0].is_done():
         step = book.steps[0]
-        marks[0].append(Turn(step.at, step.number, step.place(), step.digest))
+        marks[0].append(Turn(step.at, step.number, step.place(), step.digest, True))
     for place, step in enumerate(book.steps):
         yield from marks.pop(place, ())
         yield step
     yield from marks.pop(len(book.steps), ())
 
 
-def _laid(book: Book) -> list[Laid]:
+def _laid(own: tuple[int, Book]) -> list[Laid]:
     """The same with their times. That of a line that contradicts most others is the time of one in front, so that times
     never fall."""
-    lines = list(_lines_of(book))
+    lines = list(_lines_of(own[1]))
     run = longest_run([it.at for it in lines])
     found, at = list[Laid](), next((it.at for it, is_sure in zip(lines, run) if is_sure), "")
     for it, is_sure in zip(lines, run):
         at = it.at if is_sure else at
-        found.append((at, it))
+        found.append((at, own[0], it))
     return found
 
 
+class Since:
+    """What was accepted since a seat's turn began: the requests of each number, the greatest number of each journal,
+    and the greatest up to each time; and which numbers have a line without a reply."""
+
+    def __init__(self) -> None:
+        self._digests: dict[int, set[str]] = defaultdict(set)
+        self._unanswered: set[int] = set()
+        self._of_journals: dict[int, int] = {}
+        self._times: list[str] = []
+        self._most: list[int] = []
+
+    def take(self, at: str, journal: int, step: Step) -> None:
+        if step.status is None:
+            self._unanswered.add(step.number)
+        if step.is_done():
+            self._digests[step.number].add(step.digest)
+            self._of_journals[journal] = max(self._of_journals.get(journal, step.number), step.number)
+            self._times.append(at)
+            self._most.append(max([step.number, *self._most[-1:]]))
+
+    def ends_at(self, at: str, journal: int, turn: Turn) -> bool:
+        """Whether the store is an older one there: a line goes on with a number that its journal has, or that was given
+        to another request. A number that no other line has was given there for the first time, whatever the clocks say;
+        else these count, as far as clocks may differ."""
+        same = self._digests.get(turn.number, set())
+        if turn.digest and len(same) > (turn.digest in same):
+            return True
+        if turn.is_begin or self._of_journals.get(journal, turn.number - 1) >= turn.number:
+            return not turn.is_begin
+        if turn.digest and not same and turn.number not in self._unanswered:
+            return False
+        count = bisect_left(self._times, True, key=lambda it: not is_behind(at, it))
+        return count > 0 and self._most[count - 1] >= turn.number
+
+
 def _in_turns(books: Sequence[Book]) -> tuple[list[Turn], list[Step]]:
-    """Where the store became an older one, and the lines of all journals of a seat, each with its turn: by one pass
-    over them in the order of time. A store is an older one where a line goes on with a number that was accepted since
-    the turn before; where a journal begins, with one that was another request."""
-    turns, steps = list[Turn](), list[Step]()
-    most, digests = float("-inf"), defaultdict[int, set[str]](set)
-    for _, it in heapq.merge(*map(_laid, books), key=lambda it: it[0]):
+    """Where the store became an older one, and the lines of all journals of a seat, each with its turn, by one pass
+    over them in the order of time."""
+    turns, steps, since = list[Turn](), list[Step](), Since()
+    for at, journal, it in heapq.merge(*map(_laid, enumerate(books)), key=lambda it: it[0]):
         if isinstance(it, Step):
             it.turn = len(turns)
             steps.append(it)
-            if it.is_done():
-                most = max(most, it.number)
-                digests[it.number].add(it.digest)
-            continue
-        same = digests.get(it.number, set())
-        if len(same) > (it.digest in same) if it.digest else most >= it.number:
+            since.take(at, journal, it)
+        elif since.ends_at(at, journal, it):
             turns.append(it)
-            most, digests = float("-inf"), defaultdict(set)
+            since = Since()
     return turns, steps
 
 
@@ -149,6 +193,25 @@ def _in_order(seat: StoredSeat, books: Sequence[Book], period: Period) -> tuple[
     for step in steps:
         step.turn -= own
     return sorted(steps, key=lambda it: (it.turn, it.number)), turns[:own]
+
+
+def _take_kept(seat: StoredSeat, steps: Sequence[Step]) -> None:
+    """A seat's last request whose line has no reply gets the one that the store keeps, as its station would."""
+    lines = [it for it in steps if it.turn == 0 and (it.number, it.digest) == (seat.last, seat.digest)]
+    bare = [it for it in lines if it.status is None]
+    if bare and not any(map(Step.is_done, lines)):
+        kept = _kept(seat) or {}
+        bare[-1].status, bare[-1].reply = 200, {} if odd_members(bare[-1].path, kept) else kept
+
+
+def _kept(seat: StoredSeat) -> Optional[dict[str, Any]]:
+    """The reply that the store keeps, where it is written as the server writes one, and has the form of a line's."""
+    with contextlib.suppress(ValueError, RecursionError):
+        reply: dict[str, Any] = json.loads(seat.reply)
+        line = {"at": NEVER, "nr": seat.last, "status": 200, "reply": reply}
+        if compact_json(reply, sort_keys=True) == seat.reply and not form_fault(line):
+            return reply
+    return None
 
 
 def _settle(seat: StoredSeat, steps: Sequence[Step], turns: Sequence[Turn], span: Span) -> set[int]:
@@ -184,6 +247,7 @@ def _span_of(seat: StoredSeat, books: list[Book], period: Period) -> Span:
     span = Span(seat.name, seat.customer, "")
     books = sorted(books, key=lambda it: it.times[:1])
     steps, turns = _in_order(seat, books, period)
+    _take_kept(seat, steps)
     gone = _settle(seat, steps, turns, span)
     begun = {id(book.steps[0]) for book in books if book.steps}
     for book in books:
@@ -258,7 +322,7 @@ def _end_fault(seat: StoredSeat, span: Span, own: list[Step], asked: int, period
     if seat.last > asked:
         return f"{_named(asked + 1, seat.last)} no line, behind {span.at}: the journal lacks its end, or a foreign hand"
     done = (it for it in own if it.is_done() and it.number > seat.last)
-    unknown = next((it for it in done if period.has(it.at) and it.answered < period.end), None)
+    unknown = next((it for it in done if period.start <= max(it.at, it.answered) < period.end), None)
     if unknown:
         told = f"the store's number is {seat.last}, and {unknown.place()}, number {unknown.number}, was accepted"
         return f"{told} at {unknown.at}: this is an older store"
@@ -271,16 +335,10 @@ def _last_fault(seat: StoredSeat, steps: list[Step]) -> Optional[str]:
     lines = [it for it in lines if it.turn == lines[-1].turn]
     if lines and all(it.digest != seat.digest for it in lines):
         return f"the store's last request, number {seat.last}, isn't that of {lines[-1].place()}"
-    done = [it for it in lines if it.is_done()]
-    if done and not _has(seat.reply, done[-1].reply):
-        return f"the reply that the store keeps of number {seat.last} isn't that of {done[-1].place()}"
-    return None
-
-
-def _has(text: str, reply: dict[str, Any]) -> bool:
-    """Whether a reply's text has these members."""
-    try:
-        kept = json.loads(text)
-    except (ValueError, RecursionError):
-        return False
-    return isinstance(kept, dict) and all(kept.get(name) == it for name, it in reply.items())
+    done, kept = [it for it in lines if it.is_done()], _kept(seat)
+    if not done:
+        return None
+    odd, told = odd_members(done[-1].path, kept or {}), f"the reply that the store keeps of number {seat.last} isn't"
+    if kept and not all(it in (kept.get(name), part_text(kept.get(name))) for name, it in done[-1].reply.items()):
+        return f"{told} that of {done[-1].place()}"
+    return f"{told} as a server writes it{f': {odd}' if kept else ''}" if odd or not kept else None

@@ -90,7 +90,7 @@ def _jumps(store: Books) -> Iterator[Row]:
     last: dict[tuple[str, str], tuple[int, str]] = {}
     for customer, name, chip, serial in store.identified():
         order = store.orders.get((customer, name))
-        place = _place_of(order, serial) if order else None
+        place = place_of(order, serial) if order else None
         if place is None:
             continue
         before = last.setdefault((customer, name), (place, serial))
@@ -99,7 +99,7 @@ def _jumps(store: Books) -> Iterator[Row]:
         last[customer, name] = max(before, (place, serial))
     for (customer, name), (place, serial) in last.items():
         free = store.next_of(store.orders[customer, name])
-        if free and (_place_of(store.orders[customer, name], free) or 0) < place:
+        if free and (place_of(store.orders[customer, name], free) or 0) < place:
             yield "order", "", customer, "", f"the order {name} gave {serial}, and {free} is free"
 
 
@@ -172,6 +172,7 @@ def _strangers(store: Books) -> Iterator[Row]:
 
 def _map_faults(store: Books) -> Iterator[Row]:
     """Maps whose text isn't that of their digest, or can't be read."""
+    yield from (("map", "", "", "", told) for told in store.odd_maps())
     for customer, told in store.unread_maps():
         yield "map", "", customer, "", told
     for customer, digest, text in store.maps:
@@ -181,7 +182,7 @@ def _map_faults(store: Books) -> Iterator[Row]:
 
 def _place_faults(record: dict[str, Any], order: dict[str, Any]) -> Iterator[str]:
     """What of a record isn't as its order has it."""
-    place = _place_of(order, record["serial"])
+    place = place_of(order, record["serial"])
     if place is None or record["issuer"] != order["issuer"]:
         yield f"the serial number {record['serial']} of {record['issuer']} isn't of its order {order['name']}"
         return
@@ -194,7 +195,7 @@ def _place_faults(record: dict[str, Any], order: dict[str, Any]) -> Iterator[str
         yield f"the record of {record['serial']} begins at {record['not_before']}, its order {order['not_before']}"
 
 
-def _place_of(order: dict[str, Any], serial: str) -> Optional[int]:
+def place_of(order: dict[str, Any], serial: str) -> Optional[int]:
     """Which number of an order a serial number is, from 0 on."""
     digits = serial.removeprefix(order["prefix"])
     if not digits.isdecimal():

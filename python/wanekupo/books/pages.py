@@ -171,6 +171,9 @@ def bars(rows: Mapping[str, Mapping[str, int]]) -> str:
     return "\n".join([*parts, "</svg>"])
 
 
-def write(file: Path, written: str) -> None:
-    """Writes a page or a table: whole or not at all, for others to read. What isn't ASCII stands in UTF-8."""
-    replace_bytes(file, written.encode("utf-8", "backslashreplace"), READABLE)
+def write(file: Path, written: str) -> bytes:
+    """Writes a page or a table: whole or not at all, for others to read. What isn't ASCII stands in UTF-8. Gives what
+    was written."""
+    data = written.encode("utf-8", "backslashreplace")
+    replace_bytes(file, data, READABLE)
+    return data

@@ -3,17 +3,15 @@
 from __future__ import annotations
 
 import contextlib
-import json
 from collections import defaultdict
-from dataclasses import replace
 from typing import Any, Callable, Iterable, Iterator, Mapping
 
 from wanekupo.books.matches import Seated
 from wanekupo.books.numbers import counts
 from wanekupo.books.shift import Period
 from wanekupo.books.steps import Step
-from wanekupo.books.store_rows import Books, StoredSeat
-from wanekupo.seat.rows import rows_of
+from wanekupo.books.store_rows import Books
+from wanekupo.seat.import_rows import rows_of
 
 # The kind, the time, the customer, the seat, the chip, and what it is in words.
 Row = tuple[str, str, str, str, str, str]
@@ -31,17 +29,8 @@ def papers(journals: Iterable[Seated], store: Books, period: Period) -> Iterator
             judge = JUDGES.get(step.path)
             is_done = step.is_done() or step.is_stored
             if judge and is_done and it.seat in store.seats and counts(it, step, store, period):
-                for kind, told in judge(it, _kept(step, store.seats[it.seat]), store):
+                for kind, told in judge(it, step, store):
                     yield kind, step.at, it.customer, it.seat, step.chip, f"{told} ({step.place()})"
-
-
-def _kept(step: Step, seat: StoredSeat) -> Step:
-    """A seat's last line with the reply that the store keeps for it, where it has none: its station gets that one."""
-    if step.status is None and (step.number, step.digest) == (seat.last, seat.digest):
-        with contextlib.suppress(ValueError, RecursionError):
-            reply = json.loads(seat.reply)
-            return replace(step, status=200, reply=reply if isinstance(reply, dict) else {})
-    return step
 
 
 def unasked(journals: Iterable[Seated], store: Books, whole: set[str]) -> Iterator[Row]:
@@ -51,7 +40,7 @@ def unasked(journals: Iterable[Seated], store: Books, whole: set[str]) -> Iterat
     for it in journals:
         for step in it.book.steps:
             if step.status in (None, 200) and not step.is_lost:
-                asked.update((it.customer, step.path, *name) for name in _names_of(step))
+                asked.update((it.customer, step.path, *name) for name in given_names(step))
     for customer, name in store.orders:
         if customer in whole and (customer, "/v1/order", *_order_words(store.orders[customer, name])) not in asked:
             yield "order", "", customer, "", "", f"no line asked for the order {name} as it is"
@@ -73,7 +62,7 @@ def repeated(journals: Iterable[Seated]) -> list[Step]:
     for it in journals:
         for step in it.book.steps:
             if step.path in ("/v1/map", "/v1/import") and (step.is_stored or step.is_either and step.status is None):
-                names = {(step.path, *name) for name in _names_of(step)}
+                names = {(step.path, *name) for name in given_names(step)}
                 found += [step] if names <= known[it.seat] else []
                 known[it.seat] |= names
     return found
@@ -85,7 +74,7 @@ def is_there(it: Seated, step: Step, store: Books) -> bool:
     return step.path != "/v1/identity" and judge is not None and not any(judge(it, step, store))
 
 
-def _names_of(step: Step) -> Iterator[tuple[str, ...]]:
+def given_names(step: Step) -> Iterator[tuple[str, ...]]:
     """What an order, a map or an import asks to be there; nothing of another request."""
     if step.path == "/v1/order":
         yield _order_words(step.asked)
@@ -133,6 +122,8 @@ def _map(it: Seated, step: Step, store: Books) -> Iterator[tuple[str, str]]:
     digest = step.digest_of_text()
     if (it.customer, digest, digest) not in store.maps:
         yield "map", f"the map {digest} isn't in the store as it was imported"
+    if step.is_done() and step.reply.get("map") != digest:
+        yield "map", f"its digest is {digest}, and its reply says {step.reply.get('map')}"
 
 
 def _import(it: Seated, step: Step, store: Books) -> Iterator[tuple[str, str]]:
@@ -142,7 +133,7 @@ def _import(it: Seated, step: Step, store: Books) -> Iterator[tuple[str, str]]:
     except ValueError as error:
         yield "import", f"what was imported for {issuer} can't be read: {error}"
         return
-    counted = step.reply.get("added"), step.reply.get("present")
+    counted: tuple[Any, Any] = step.reply.get("added"), step.reply.get("present")
     is_count = all(type(count) is int and count >= 0 for count in counted)
     if step.is_done() and not (is_count and sum(counted) == len(rows)):
         yield "import", f"{len(rows)} rows were imported for {issuer}, and the reply has {counted[0]} and {counted[1]}"

@@ -7,8 +7,9 @@ from __future__ import annotations
 
 import re
 from itertools import groupby
-from typing import Any, Iterable, Iterator, Sequence
+from typing import Any, Callable, Iterable, Iterator, NamedTuple, Sequence
 
+from wanekupo.books.matches import Told
 from wanekupo.books.store_rows import Books
 
 Row = dict[str, Any]
@@ -82,3 +83,49 @@ def _misplaced(orders: Iterable[Row], pools: Sequence[Block]) -> Iterator[tuple[
         room, free = max((room, free), (first + length - end, end))
     for start, _, name in left:
         yield name, f"has the addresses from {start:012x} on, which no pool of its customer has"
+
+
+# The order in which orders were made, by their lines.
+
+
+class Drawn(NamedTuple):
+    """An order with addresses: its first one, how many it has, its name, and its line."""
+
+    start: int
+    size: int
+    name: str
+    line: Told
+
+
+# Whether a line was surely done behind another one.
+IsBehind = Callable[[Told, Told], bool]
+
+
+def drawn_faults(orders: Iterable[Drawn], pools: Sequence[Block], is_behind: IsBehind) -> Iterator[tuple[Told, str]]:
+    """Orders whose addresses were drawn in another order than their lines were asked: those of a pool follow each
+    other, and each order is of the first pool that had room then."""
+    passed: list[tuple[int, list[Drawn]]] = []  # of the pools in front what is left, and their orders
+    left = sorted(orders, key=lambda it: it.start)
+    for first, length in pools:
+        own, last = [it for it in left if first <= it.start < first + length], dict[str, Drawn]()
+        for it in own:
+            seat = it.line[0].seat
+            for other in last.values():
+                if is_behind(other.line, it.line):
+                    yield it.line, f"the order {it.name} has addresses behind those of the later {other.name}"
+            last[seat] = it if seat not in last or is_behind(it.line, last[seat].line) else last[seat]
+            if any(_had_room(room, it, its, is_behind) for room, its in passed):
+                yield it.line, f"the order {it.name} has the address {it.start:012x}, and a pool before had room"
+        passed.append((first + length - max((it.start + it.size for it in own), default=first), own))
+
+
+def _had_room(room: int, order: Drawn, others: Sequence[Drawn], is_behind: IsBehind) -> bool:
+    """Whether an order had room in a pool, of which so many addresses are left, without those that came later. Where
+    these are enough that is told of the pools alone."""
+    if room >= order.size:
+        return False
+    for it in reversed(others):
+        if room >= order.size or not is_behind(it.line, order.line):
+            break
+        room += it.size
+    return room >= order.size

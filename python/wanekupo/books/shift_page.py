@@ -27,7 +27,7 @@ FIRST = "First: shipped, each read-back matched at once, and no stay at a bench 
 NO_REST = "Not asked: give --left, and this says what the next shift runs out of."
 
 
-def tables(shift: ShiftReport, rests: Optional[Sequence[Rest]]) -> list[Table]:
+def shift_tables(shift: ShiftReport, rests: Optional[Sequence[Rest]]) -> list[Table]:
     """All tables, by the names of their files."""
     lost = [(it.at, it.customer, it.station, it.operator, it.order, it.chip, it.reason) for it in shift.lost]
     under_way = [(it.customer, it.order, it.chip, it.state, it.since, it.station) for it in shift.under_way]

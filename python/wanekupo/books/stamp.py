@@ -78,7 +78,7 @@ def verified(reply: Path, digest: str, service: Service) -> bool:
         moment = moment_of(moment_in(reply)) if reply.exists() else None
     except (NotTheServer, ValueError):
         return False
-    return bool(moment) and service.is_verified(reply, "-digest", digest, "-attime", f"{moment.timestamp():.0f}")
+    return moment is not None and service.is_verified(reply, "-digest", digest, "-attime", f"{moment.timestamp():.0f}")
 
 
 def moment_in(reply: Path) -> str:

@@ -8,14 +8,18 @@ from __future__ import annotations
 
 import contextlib
 import hashlib
+import io
 import sys
 from dataclasses import dataclass, field
 from pathlib import Path
 from typing import Any, Iterable, Iterator, Optional, Union
 
 from wanekupo.common.errors import BadJournal, StationError
+from wanekupo.seat.forms import REPLIES, wrong_in
 from wanekupo.seat.journal import journals_of, named_members, request_digest, seat_named, whole_digest
-from wanekupo.seat.journal_lines import MOST, MOST_LINES, Folders, Name, journals_below, lines_of, stations_folders
+from wanekupo.seat.journal_lines import MOST, MOST_LINES, Folders, Line, Name, journals_below, lines_in, lines_of
+from wanekupo.seat.journal_lines import PACKED, SUFFIX, stations_folders
+from wanekupo.common.files import GZIP, unpacked
 from wanekupo.common.moments import moment_of
 from wanekupo.common.texts import brief, compact_json
 
@@ -24,6 +28,9 @@ SET_BACK = 60
 
 # How many faulty lines of a journal are told by who doesn't judge it.
 MOST_TOLD = 5
+
+# How the names of journals end that are read here: older ones may be compressed.
+ENDINGS = (SUFFIX, SUFFIX + PACKED)
 
 # The paths of the steps of a device, with the events that they are in its ledger.
 EVENTS = {
@@ -38,12 +45,25 @@ EVENTS = {
 # The paths of all requests that change something.
 PATHS = frozenset((*EVENTS, "/v1/order", "/v1/map", "/v1/import"))
 
+# What the reply to a registration has: nothing was planned yet.
+NEW: dict[str, Any] = {"reason": None, "serial": None, "state": "registered"}
+NEW["pending"] = {name: {"bits": [], "keys": {}} for name in ("batch1", "batch2")}
+
 # Of what such a step asks, and of its reply, what is looked at.
 ASKED = frozenset(("nr", "chip", "order", "map", "wishes", "blocks"))
 REPLIED = frozenset(("chip", "state", "outcome", "serial", "order", "map", "no", "error", "expected"))
 
 # Of its reply what is kept as its text: what is burnt, or is to be burnt.
 WORKS = frozenset(("bits", "keys", "batch1", "batch2", "rest"))
+
+
+def odd_members(path: str, reply: dict[str, Any]) -> str:
+    """The names of the members that the reply to an accepted request lacks, has in another form, or has beside those of
+    docs/reference/api.md."""
+    forms = REPLIES[path] if path in PATHS else {}
+    new = NEW if path == "/v1/device" else {}
+    odd = {*wrong_in(reply, forms), *(name for name in new if reply.get(name, new[name]) != new[name])}
+    return ", ".join(sorted(odd | (reply.keys() - forms.keys() if forms else set())))
 
 
 def _once(it: Any) -> Any:
@@ -55,10 +75,10 @@ def _once(it: Any) -> Any:
     return sys.intern(it) if isinstance(it, str) else it
 
 
-def _text_of(it: Any) -> str:
+def part_text(it: Any) -> str:
     """A part of a reply as its text, which is in memory but once; of one that nests too deep that of no part."""
     try:
-        return sys.intern(compact_json(it))
+        return sys.intern(compact_json(it, sort_keys=True))
     except (ValueError, RecursionError):
         return "0"
 
@@ -68,7 +88,8 @@ class Step:
     """A request of a journal with the place of its line, when it was asked and answered, and what the reply was.
     Without a status its reply never came. `reason` is why a chip was scrapped, where the station knew it. The last ones
     are an audit's: a turn of its seat, whether the store is surely one without it, or with it, or with it or another
-    line of its number, and when it was first asked where it stands there more than once."""
+    line of its number, when it was first asked where it stands there more than once, and which members of its reply
+    aren't the server's."""
 
     file: str
     line: int
@@ -87,6 +108,7 @@ class Step:
     is_stored: bool = True
     is_either: bool = False
     since: str = ""
+    odd: str = ""
 
     @property
     def number(self) -> int:
@@ -115,7 +137,7 @@ class Step:
         """Leaves away what nobody asks for of a step but an identity: journals are long."""
         if self.event not in ("", "identified"):
             self.asked = {name: _once(it) for name, it in self.asked.items() if name in ASKED}
-            works = {name: _text_of(self.reply[name]) for name in WORKS & self.reply.keys()}
+            works = {name: part_text(self.reply[name]) for name in WORKS & self.reply.keys()}
             self.reply = {**{name: it for name, it in self.reply.items() if name in REPLIED}, **works}
 
     def is_done(self) -> bool:
@@ -201,6 +223,7 @@ def _answered(last: Optional[Step], line: Members) -> str:
         is_other = line["status"] == 200 and line["reply"] != last.reply
         return f"answers number {line['nr']} otherwise than before" if is_other else ""
     last.answered, last.status, last.reply = line["at"], line["status"], line["reply"]
+    last.odd = odd_members(last.path, last.reply) if last.is_done() else ""
     return f"accepts {last.path}, which the server doesn't have" if last.is_done() and last.path not in PATHS else ""
 
 
@@ -267,6 +290,16 @@ class Room:
             raise BadJournal(told, "Look whether they are their station's, and move old days away.")
 
 
+def _lines_of(path: Path, follows_links: bool, room: Room) -> Iterable[Line]:
+    """The lines of a file, which may be compressed. One that can't be read to its end is a fault, and has none."""
+    if path.suffix != PACKED:
+        return lines_of(path, follows_links=follows_links)
+    data = unpacked(path, room.bytes, follows_links)
+    if len(data) > room.bytes:
+        room.take(path, len(data))
+    return [Line(0, 0, fault="is no whole file of gzip")] if data.startswith(GZIP) else lines_in(io.BytesIO(data))
+
+
 def book_of(files: Iterable[Path], seats: Optional[frozenset[str]] = None, room: Optional[Room] = None) -> Book:
     """A journal of one seat, in the order of its files. Where it is known which seats it may be of a line of another
     one doesn't count, and the first one of a file is told."""
@@ -274,7 +307,7 @@ def book_of(files: Iterable[Path], seats: Optional[frozenset[str]] = None, room:
     book, told = Book([str(it) for it in paths]), set[tuple[Path, str]]()
     for path in paths:
         last, end = "", 0
-        for line in lines_of(path, follows_links=seats is None):
+        for line in _lines_of(path, seats is None, room):
             room.take(path, line.end - end)
             end = line.end
             if fault := line.fault or _others(line.members, path, seats):
@@ -289,7 +322,7 @@ def book_of(files: Iterable[Path], seats: Optional[frozenset[str]] = None, room:
 
 def books_of(names: Iterable[Name]) -> list[Book]:
     """The journals that files and folders are."""
-    return [book_of(files) for files in journals_of(names)]
+    return [book_of(files) for files in journals_of(names, endings=ENDINGS)]
 
 
 def shipped_books(path: Path, folders: Folders) -> Iterator[Book]:
@@ -298,7 +331,7 @@ def shipped_books(path: Path, folders: Folders) -> Iterator[Book]:
     for it in stations_folders(path, folders):
         room = Room()
         try:
-            for group in journals_of(journals_below(it), is_shipped=True):
+            for group in journals_of(journals_below(it, ENDINGS), is_shipped=True):
                 yield book_of(group, folders[it.name], room)
         except (StationError, OSError) as error:
             yield Book([str(it)], faults=[JournalFault(str(it), 0, "", f"isn't read to its end: {error}")])

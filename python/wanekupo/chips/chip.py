@@ -47,7 +47,7 @@ def chip_of(blocks: Blocks) -> str:
     return mac.hex()
 
 
-def checked(chip: str, blocks: Blocks) -> Blocks:
+def checked_blocks(chip: str, blocks: Blocks) -> Blocks:
     """The same blocks, where they are this chip's: those of another, or misread ones, would quarantine it for good."""
     if chip_of(blocks) != chip:
         raise ValueError(f"this is the chip {chip_of(blocks)}, and not {chip}")
@@ -61,7 +61,7 @@ def redacted(members: Mapping[str, Any]) -> dict[str, Any]:
     return {**members, "blocks": [hashlib.sha256(bytes_of(block)).hexdigest() for block in members["blocks"]]}
 
 
-def shows(blocks: Blocks, work: Work) -> bool:
+def shows_work(blocks: Blocks, work: Work) -> bool:
     """Whether a chip shows all bits and keys of a batch."""
     digests = {hashlib.sha256(bytes_of(block)).hexdigest() for block in blocks}
     bits = all(int(blocks[it.block][it.word], 16) & it.mask == it.mask for it in work.bits)

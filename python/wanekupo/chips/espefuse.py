@@ -21,6 +21,7 @@ from pathlib import Path
 from typing import Any, Iterator, Mapping, Optional, Protocol, Sequence
 
 from wanekupo.common.errors import StationError
+from wanekupo.common.process import run_command
 from wanekupo.chips.families import VERSION, Blocks, Dump, Family, Told, bytes_of, dump_of, family_of, reversed_names
 from wanekupo.chips.work import Work
 from wanekupo.common.texts import shown, without_secrets
@@ -158,9 +159,8 @@ def _major(version: str) -> int:
 
 def _ran(words: Sequence[str], files: Sequence[int] = ()) -> str:
     """What espefuse prints. Nobody is asked anything, and no error has its output, in which a key may be."""
-    options = {"stdin": subprocess.DEVNULL, "capture_output": True, "text": True, "errors": "replace"}
     try:
-        done = subprocess.run(list(words), pass_fds=files, timeout=LONGEST, **options)  # type: ignore[call-overload]
+        done = run_command(words, LONGEST, handles=files)
     except subprocess.TimeoutExpired as late:
         said = b"".join(it if isinstance(it, bytes) else b"" for it in (late.stdout, late.stderr))
         failed = EspefuseFailed(f"espefuse took more than {LONGEST} seconds", LOOK)
@@ -242,7 +242,7 @@ def _in_memory(contents: Sequence[bytes]) -> Iterator[list[int]]:
         yield files
 
 
-def steps_of(work: Work, shown_by: Dump, keys: Mapping[str, KeyFile]) -> list[EspefuseCommand]:
+def burn_commands(work: Work, shown_by: Dump, keys: Mapping[str, KeyFile]) -> list[EspefuseCommand]:
     """The commands that burn what of a batch a chip doesn't show yet, keys first and block 0 last."""
     family = shown_by.family
     found = [_key_step(shown_by, field, digest, keys.get(field)) for field, digest in work.keys.items()]
@@ -307,7 +307,7 @@ def typed_lines(tool: Sequence[str], family: Family, work: Work, keys: Mapping[s
         version = "4"
     is_five = _major(version) == 5
     blank = Dump(family, {number: ("00000000",) * count for number, count in family.words.items()})
-    return [_typed(over_family(tool, family), it, is_five) for it in steps_of(work, blank, keys)]
+    return [_typed(over_family(tool, family), it, is_five) for it in burn_commands(work, blank, keys)]
 
 
 def _typed(tool: Sequence[str], step: EspefuseCommand, is_five: bool) -> str:
@@ -381,7 +381,7 @@ class Espefuse:
     def burn(self, work: Work) -> None:
         """Burns what of a batch isn't there yet, so that this may be done again."""
         dump = self._last or self.dump()
-        steps = steps_of(work, dump, self.keys)
+        steps = burn_commands(work, dump, self.keys)
         if not steps:
             return
         if _major(dump.version) == 4:

@@ -11,16 +11,18 @@ from wanekupo.books.audit import audit_of
 from wanekupo.books.audit_page import as_html, as_text, found_table
 from wanekupo.books.matches import seated
 from wanekupo.books.pages import write
+from wanekupo.books.program import program_named
+from wanekupo.books.replay import ask_again
 from wanekupo.books.shift import Period, period_of
 from wanekupo.books.steps import Book, books_of, shipped_books
 from wanekupo.books.store import StoreCopy
 from wanekupo.books.store_rows import Books
-from wanekupo.seat.command import Command
+from wanekupo.seat.command_line import Command
 from wanekupo.seat.settings import Settings
 from wanekupo.common.errors import BadSettings, NoPeriod
 from wanekupo.seat.journal_lines import add_folders, named_folders
 from wanekupo.common.moments import tested_period, text_of
-from wanekupo.common.printing import Formulas, say
+from wanekupo.common.printing import Formulas, print_shown
 from wanekupo.cli.shift import add_period
 from wanekupo.common.signing import add_signer, digest_of_file, signer_of
 
@@ -36,8 +38,12 @@ def _add_arguments(parser: argparse.ArgumentParser) -> None:
     parser.add_argument("journals", nargs="+", metavar="JOURNAL", help="a journal, or a folder with journals")
     add_period(parser)
     add_folders(parser)
+    said = "the plant's site file of the copy's moment, which the store's text has to be, byte for byte"
+    parser.add_argument("--site", type=Path, metavar="FILE", help=said)
     parser.add_argument("--html", metavar="FILE", help="write a page, to be read and printed")
     parser.add_argument("--csv", metavar="FILE", help="write what is found as comma-separated values")
+    told = "have this program answer the lines once more, and compare its replies and tables: station, or its path"
+    parser.add_argument("--program", metavar="STATION", help=told)
     add_signer(parser)
 
 
@@ -48,9 +54,10 @@ def _journals(names: list[str], folders: Optional[Path]) -> list[Book]:
     return [book for name in names for book in shipped_books(Path(name), named_folders(folders))]
 
 
-def _read(store: Path, books: Iterable[Book]) -> list[tuple[str, int, str]]:
-    """Each file that was read, with its length and its SHA-256."""
+def _read(store: Path, books: Iterable[Book], program: Optional[str]) -> list[tuple[str, int, str]]:
+    """Each file that was read or run, with its length and its SHA-256."""
     files = [store, store.with_name(f"{store.name}-wal"), *(Path(it) for book in books for it in book.files)]
+    files += [program_named(program)] if program else []
     return [(str(file), file.stat().st_size, digest_of_file(file)) for file in files if file.is_file()]
 
 
@@ -81,18 +88,22 @@ def _audit(_: Settings, args: argparse.Namespace) -> int:
     journals, period = _journals(args.journals, args.folders), period_of(args.from_time, args.to_time)
     with StoreCopy(path) as store:
         books = Books(store)
-        audit = audit_of(books, journals, period, text_of(datetime.now(timezone.utc)))
+        site = digest_of_file(args.site) if args.site else ""
+        audit = audit_of(books, journals, period, text_of(datetime.now(timezone.utc)), site)
         behind = _behind(books, journals, period) if audit.found else ""
+        if args.program:
+            found, audit.replayed = ask_again(args.program, journals, books)
+            audit.add(found)
     if args.html:
-        write(Path(args.html), as_html(audit, _read(path, journals)))
+        page = write(Path(args.html), as_html(audit, _read(path, journals, args.program)))
         if signer:
-            signer.sign(Path(args.html))
+            signer.sign(Path(args.html), page)
     if args.csv:
         table = found_table(audit)
         Formulas().warn_of(table.columns, table.texts())
         write(Path(args.csv), table.as_csv())
-    say(as_text(audit))
-    say(behind)
+    print_shown(as_text(audit))
+    print_shown(behind)
     if not audit.found and not audit.entries and not audit.held_lines:
         raise NoPeriod(*_nothing_of(period, journals))
     return FOUND if audit.found else DONE

@@ -12,13 +12,13 @@ import sys
 from typing import Optional, Sequence
 
 from wanekupo import __version__
-from wanekupo.cli import requests as asking
+from wanekupo.cli import change_commands as asking
 from wanekupo.cli import audit
 from wanekupo.bench import bench
 from wanekupo.lots import certificates
-from wanekupo.cli import looks as looking
+from wanekupo.cli import show_commands as looking
 from wanekupo.lots import manifest
-from wanekupo.metrics import textfile as metrics
+from wanekupo.metrics import prometheus_file as metrics
 from wanekupo.cli import reports
 from wanekupo.cli import seal
 from wanekupo.cli import shift as shift_report
@@ -27,7 +27,7 @@ from wanekupo.cli import witness
 from wanekupo.seat.settings import FILES, settings_of
 from wanekupo.common.errors import NoReply, NotTheServer, OutOfStep, Refused, TooLong
 from wanekupo.common.printing import warn
-from wanekupo.seat.command import Command
+from wanekupo.seat.command_line import Command
 from wanekupo.common.sentences import sentence_of
 
 DONE, REFUSED, NOT_SENT, NO_REPLY, QUARANTINED, STOPPED = range(6)
@@ -79,7 +79,7 @@ EXAMPLES = {
 }
 
 COMMANDS = [
-    Command("run", "run a recipe: chip after chip, green or red", bench.add_arguments, bench.main),
+    Command("run", "run a recipe: chip after chip, green or red", bench.add_bench_words, bench.main),
     *looking.COMMANDS,
     *asking.COMMANDS,
     *reports.COMMANDS,
@@ -122,7 +122,7 @@ def _common(is_told: bool) -> argparse.ArgumentParser:
     return common
 
 
-def parser() -> argparse.ArgumentParser:
+def client_parser() -> argparse.ArgumentParser:
     made = argparse.ArgumentParser(
         prog="wanekupo", description=SAID, epilog=ENDS, parents=[_common(True)], allow_abbrev=False
     )
@@ -143,7 +143,7 @@ def _epilog(name: str) -> str:
     return f"Example: wanekupo {EXAMPLES[name]}. The settings, as --url and --token, are those of: wanekupo --help."
 
 
-def status_of(error: BaseException) -> int:
+def exit_status(error: BaseException) -> int:
     if isinstance(error, OutOfStep):
         return STOPPED
     if isinstance(error, Refused):
@@ -154,7 +154,7 @@ def status_of(error: BaseException) -> int:
 def main(words: Optional[Sequence[str]] = None) -> int:
     if isinstance(sys.stdout, io.TextIOWrapper):
         sys.stdout.reconfigure(errors="backslashreplace")  # a name with letters that the terminal hasn't is no fault
-    args = parser().parse_args(words)
+    args = client_parser().parse_args(words)
     if args.command is None:
         names = ", ".join(row.name for row in COMMANDS)
         warn(f"No command is named. There are {names}: wanekupo --help says what each does.")
@@ -173,4 +173,4 @@ def main(words: Optional[Sequence[str]] = None) -> int:
         return INTERRUPTED
     except Exception as error:
         warn(sentence_of(error))
-        return status_of(error)
+        return exit_status(error)

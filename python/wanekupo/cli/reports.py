@@ -5,17 +5,17 @@ from __future__ import annotations
 import argparse
 from pathlib import Path
 
-from wanekupo.cli.requests import asks
-from wanekupo.seat.command import Command, text_of, told
+from wanekupo.cli.change_commands import asks
+from wanekupo.seat.command_line import Command, file_text, told_as_error
 from wanekupo.seat.settings import Settings, looking_station_of
 from wanekupo.common.errors import NotTheServer, StationError
 from wanekupo.seat.journal import issued, merged
 from wanekupo.seat.journal_lines import add_folders, named_folders
 from wanekupo.books.lost import LOST, given_up, lost_csv, lost_formulas, lost_text
 from wanekupo.common.moments import moment_of
-from wanekupo.common.printing import Formulas, Progress, say, table_lines, warn
+from wanekupo.common.printing import Formulas, Progress, print_shown, table_lines, warn
 from wanekupo.books.report_counts import as_csv, as_text, counts_of, difference_of, formulas_of
-from wanekupo.seat.replays import restore
+from wanekupo.seat.journal_restore import restore
 from wanekupo.seat.station import Station
 
 ISSUED = ("chip", "issuer", "serial", "key_sha256", "mac")
@@ -41,18 +41,18 @@ def _add_issued(parser: argparse.ArgumentParser) -> None:
 def _issued(_: Settings, args: argparse.Namespace) -> int:
     rows = [[it[name] for name in ISSUED] for it in issued(merged(args.journals))]
     if args.json:
-        say(table_lines(ISSUED, rows, True))
+        print_shown(table_lines(ISSUED, rows, True))
         return 0
     rows = [[field or "" for field in row] for row in rows]
     Formulas().warn_of(ISSUED, rows)
-    say(table_lines(ISSUED, [ISSUED, *rows], False))
+    print_shown(table_lines(ISSUED, [ISSUED, *rows], False))
     return 0
 
 
 def _add_times(parser: argparse.ArgumentParser) -> None:
     said = "as 2026-11-27T06:00 by this machine's clock, 2026-11-27T06:00Z or 2026-11-27T06:00+02:00"
     for name in ("from", "to"):
-        parser.add_argument(f"--{name}", dest=f"{name}_time", metavar="TIME", type=told(moment_of), help=said)
+        parser.add_argument(f"--{name}", dest=f"{name}_time", metavar="TIME", type=told_as_error(moment_of), help=said)
 
 
 def _add_lost(parser: argparse.ArgumentParser) -> None:
@@ -69,7 +69,7 @@ def _lost(_: Settings, args: argparse.Namespace) -> int:
     warn(*(f"warning: {it}" for it in [*unanswered, *(lost_formulas(lines) if args.csv else [])]))
     if args.csv:
         Path(args.csv).write_text(lost_csv(lines), encoding="utf-8")
-    say(table_lines(LOST, lines, True) if args.json else lost_text(lines))
+    print_shown(table_lines(LOST, lines, True) if args.json else lost_text(lines))
     return 0
 
 
@@ -81,7 +81,7 @@ def _add_yield(parser: argparse.ArgumentParser) -> None:
 
 def _report_in(file: str) -> str:
     """The text of a file that has a report."""
-    text = text_of(file)
+    text = file_text(file)
     try:
         counts_of(text)
     except ValueError as error:
@@ -109,11 +109,11 @@ def _yield(settings: Settings, args: argparse.Namespace) -> int:
     if args.csv:
         warn(*(f"warning: {it}" for it in formulas_of(difference)))
         Path(args.csv).write_text(as_csv(difference), encoding="utf-8")
-    say(as_text(difference))
+    print_shown(as_text(difference))
     return 0
 
 
-def restored(station: Station, args: argparse.Namespace) -> dict[str, object]:
+def restore_journals(station: Station, args: argparse.Namespace) -> dict[str, object]:
     with Progress("requests, serial numbers and devices") as told_of:
         return restore(station, args.journals, told_of)
 
@@ -122,5 +122,5 @@ COMMANDS = [
     Command("issued", "show the records that journals have", _add_issued, _issued),
     Command("lost", "show which chips were lost or scrapped, when and why, by journals", _add_lost, _lost, GIVEN_UP),
     Command("yield", "show what was done between two reports that were printed", _add_yield, _yield, YIELDED),
-    Command("restore", "bring what journals say into a restored store", _add_journals, asks(restored)),
+    Command("restore", "bring what journals say into a restored store", _add_journals, asks(restore_journals)),
 ]

@@ -3,7 +3,6 @@
 from __future__ import annotations
 
 import argparse
-from datetime import datetime, timezone
 from pathlib import Path
 from typing import Iterator, Optional
 
@@ -15,11 +14,11 @@ from wanekupo.books.compare import Text
 from wanekupo.books.lines import KEY
 from wanekupo.books.stamp import Service
 from wanekupo.books.store import StoreCopy, is_store
-from wanekupo.seat.command import Command
+from wanekupo.seat.command_line import Command
 from wanekupo.seat.settings import Settings, looking_station_of
 from wanekupo.common.errors import BadSettings
-from wanekupo.common.moments import text_of as moment_text
-from wanekupo.common.printing import Progress, say, warn
+from wanekupo.common.moments import now_text
+from wanekupo.common.printing import Progress, print_shown, warn
 from wanekupo.common.signing import signer_of
 from wanekupo.common.texts import shown as shown_text
 
@@ -70,12 +69,12 @@ def _seal(settings: Settings, args: argparse.Namespace) -> int:
         chain.seals_of(args.customer or PLANT)
         if args.store:
             with StoreCopy(Path(args.store)) as store:
-                seal = chain.add(_lines_of(store), _now(), PLANT, signer, service)
+                seal = chain.add(_lines_of(store), now_text(), PLANT, signer, service)
         else:
             with looking_station_of(settings) as station, Progress("devices") as told_of:
                 lines = sorted(shown.lines_of(station, args.customer, told_of))
-            seal = chain.add(lines, _now(), args.customer, signer, service)
-    say(seal.line() + "\n")
+            seal = chain.add(lines, now_text(), args.customer, signer, service)
+    print_shown(seal.line() + "\n")
     return DONE
 
 
@@ -86,17 +85,13 @@ def _lines_of(store: StoreCopy) -> Iterator[str]:
     return stored.lines_of(books)
 
 
-def _now() -> str:
-    return moment_text(datetime.now(timezone.utc))
-
-
 # Comparing.
 
 
-def rows_of(file: Path) -> Text:
+def sealed_rows(file: Path) -> Text:
     """The rows of a file of a seal, or of a copy of a store."""
     if not is_store(file):
-        return folder.rows_of(file)
+        return folder.sealed_text(file)
     with StoreCopy(file) as store:
         return Text.of(_lines_of(store))
 
@@ -132,7 +127,7 @@ def _between(before: Path, after: Path) -> list[str]:
     numbers = [it.name.partition(".")[0] for it in (before, after)]
     if all(it.isdecimal() for it in numbers) and int(numbers[0]) > int(numbers[1]):
         raise BadSettings(f"{before} is of a later seal than {after}", f"Name the earlier one first: {after} {before}.")
-    texts = {file: rows_of(file) for file in (before, after)}
+    texts = {file: sealed_rows(file) for file in (before, after)}
     bad = [f"{file}: {it}." for file, text in texts.items() for it in text.bad]
     return bad + folder.sentences_of(texts[before], texts[after])
 
@@ -141,7 +136,7 @@ def _told(found: list[str], *more: str, pairs: int = 1) -> int:
     """Prints what was found. Where no pair was compared that isn't said to be nothing."""
     counted = "Nothing found." if pairs else "No pair was compared: two seals with their rows are wanted."
     counted = f"{len(found)} found." if found else counted
-    say("".join(f"{shown_text(it)}\n" for it in (*found, counted, *more)))
+    print_shown("".join(f"{shown_text(it)}\n" for it in (*found, counted, *more)))
     return FOUND if found else DONE if pairs else NOT_COMPARED
 
 

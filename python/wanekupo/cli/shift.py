@@ -10,13 +10,13 @@ from pathlib import Path
 from wanekupo.books.pages import write
 from wanekupo.books.numbers_left import asked, rests
 from wanekupo.books.shift import Owned, period_of, shift_of
-from wanekupo.books.shift_page import as_html, as_text, tables
+from wanekupo.books.shift_page import as_html, as_text, shift_tables
 from wanekupo.books.steps import books_of, named, told_faults
-from wanekupo.seat.command import Command, told
+from wanekupo.seat.command_line import Command, told_as_error
 from wanekupo.seat.settings import Settings
 from wanekupo.common.errors import BadSettings
 from wanekupo.common.moments import moment_of, tested_period
-from wanekupo.common.printing import Formulas, say, warn
+from wanekupo.common.printing import Formulas, print_shown, warn
 
 MORE = """. A step counts when its reply was written down, by the station's clock. A journal is a file, or a folder;
 acme=FOLDER says whose it is, which is needed where two customers' orders have one name. The rest of serial numbers is
@@ -27,7 +27,7 @@ TIME = "as 2026-11-27T06:00 by this machine's clock, 2026-11-27T06:00Z or 2026-1
 def add_period(parser: argparse.ArgumentParser) -> None:
     for name in ("from", "to"):
         parser.add_argument(
-            f"--{name}", dest=f"{name}_time", required=True, metavar="TIME", type=told(moment_of), help=TIME
+            f"--{name}", dest=f"{name}_time", required=True, metavar="TIME", type=told_as_error(moment_of), help=TIME
         )
 
 
@@ -40,7 +40,7 @@ def _add_arguments(parser: argparse.ArgumentParser) -> None:
     parser.add_argument("--csv", metavar="FOLDER", help="write a file of comma-separated values for each table")
 
 
-def owned(words: list[str]) -> list[Owned]:
+def customers_journals(words: list[str]) -> list[Owned]:
     """The journals of these words, each with its customer, and each once: also where a folder and a file in it are
     named."""
     places: dict[str, list[Path]] = {}
@@ -63,10 +63,10 @@ def _shift(settings: Settings, args: argparse.Namespace) -> int:
     folder = Path(args.csv) if args.csv else None
     if folder and not folder.is_dir():
         raise BadSettings(f"{folder} is no folder", "Make it first: each table gets a file there.")
-    journals = owned(args.journals)
+    journals = customers_journals(args.journals)
     warn(*(f"warning: {it}" for _, book in journals for it in told_faults(book)))
     shift = shift_of(journals, period_of(args.from_time, end))
-    shown = tables(shift, rests(shift, asked(settings, args.left)) if args.left else None)
+    shown = shift_tables(shift, rests(shift, asked(settings, args.left)) if args.left else None)
     if args.html:
         write(Path(args.html), as_html(shift, shown))
     if folder:
@@ -74,7 +74,7 @@ def _shift(settings: Settings, args: argparse.Namespace) -> int:
         for table in shown:
             formulas.warn_of(table.columns, table.texts())
             write(folder / f"{table.name}.csv", table.as_csv())
-    say(as_text(shift, shown))
+    print_shown(as_text(shift, shown))
     return 0
 
 

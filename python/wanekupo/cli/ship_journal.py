@@ -14,12 +14,13 @@ import secrets
 import subprocess
 from pathlib import Path
 
-from wanekupo.seat.command import Command, words
+from wanekupo.seat.command_line import Command, required_words
 from wanekupo.seat.settings import Settings
 from wanekupo.common.errors import BadSettings, StationError
 from wanekupo.common.files import opened_own, replace_file, tested_folder
 from wanekupo.seat.journal_lines import SUFFIX
 from wanekupo.common.printing import say_json
+from wanekupo.common.process import run_command
 
 # What rsync waits for a reply, and the whole of a run, in seconds.
 WAITS, TAKES = 60, 280
@@ -63,10 +64,7 @@ def ship(journal: Path, to: str) -> int:
     if not files:
         return 0
     try:
-        done = subprocess.run(
-            [*RSYNC, *map(str, files), place_below(to, name)],
-            stdin=subprocess.DEVNULL, capture_output=True, text=True, errors="replace", timeout=TAKES, check=False,
-        )  # fmt: skip
+        done = run_command([*RSYNC, *map(str, files), place_below(to, name)], TAKES)
     except FileNotFoundError:
         told = "Install it, here and where the journals go: apt install rsync."
         raise StationError("there is no rsync", told) from None
@@ -90,7 +88,7 @@ COMMANDS = [
     Command(
         "ship-journal",
         "bring the journals to another machine, by rsync",
-        words("to"),
+        required_words("to"),
         _ship,
         ". TO is a folder, or HOST:FOLDER. They get a folder of their own in it. Again, it brings what is new.",
     ),

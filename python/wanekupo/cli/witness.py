@@ -7,15 +7,16 @@ before any station asks (docs/how-to/standby.md).
 from __future__ import annotations
 
 import argparse
-import time
 from pathlib import Path
 from typing import Any, Iterable, Mapping
 
-from wanekupo.seat.command import Command
+from wanekupo.seat.command_line import Command
 from wanekupo.seat.settings import Settings
 from wanekupo.common.errors import BadJournal
-from wanekupo.seat.journal import OF_A_DAY, Name, journals_of, placed_lines_of
-from wanekupo.common.printing import say
+from wanekupo.common.moments import now_text
+from wanekupo.seat.journal import OF_A_DAY, journals_of, placed_lines_of
+from wanekupo.seat.journal_lines import Name
+from wanekupo.common.printing import print_shown
 from wanekupo.common.texts import shown
 
 MORE = """: the time, and a line as `seat a1 17` for each seat. It reads them while the station runs. A store whose
@@ -55,9 +56,9 @@ def _add_arguments(parser: argparse.ArgumentParser) -> None:
 
 def _witness(settings: Settings, args: argparse.Namespace) -> int:
     numbers = acknowledged(args.journals, settings.seat)
-    lines = [f"at {time.strftime('%Y-%m-%dT%H:%M:%SZ', time.gmtime())}"]
+    lines = [f"at {now_text()}"]
     lines += [f"seat {shown(name)} {number}" for name, number in sorted(numbers.items())]
-    say("".join(f"{line}\n" for line in lines))
+    print_shown("".join(f"{line}\n" for line in lines))
     return 0
 
 

@@ -1,4 +1,5 @@
-"""Files that are this user's alone: none is opened through a link, and none in a folder that another user can write.
+"""Files: those of this user alone, of which none is opened through a link, and none in a folder that another user can
+write; how one is put whole in another one's place; and the locks that one run at a time has.
 
 On Windows, which has neither modes nor `flock`, nothing of it is watched over.
 """
@@ -7,9 +8,13 @@ from __future__ import annotations
 
 import contextlib
 import errno
+import gzip
+import io
 import os
 import shutil
 import stat
+import time
+import zlib
 from pathlib import Path
 from typing import IO, Iterator
 
@@ -17,6 +22,8 @@ from wanekupo.common.errors import UnsafeFile
 
 try:
     import fcntl
+    import grp
+    import pwd
 except ImportError:  # Windows, where nothing keeps two processes from one state file
     fcntl = None  # type: ignore[assignment]
 
@@ -24,6 +31,9 @@ IS_POSIX = os.name == "posix"
 NOFOLLOW = getattr(os, "O_NOFOLLOW", 0)
 NONBLOCK = getattr(os, "O_NONBLOCK", 0)  # a pipe in a file's place is opened at once, and refused
 PRIVATE = 0o600
+
+# How a compressed file begins.
+GZIP = b"\x1f\x8b"
 
 # How much of a file is overwritten at once.
 BLOCK = 1 << 20
@@ -35,10 +45,10 @@ NAME = "Look at its name, and name a file."
 OTHERS_WRITE = stat.S_IWGRP | stat.S_IWOTH
 
 
-def synced_folder(folder: Path) -> None:
-    """Syncs a folder, so that a name that was made or replaced in it stays."""
+def sync(path: Path) -> None:
+    """Has the disk take what a file has, or a folder, so that a name that was made or replaced in it stays."""
     if IS_POSIX:
-        opened = os.open(folder, os.O_RDONLY)
+        opened = os.open(path, os.O_RDONLY)
         try:
             os.fsync(opened)
         finally:
@@ -46,8 +56,8 @@ def synced_folder(folder: Path) -> None:
 
 
 def tested_folder(folder: Path) -> None:
-    """Whether nobody else can put a file into a folder, or take one out of it. One as /tmp is refused too: its sticky
-    bit keeps others from taking a file, and lets them put one there first."""
+    """Whether nobody else can put a file into a folder, take one out of it, or put another folder in its place. One as
+    /tmp is refused too: its sticky bit keeps others from taking a file, and lets them put one there first."""
     if not IS_POSIX:
         return
     found = os.stat(folder)
@@ -55,6 +65,29 @@ def tested_folder(folder: Path) -> None:
         raise UnsafeFile(f"{folder} is another user's folder: have these files in one of your own")
     if found.st_mode & OTHERS_WRITE:
         raise UnsafeFile(f"others can write the folder {folder}: chmod go-w it, or have these files in another one")
+    _test_parents(Path(os.path.realpath(folder)))
+
+
+def _test_parents(path: Path) -> None:
+    """Whether nobody else can put another folder in the place of one on the way to a path."""
+    own = os.geteuid(), 0
+    for it, above in zip((path, *path.parents), path.parents):
+        found = os.stat(above)
+        is_kept = found.st_mode & stat.S_ISVTX and os.lstat(it).st_uid in own
+        if found.st_uid not in own or _others_write(found) and not is_kept:
+            told = "Have these files below a folder of your own, or of root's."
+            raise UnsafeFile(f"others can write {above}, and put another folder in the place of {it}", told)
+
+
+def _others_write(found: os.stat_result) -> bool:
+    """Whether another user may write a folder. A user's own group, which has his name and nobody else, is himself."""
+    if not found.st_mode & stat.S_IWGRP:
+        return bool(found.st_mode & stat.S_IWOTH)
+    with contextlib.suppress(KeyError):
+        group, user = grp.getgrgid(found.st_gid), pwd.getpwuid(found.st_uid)
+        is_own = (group.gr_gid, group.gr_name) == (user.pw_gid, user.pw_name) and not {*group.gr_mem} - {user.pw_name}
+        return bool(found.st_mode & stat.S_IWOTH) or not is_own
+    return True
 
 
 def tested_reading(folder: Path) -> None:
@@ -99,6 +132,19 @@ def opened_plain(file: str | os.PathLike[str], flags: int, follows_links: bool =
     return opened
 
 
+def unpacked(file: str | os.PathLike[str], most: int, follows_links: bool = True) -> bytes:
+    """The bytes of a plain file, of more than so many one more. What is compressed and damaged stays as it is: a few
+    bytes of it may be any number."""
+    with open(opened_plain(file, os.O_RDONLY, follows_links), "rb") as source:
+        data = source.read(most + 1)
+    if not data.startswith(GZIP):
+        return data
+    try:
+        return gzip.GzipFile(fileobj=io.BytesIO(data)).read(most + 1)
+    except (OSError, EOFError, zlib.error):
+        return data
+
+
 def opened_own(file: str | os.PathLike[str], flags: int) -> int:
     """The same of a file that has to be this user's, and that nobody else can write."""
     opened = opened_plain(file, flags)
@@ -128,6 +174,36 @@ def opened_lock(file: str | os.PathLike[str]) -> int:
         raise
 
 
+def opened_shared_lock(file: Path, is_made: bool = True) -> int:
+    """The file of a lock in a folder of root's or of the store's user, which is made where there is none. It may be
+    another user's, and is a plain one: who may write its folder may have put another thing there."""
+    try:
+        return opened_plain(file, os.O_RDWR | (os.O_CREAT if is_made else 0))
+    except UnsafeFile as error:
+        told = "no plain file: look who made it, and move it away"
+        raise OSError(errno.EINVAL, told, str(file)) from error
+
+
+@contextlib.contextmanager
+def hold_lock(file: Path, busy: Exception, patience: float = 0.0, is_made: bool = True) -> Iterator[None]:
+    """Has such a lock. Where another run has it for longer than so many seconds, `busy` is raised. The lock goes with
+    the last process that has it."""
+    opened = opened_shared_lock(file, is_made)
+    end = time.monotonic() + patience
+    try:
+        while True:
+            try:
+                locked(opened)
+                break
+            except BlockingIOError:
+                if time.monotonic() >= end:
+                    raise busy from None
+                time.sleep(0.05)
+        yield
+    finally:
+        os.close(opened)
+
+
 def locked(opened: int) -> None:
     """Locks an opened file for this process alone, or fails with OSError at once."""
     if fcntl:
@@ -140,9 +216,17 @@ def tested_unlocked(opened: int) -> None:
         fcntl.lockf(opened, fcntl.LOCK_SH | fcntl.LOCK_NB)
 
 
-def replace_file(file: Path, text: str, mode: int = PRIVATE) -> None:
-    """Replaces a file of ASCII: whole or not at all, whenever the power fails. Its mode is this, whatever the umask."""
-    replace_bytes(file, text.encode("ascii"), mode, is_exact=True)
+def make_file(file: Path, text: str) -> None:
+    """Makes a file that isn't there, for its owner alone, synced."""
+    with _made(file, PRIVATE) as out:
+        out.write(text.encode())
+
+
+def replace_file(file: Path, text: str, mode: int = PRIVATE, like: os.stat_result | None = None) -> None:
+    """Replaces a file: whole or not at all, whenever the power fails. Its mode is this, whatever the umask; or its
+    owner and its mode are those of `like`. Who calls it is alone with the file."""
+    with replaced(file, mode, is_exact=True, like=like) as out:
+        out.write(text.encode())
 
 
 def replace_bytes(file: Path, data: bytes, mode: int, is_exact: bool = False) -> None:
@@ -152,27 +236,50 @@ def replace_bytes(file: Path, data: bytes, mode: int, is_exact: bool = False) ->
 
 
 @contextlib.contextmanager
-def replaced(file: Path, mode: int, is_exact: bool = False) -> Iterator[IO[bytes]]:
+def replaced(
+    file: Path, mode: int, is_exact: bool = False, like: os.stat_result | None = None
+) -> Iterator[IO[bytes]]:
     """The same of what is written to the file that this gives: it takes the other one's place once all is written, and
     goes where that fails. What stands in the new one's place goes first, so that it is this call's, with its owner and
     its mode."""
     new = f"{file}.new"
     with contextlib.suppress(FileNotFoundError):
         os.unlink(new)
-    flags = os.O_WRONLY | os.O_CREAT | os.O_EXCL | NOFOLLOW
     try:
-        with open(os.open(new, flags, mode), "wb") as out:
-            if IS_POSIX and is_exact:
-                os.fchmod(out.fileno(), mode)
+        with _made(new, mode) as out:
+            if IS_POSIX and like:
+                os.fchown(out.fileno(), like.st_uid, like.st_gid)
+            if IS_POSIX and (is_exact or like):
+                os.fchmod(out.fileno(), stat.S_IMODE(like.st_mode) if like else mode)
             yield out
-            out.flush()
-            os.fsync(out.fileno())
         os.replace(new, file)
     except BaseException:
         with contextlib.suppress(FileNotFoundError):
             os.unlink(new)
         raise
-    synced_folder(file.parent)
+    sync(file.parent)
+
+
+@contextlib.contextmanager
+def _made(file: str | os.PathLike[str], mode: int) -> Iterator[IO[bytes]]:
+    """A file that wasn't there, which is synced once all is written."""
+    with open(os.open(file, os.O_WRONLY | os.O_CREAT | os.O_EXCL | NOFOLLOW, mode), "wb") as out:
+        yield out
+        out.flush()
+        os.fsync(out.fileno())
+
+
+def place_file(new: Path, file: Path, mode: int) -> None:
+    """Has a file that a command wrote take another one's place, synced and with this mode."""
+    opened = opened_plain(new, os.O_RDONLY, follows_links=True)
+    try:
+        if IS_POSIX:
+            os.fchmod(opened, mode)
+            os.fsync(opened)
+    finally:
+        os.close(opened)
+    os.replace(new, file)
+    sync(file.parent)
 
 
 def removed_folder(folder: Path) -> None:
@@ -186,7 +293,7 @@ def removed_folder(folder: Path) -> None:
             with contextlib.suppress(OSError):
                 _overwrite(os.path.join(path, name))
     shutil.rmtree(folder)
-    synced_folder(folder.parent)
+    sync(folder.parent)
 
 
 def _overwrite(file: str) -> None:

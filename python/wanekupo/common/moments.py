@@ -23,6 +23,11 @@ def text_of(moment: datetime) -> str:
     return f"{moment.replace(microsecond=0, tzinfo=None).isoformat()}Z"
 
 
+def now_text() -> str:
+    """This moment."""
+    return text_of(datetime.now(timezone.utc))
+
+
 def tested_period(start: Optional[datetime], end: Optional[datetime]) -> None:
     if start and end and text_of(start) >= text_of(end):
         raise NoPeriod(f"from {text_of(start)} to {text_of(end)}: --to has to be later than --from")

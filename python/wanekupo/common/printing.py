@@ -8,13 +8,13 @@ from typing import Any, Iterable, Sequence
 from wanekupo.common.texts import compact_json, csv_lines, formulas_in, shown, shown_lines
 
 
-def say(text: str) -> None:
+def print_shown(text: str) -> None:
     """Prints lines on standard output."""
     print(shown_lines(text), end="")
 
 
 def say_json(data: Any) -> None:
-    say(compact_json(data, sort_keys=True) + "\n")
+    print_shown(compact_json(data, sort_keys=True) + "\n")
 
 
 def warn(*sentences: str) -> None:

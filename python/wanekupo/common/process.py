@@ -1,16 +1,37 @@
-"""Commands of this project: where another one is, and how one ends."""
+"""Processes: how a command is run to its end, where another one of this project is, and how one ends."""
 
 from __future__ import annotations
 
+import subprocess
 import sys
-from collections.abc import Callable
+from collections.abc import Callable, Collection, Mapping, Sequence
 from pathlib import Path
 
 from wanekupo.common.errors import PlantError, cause_of
-from wanekupo.common.store_user import shown
-from wanekupo.common.store_words import clean_words
 
 INSTALLED = Path("/usr/sbin")
+
+
+def run_command(
+    words: Sequence[str],
+    seconds: float | None = None,
+    *,
+    environment: Mapping[str, str] | None = None,
+    handles: Collection[int] = (),
+    is_apart: bool = False,
+) -> subprocess.CompletedProcess[str]:
+    """Runs a command to its end, with nothing to read: its status and what it printed, as text. With `is_apart` it has
+    a session of its own, and no terminal. Raises OSError where it can't be run, and TimeoutExpired where it takes
+    longer than so many seconds."""
+    return subprocess.run(
+        words, stdin=subprocess.DEVNULL, capture_output=True, encoding="utf-8", errors="replace", timeout=seconds,
+        check=False, env=environment, pass_fds=handles, start_new_session=is_apart,
+    )  # fmt: skip
+
+
+def succeeds(*words: str) -> bool:
+    """Runs a command, whose output is this one's, to its end; whether its status is 0."""
+    return subprocess.run([*words], stdin=subprocess.DEVNULL, check=False).returncode == 0
 
 
 def own_command(name: str) -> str:
@@ -22,6 +43,9 @@ def own_command(name: str) -> str:
 def end_tool(name: str, call: Callable[[], object]) -> int:
     """The status of a tool: 0 behind its call, else the error's own, with the cause in words behind the tool's name.
     Root leaves out first what led it elsewhere (`clean_words`)."""
+    from wanekupo.common.store_user import shown  # a station runs commands on Windows too, where there is no such user
+    from wanekupo.common.store_words import clean_words
+
     clean_words()
     try:
         call()

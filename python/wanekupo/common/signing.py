@@ -13,14 +13,14 @@ import contextlib
 import hashlib
 import os
 import re
-import stat
 import subprocess
+import tempfile
 from dataclasses import dataclass
 from pathlib import Path
 from typing import Optional, Sequence
 
 from wanekupo.common.errors import BadSettings, StationError
-from wanekupo.common.files import replace_bytes, synced_folder
+from wanekupo.common.files import IS_POSIX, replace_bytes
 
 DIGEST, MINISIG, CMS = ".sha256", ".minisig", ".p7s"
 READABLE = 0o644
@@ -35,6 +35,9 @@ DER = b"\x30\x82"
 
 # What sha256sum would write in another way, with a backslash in front of its line.
 ESCAPED = re.compile(r"[\\\n\r]")
+
+# Where a folder is made in which bytes are signed: one in which nobody replaces another's name.
+SIGNED_IN = "/var/tmp" if IS_POSIX else None
 
 # The Debian package of each command.
 PACKAGES = {"minisign": "minisign", "openssl": "openssl"}
@@ -56,24 +59,21 @@ class Signer:
     def ending(self) -> str:
         return MINISIG if self.minisign else CMS
 
-    def sign(self, file: Path) -> Path:
-        """Signs a file, and gives the name of the signature, which is beside it, whole and synced."""
-        made, new = beside(file, self.ending), beside(file, f"{self.ending}.new")
-        with contextlib.suppress(FileNotFoundError):
-            new.unlink()
-        if self.minisign:
-            words = ["minisign", "-S", "-s", self.minisign, "-m", file, "-x", new]
-        else:
-            words = ["openssl", "cms", "-sign", "-binary", "-md", "sha256", "-in", file, "-signer", self.cms]
-            words += [*_key_words(str(self.cms_key)), "-outform", "DER", "-out", new]
-        try:
+    def sign(self, file: Path, data: bytes) -> Path:
+        """Signs the bytes of a file, and gives the name of the signature, which is beside it, whole and synced. They
+        are signed in a folder of this process alone: beside the file others may put theirs in its place."""
+        made = beside(file, self.ending)
+        with tempfile.TemporaryDirectory(prefix="wanekupo-sign.", dir=SIGNED_IN) as folder:
+            own = Path(folder, file.name)
+            own.write_bytes(data)
+            new = beside(own, self.ending)
+            if self.minisign:
+                words = ["minisign", "-S", "-s", self.minisign, "-m", own, "-x", new]
+            else:
+                words = ["openssl", "cms", "-sign", "-binary", "-md", "sha256", "-in", own, "-signer", self.cms]
+                words += [*_key_words(str(self.cms_key)), "-outform", "DER", "-out", new]
             _ran(words, f"{file} wasn't signed", "Look at the key, its password, and what the line above says.")
-        except BaseException:
-            new.unlink(missing_ok=True)
-            raise
-        _synced(new, stat.S_IMODE(file.stat().st_mode))
-        os.replace(new, made)
-        synced_folder(made.parent)
+            replace_bytes(made, new.read_bytes(), READABLE)
         return made
 
 
@@ -161,22 +161,13 @@ def digest_of_file(file: Path) -> str:
     return digest.hexdigest()
 
 
-def digest_file(file: Path) -> Path:
-    """Writes the SHA-256 of a file beside it, for `sha256sum -c` in its folder, and gives the name of that."""
+def digest_file(file: Path, data: bytes) -> Path:
+    """Writes the SHA-256 of a file's bytes beside it, for `sha256sum -c` in its folder, and gives the name of that."""
     if ESCAPED.search(file.name):
         raise BadSettings(f"the name of {file} has a backslash or a line end", "Take another name.")
     made = beside(file, DIGEST)
-    replace_bytes(made, os.fsencode(f"{digest_of_file(file)}  {file.name}\n"), READABLE)
+    replace_bytes(made, os.fsencode(f"{hashlib.sha256(data).hexdigest()}  {file.name}\n"), READABLE)
     return made
-
-
-def _synced(file: Path, mode: int) -> None:
-    opened = os.open(file, os.O_RDONLY)
-    try:
-        os.fchmod(opened, mode)
-        os.fsync(opened)
-    finally:
-        os.close(opened)
 
 
 def _ran(words: Sequence[object], happened: str, advice: str) -> None:

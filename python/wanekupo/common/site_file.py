@@ -1,108 +1,76 @@
-"""The lines of a seat in a site file, and where they stand in it."""
+"""What a site file gives: its customers, with their issuers, pools and seats, and its manager.
+
+Whether a text is a site the program alone says (`station check-site`). This reads it as TOML 1.0.
+"""
+
+from __future__ import annotations
 
 import hashlib
-import re
 import tomllib
-from collections.abc import Iterator
-from typing import Any, Optional
+from dataclasses import dataclass, field
+from pathlib import Path
+from typing import Any
 
-from wanekupo.common.token_file import MANAGER, TokenSeat, TokenError
+from wanekupo.common.errors import PlantError
 
-HEADER = re.compile(r"^[ \t]*\[\[?[ \t]*([A-Za-z0-9_.-]+)[ \t]*\]\]?[ \t]*(?:#.*)?$")
+MARK = "\ufeff"  # of the order of bytes, which may stand in front of a text
+
+# The first address of a pool, and how many it has.
+Pool = tuple[int, int]
+
+
+class SiteFileError(PlantError):
+    """Why a text can't be read as a site."""
+
+
+@dataclass
+class SiteCustomer:
+    """A customer. A seat's name leads to the SHA-256 of its token, in lowercase digits."""
+
+    name: str
+    issuers: list[str] = field(default_factory=list)
+    pools: list[Pool] = field(default_factory=list)
+    seats: dict[str, str] = field(default_factory=dict)
+
+
+@dataclass
+class Site:
+    """The customers by their names, and the SHA-256 of the manager's token, or nothing where there is none."""
+
+    customers: dict[str, SiteCustomer] = field(default_factory=dict)
+    manager: str = ""
+
+    def seats(self) -> dict[str, SiteCustomer]:
+        """The customer of each seat."""
+        return {seat: customer for customer in self.customers.values() for seat in customer.seats}
 
 
 def digest_of(token: str) -> str:
     return hashlib.sha256(token.encode()).hexdigest()
 
 
-def lines_of(seat: TokenSeat) -> str:
-    """What the site file says of a seat, or of the manager."""
-    head = ["[manager]"] if seat.is_manager() else ["[[customer.seat]]", f'name = "{seat.seat}"']
-    return "\n".join([*head, f'token = "{digest_of(seat.inner)}"', ""])
-
-
-def _parsed(text: str, path: str) -> dict[str, Any]:
+def read_site(text: str, title: str) -> Site:
+    """The site of a text, which an error calls by its title."""
     try:
-        return tomllib.loads(text)
+        document = tomllib.loads(text.removeprefix(MARK))
     except (ValueError, RecursionError) as error:  # a number of too many digits is a ValueError, too
-        raise TokenError(1, f"{path}: {error}") from None
-
-
-def digests_of(text: str, path: str) -> dict[str, tuple[str, str]]:
-    """The digest of each seat with its customer, and of the manager, by name."""
-    site = _parsed(text, path)
+        raise SiteFileError(f"{title} is no site file that can be read as TOML 1.0: {error}") from None
     try:
-        found = {
-            seat["name"]: (customer["name"], seat["token"].lower())
-            for customer in site.get("customer", [])
-            for seat in customer.get("seat", [])
-        }
-        if "manager" in site:
-            found[MANAGER] = (MANAGER, site["manager"]["token"].lower())
-    except (KeyError, TypeError, AttributeError) as error:
-        told = "`station-site check` names the line"
-        raise TokenError(1, f"{path} is no site file ({type(error).__name__}: {error}): {told}") from None
-    return found
+        customers = [_customer(table) for table in document["customer"]]
+        manager = document["manager"]["token"].lower() if "manager" in document else ""
+    except (LookupError, TypeError, AttributeError, ValueError):  # whose words may have a token
+        raise SiteFileError(f"{title} is no site file: `station check-site` says where") from None
+    return Site({it.name: it for it in customers}, manager)
 
 
-def is_in(digests: dict[str, tuple[str, str]], seat: TokenSeat) -> bool:
-    """Whether a site has a seat with its token; a manager's name isn't in the site."""
-    customer, digest = digests.get(MANAGER if seat.is_manager() else seat.seat, ("", ""))
-    return digest == digest_of(seat.inner) and (seat.is_manager() or customer == seat.customer)
-
-
-def _sections(lines: list[str]) -> Iterator[tuple[int, int]]:
-    """Where each customer's section begins, and behind its last line that isn't empty; what stands before is none's."""
-    begins = [place for place, line in enumerate(lines) if _header(line) == "customer"]
-    ends = [place for place, line in enumerate(lines) if not (_header(line) or "customer.").startswith("customer.")]
-    for begin in begins:
-        end = min([place for place in ends if place > begin], default=len(lines))
-        while not lines[end - 1].strip():
-            end -= 1
-        yield begin, end
-
-
-def _header(line: str) -> Optional[str]:
-    found = HEADER.match(line)
-    return found[1] if found else None
-
-
-def grown(text: str, seat: TokenSeat, path: str) -> str:
-    """The site's text with the seat, at the end of its customer's section. By two readings it has that seat more, and
-    is the same in all else."""
-    wanted = _parsed(text, path)
-    own = {"token": digest_of(seat.inner)}
-    lines = text.splitlines()
-    if seat.is_manager():
-        wanted.setdefault("manager", own)
-        places = [len(lines)]
-    else:
-        customers = [it for it in wanted.get("customer", []) if it["name"] == seat.customer]
-        if not customers:
-            raise TokenError(1, f"{path} has no customer {seat.customer}")
-        customers[0].setdefault("seat", []).append({"name": seat.seat, **own})
-        places = [end for begin, end in _sections(lines) if _names(lines[begin:end], seat.customer)]
-    for place in places:
-        more = "\n".join([*lines[:place], *lines_of(seat).splitlines(), *lines[place:], ""])
-        if _parsed_or_none(more) == wanted:
-            return more
-    raise TokenError(
-        1, f"{path}: there is no place for these lines that is sure; put them in by hand:\n{lines_of(seat)}"
-    )
-
-
-def _names(lines: list[str], customer: str) -> bool:
-    """Whether a section is of this customer, by its own member, and not by a pool's or a seat's."""
-    for line in lines[1:]:
-        if _header(line):
-            return False
-        if re.match(rf"""[ \t]*name[ \t]*=[ \t]*["']{re.escape(customer)}["'][ \t]*(#.*)?$""", line):
-            return True
-    return False
-
-
-def _parsed_or_none(text: str) -> Optional[dict[str, Any]]:
+def read_site_file(path: str | Path) -> Site:
     try:
-        return tomllib.loads(text)
-    except (ValueError, RecursionError):
-        return None
+        return read_site(Path(path).read_text(encoding="utf-8"), str(path))
+    except UnicodeDecodeError:
+        raise SiteFileError(f"{path} is no site file: it isn't UTF-8") from None
+
+
+def _customer(table: dict[str, Any]) -> SiteCustomer:
+    pools = [(int(pool["first"], 16), int(pool["count"])) for pool in table.get("pool", ())]
+    seats = {str(seat["name"]): str(seat["token"]).lower() for seat in table.get("seat", ())}
+    return SiteCustomer(str(table["name"]), [str(it) for it in table["issuer"]], pools, seats)

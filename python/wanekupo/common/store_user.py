@@ -7,10 +7,10 @@ there, and hold each process of that user's. So nothing that he writes, names, p
   its owner can put another one in its place. Its owner is the store's user, whatever a file in it says, and never root.
   A file in it is opened by the folder's descriptor, and is a plain one of that user's.
 - Root reads, writes and removes nothing there by a name: a process of that user's does it (`StoreUser.run`, `call`).
-- That process has a session of its own and no terminal, no descriptor of root's but its pipes, none of root's words in
-  its environment, and can't get rights again. It ends with root's. Behind its end root waits for nobody who has its
-  pipe. Its time is bounded, and where memory runs out Linux ends it before the server. What it prints is bounded, is a
-  form or is nothing, and reaches a terminal without control characters (`shown`).
+- That process has a session of its own, none of root's keys and no terminal, no descriptor of root's but its pipes, none
+  of root's words in its environment, and can't get rights again. It ends with root's. Behind its end root waits for
+  nobody who has its pipe or itself. Its time is bounded, and where memory runs out Linux ends it before the server. What
+  it prints is bounded, is a form or is nothing, and reaches a terminal without control characters (`shown`).
 - A copy that is tried lies in a room: a folder of the user's in one of root's, which only root can name or remove.
 """
 
@@ -30,12 +30,12 @@ import subprocess
 import sys
 import tempfile
 import time
-from collections.abc import Callable, Iterator, Sequence
+from collections.abc import Callable, Collection, Iterator, Sequence
 from dataclasses import dataclass
 from pathlib import Path
 from typing import NoReturn
 
-from wanekupo.common.errors import PlantError
+from wanekupo.common.errors import PlantError, cause_of
 
 STOPS = (signal.SIGTERM, signal.SIGINT, signal.SIGHUP)
 # How a component of a folder's path is opened: a link is none.
@@ -50,9 +50,12 @@ PRINTED, RELAYED, SAID, SMALL = 16 << 20, 1 << 20, 4000, 1 << 20
 # user's may have its pipe, and how long one may take of which nothing else is said: a copy of a large store takes that.
 # What root has done whole, as a backup with its way off or a restore, may take a day; what writes a line, a minute.
 PATIENCE, LINGER, LONGEST, DAY, MINUTE = 10, 3, 3600, 86400, 60
+# Whoever traces a process that has ended keeps it from root for as long as he likes.
+KEPT = "a process of the store's user has ended, and another one of his keeps it: it was given up"
 OOM_SCORE = "/proc/self/oom_score_adj"
-# Of prctl(2).
+# Of prctl(2); of keyctl(2), whose number is the machine's.
 PDEATHSIG, DUMPABLE, NO_NEW_PRIVS = 1, 4, 38
+KEYCTL, JOIN_SESSION_KEYRING = {"x86_64": 250, "aarch64": 219}, 1
 
 
 class UserError(PlantError):
@@ -75,6 +78,23 @@ def end_first() -> None:
             os.write(handle, b"1000")
         finally:
             os.close(handle)
+
+
+def leave_keys() -> None:
+    """Gives root's process a session keyring of its own, which has nothing: in that of before are the keys of root's
+    login, and whoever has the keyring reads them. A kernel or a container without keyrings has none to leave."""
+    if os.geteuid():
+        return
+    libc = ctypes.CDLL(None, use_errno=True)
+    failed = libc.syscall(KEYCTL[os.uname().machine], JOIN_SESSION_KEYRING, None) < 0
+    if failed and ctypes.get_errno() not in (errno.ENOSYS, errno.EPERM):
+        raise UserError(f"keyctl: {os.strerror(ctypes.get_errno())}")
+
+
+def _begin() -> None:
+    """What a process of the user's is first."""
+    end_first()
+    leave_keys()
 
 
 # ---- Folders and files.
@@ -103,15 +123,17 @@ def opened(folder: Path) -> int:
     place."""
     path = Path(os.path.abspath(folder))
     steps = [*reversed(path.parents), path]
-    with contextlib.ExitStack() as stack:
-        handles: list[int] = []
+    handles: list[int] = []
+    try:
         for step in steps:
             handles.append(_opened_step(step, handles[-1] if handles else None))
-            stack.callback(os.close, handles[-1])
         found = [os.fstat(it) for it in handles]
         for step, above, below in zip(steps[1:], found, found[1:]) if os.geteuid() == 0 else ():
             _held(step, above, below, {0, found[-1].st_uid})
         return os.dup(handles[-1])
+    finally:
+        for handle in handles:
+            os.close(handle)
 
 
 def read_small(path: Path, handle: int | None = None, most: int = SMALL) -> bytes:
@@ -187,6 +209,16 @@ def user_named(name: str) -> "StoreUser":
     return found
 
 
+def reader_for(db: str | Path) -> "StoreUser":
+    """As whom a program reads a text: who runs this, but for root the store's user, and where no store is nobody."""
+    if os.geteuid():
+        return StoreUser("", os.geteuid(), os.getegid())
+    try:
+        return StoreFolder(db).user
+    except UserError:
+        return user_named("nobody")
+
+
 def _user(found: pwd.struct_passwd) -> "StoreUser":
     return StoreUser(found.pw_name, found.pw_uid, found.pw_gid, found.pw_dir)
 
@@ -222,32 +254,36 @@ class StoreUser:
             seconds: float = LONGEST, most: int = PRINTED) -> "subprocess.CompletedProcess[str]":  # fmt: skip
         """A command as the user, with what it printed, of which root believes nothing but its form. `given` is what it
         reads. A name of `fds` is /proc/self/fd/N. Who takes longer, or prints more than `most`, is ended: an error."""
-        with _readable(given) as stdin:
+        with readable(given) as stdin:
             try:
                 child = subprocess.Popen(
                     self.words(*words), stdin=stdin, stdout=subprocess.PIPE, stderr=subprocess.PIPE, cwd=cwd,
                     env=self.environment(), start_new_session=True, pass_fds=fds, umask=0o077,
-                    preexec_fn=end_first,
+                    preexec_fn=_begin,
                 )  # fmt: skip
-            except OSError as error:
-                raise UserError(f"{words[0]}: {error.strerror}") from None
-        with child:
-            try:
-                printed = _gathered(child, most, time.monotonic() + seconds)
-                status = child.wait()
-            except BaseException:
-                _ended(child)
-                raise
+            except (OSError, subprocess.SubprocessError) as error:
+                raise UserError(f"{words[0]}: {cause_of(error)}") from None
+        try:
+            printed = _gathered(child, most, time.monotonic() + seconds)
+            status = child.wait(PATIENCE)
+        except subprocess.TimeoutExpired:
+            raise UserError(KEPT) from None
+        except BaseException:
+            _ended(child)
+            raise
+        finally:
+            for pipe in (child.stdout, child.stderr):
+                pipe.close()  # type: ignore[union-attr]
         return subprocess.CompletedProcess(list(words), status, *(it.decode(errors="replace") for it in printed))
 
-    def call(self, function: Callable[[], object], told: Callable[[BaseException], str] = str,
+    def call(self, function: Callable[[], int | None], told: Callable[[BaseException], str] = str,
              seconds: float = LONGEST) -> int:  # fmt: skip
         """Has a function done as the user, in a process of its own that begins in /, so its paths are whole ones. What
         it prints is printed here. Gives the number that it gives; its error comes back as a UserError of what `told`
         makes of it. A signal that ends this run ends it first, as it would end a run of its own. Who takes longer is
         ended: an error."""
         if self.is_own():
-            return int(function() or 0)  # type: ignore[call-overload]
+            return function() or 0
         pipes = [os.pipe() for _ in range(3)]
         sys.stdout.flush()
         sys.stderr.flush()
@@ -265,8 +301,8 @@ class StoreUser:
             raise UserError(said or "the process that works as the store's user was killed")
         return os.WEXITSTATUS(status)
 
-    def _called(self, function: Callable[[], object], told: Callable[[BaseException], str], ends: list[int],
-                parent: int, mask: set[signal.Signals]) -> NoReturn:  # fmt: skip
+    def _called(self, function: Callable[[], int | None], told: Callable[[BaseException], str], ends: list[int],
+                parent: int, mask: Collection[int]) -> NoReturn:  # fmt: skip
         """The child's part. It ends here, whatever comes: a signal waits since before the fork until its error is
         met."""
         status = 1
@@ -275,7 +311,7 @@ class StoreUser:
             try:
                 self._become(parent)
                 signal.pthread_sigmask(signal.SIG_SETMASK, mask)
-                status = int(function() or 0)  # type: ignore[call-overload]
+                status = function() or 0
             except BaseException as error:
                 os.write(said, (told(error) or type(error).__name__).encode(errors="replace")[:SAID])
             sys.stdout.flush()
@@ -286,7 +322,7 @@ class StoreUser:
     def _become(self, parent: int) -> None:
         """Makes this process the user's for good."""
         words = self.environment()
-        end_first()
+        _begin()
         os.setgroups(os.getgrouplist(self.name, self.group))
         os.setresgid(self.group, self.group, self.group)
         os.setresuid(self.number, self.number, self.number)
@@ -316,6 +352,17 @@ def _plugged(ends: list[int]) -> int:
     return len(high) - 1
 
 
+def _reaped(child: int) -> int:
+    """The status of a process that has ended."""
+    end = time.monotonic() + PATIENCE
+    while time.monotonic() < end:
+        found, status = os.waitpid(child, os.WNOHANG)
+        if found:
+            return status
+        time.sleep(0.02)
+    raise UserError(KEPT)
+
+
 def _ended(child: "subprocess.Popen[bytes]") -> None:
     """Asks a process and those that it began to end, and ends them where they don't."""
     for number in (signal.SIGTERM, signal.SIGKILL):
@@ -326,8 +373,8 @@ def _ended(child: "subprocess.Popen[bytes]") -> None:
 
 
 @contextlib.contextmanager
-def _readable(text: str) -> Iterator[int]:
-    """A descriptor from which a text is read."""
+def readable(text: str) -> Iterator[int]:
+    """A descriptor from which a text is read, by whomever: as /proc/self/fd/N it is a file."""
     handle = os.memfd_create("given") if text else os.open(os.devnull, os.O_RDONLY)
     try:
         if text:
@@ -394,7 +441,7 @@ def _relayed(reads: list[int], child: int, end: float = math.inf) -> str:
     return said.decode(errors="replace")
 
 
-def _waited(child: int, pipes: list[tuple[int, int]], mask: set[signal.Signals], until: float) -> tuple[str, int]:
+def _waited(child: int, pipes: list[tuple[int, int]], mask: Collection[int], until: float) -> tuple[str, int]:
     """The words of a child's error, and its status. Where a signal ends this run the child is asked to end, too; one
     that doesn't, as the user may stop it, is killed with those that it began."""
     for _, write in pipes:
@@ -410,12 +457,13 @@ def _waited(child: int, pipes: list[tuple[int, int]], mask: set[signal.Signals],
         for kill in (os.killpg, os.kill):  # it may have no group of its own yet
             with contextlib.suppress(ProcessLookupError):
                 kill(child, signal.SIGKILL)
+        with contextlib.suppress(UserError):
+            _reaped(child)
         raise
     finally:
         for read in reads:
             os.close(read)
-        status = os.waitpid(child, 0)[1]
-    return shown(said), status
+    return shown(said), _reaped(child)
 
 
 # ---- Rooms.

@@ -1,23 +1,32 @@
 """The words with which root started one of its tools: those that another user may have put there are none."""
 
 import os
+import pwd
+import re
+import tempfile
+import time
 from pathlib import Path
 
-from wanekupo.common.store_user import UserError, opened
+from wanekupo.common.store_user import ROOMS, UserError, opened
 
-# What of an environment leads a program elsewhere, beside what begins as LD_.
-LEADING = ("TMPDIR", "ENV", "IFS", "CDPATH", "OPENSSL_CONF", "CURL_HOME", "HOSTALIASES", "LOCALDOMAIN", "RES_OPTIONS")
+# What stays of an environment, as a whole: how texts are written and shown. A locale with a slash is a folder.
+GOOD = re.compile(r"(?:TERM|LANG|LC_[A-Z]+)=[A-Za-z0-9_.@+-]*")
 
 
 def clean_words() -> None:
-    """Leaves of root's PATH the folders alone in which nobody else can put a program, and none of the words by which
-    what root starts is led elsewhere: who became root by `su` may have those of the user from whom he came."""
+    """Leaves of root's PATH the folders alone in which nobody else can put a program, and of the other words those that
+    lead nothing elsewhere: who became root by `su` may have those of the user from whom he came. Folders for a moment
+    are made where nobody else renames what is root's."""
     if os.geteuid():
         return
     kept = [it for it in os.get_exec_path() if _is_roots(it)]
-    os.environ["PATH"] = ":".join(kept) or "/usr/local/sbin:/usr/local/bin:/usr/sbin:/usr/bin"
-    for name in [it for it in os.environ if it in LEADING or it.startswith(("LD_", "PYTHON", "BASH_"))]:
-        del os.environ[name]
+    words = {name: value for name, value in os.environ.items() if GOOD.fullmatch(f"{name}={value}")}
+    words["PATH"] = ":".join(kept) or "/usr/local/sbin:/usr/local/bin:/usr/sbin:/usr/bin"
+    words["HOME"] = pwd.getpwuid(0).pw_dir
+    os.environ.clear()
+    os.environ.update(words)
+    time.tzset()
+    tempfile.tempdir = str(ROOMS)
 
 
 def _is_roots(folder: str) -> bool:

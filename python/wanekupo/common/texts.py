@@ -50,8 +50,8 @@ def without_secrets(text: str, kept: tuple[str, ...] = ()) -> str:
 
 def brief(text: Any) -> str:
     """A text within a sentence. Of a long one the beginning: whoever wrote it could fill a screen."""
-    text = str(text)
-    return text if len(text) <= LONGEST_SHOWN else f"{text[:LONGEST_SHOWN]}.. ({len(text)} characters)"
+    whole = str(text)
+    return whole if len(whole) <= LONGEST_SHOWN else f"{whole[:LONGEST_SHOWN]}.. ({len(whole)} characters)"
 
 
 def shown_lines(text: str) -> str:

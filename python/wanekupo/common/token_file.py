@@ -16,9 +16,10 @@ from dataclasses import asdict, dataclass, field, replace
 from pathlib import Path
 from typing import Optional
 
-from wanekupo.common.errors import PlantError
+from wanekupo.common.errors import PlantError, UnsafeFile
+from wanekupo.common.files import own_path
 from wanekupo.common.store_user import UserError, opened
-from wanekupo.common.whole_file import held, put_whole, sync
+from wanekupo.common.files import hold_lock, replace_file, sync
 
 HEAD = """# The outer tokens, the inner ones behind them, and what nginx makes of both. It has the tokens: root's alone.
 # station-token(8) writes this file, and takes none that was changed by hand.
@@ -36,6 +37,21 @@ LAST = "T23:59"
 
 # A time as nginx begins it: YYYY-MM-DDTHH:MM, by the machine's clock and time zone.
 MINUTE = "%Y-%m-%dT%H:%M"
+
+# The forms of what a record has: nothing else of it may reach nginx's file.
+NAME = r"[A-Za-z0-9._-]{1,32}"
+SERVER = r"[a-z][a-z0-9_]{0,31}|127\.0\.0\.1:[1-9][0-9]{0,4}"
+SUBJECT = r"[A-Za-z0-9 ._@:/=,+'()-]{3,400}"
+INNER = r"[!#%-\[\]-~]{1,1024}"
+HOLDER = r"[ -~]{0,80}"
+TIME = r"[0-9]{4}-[0-9]{2}-[0-9]{2}T[0-9]{2}:[0-9]{2}"
+FORMS = {
+    "seat": f"@?{NAME}", "customer": f"@?{NAME}", "inner": INNER, "server": SERVER, "given": "[0-9]{1,9}",
+    "token": f"@?{NAME}:[0-9]{{1,9}}", "number": "[1-9][0-9]{0,8}", "looks": "True|False", "mark": "[0-9a-f]{12}",
+    "since": TIME, "text": f"(?:{PREFIX}[0-9a-f]{{64}})?", "subject": f"(?:{SUBJECT})?", "until": f"(?:{TIME})?",
+    "holder": HOLDER, "ended": f"(?:{TIME})?",
+}  # fmt: skip
+KINDS = {"given": int, "number": int, "looks": bool}
 
 
 class TokenError(PlantError):
@@ -99,7 +115,7 @@ class Tokens:
         self.outers[self.outers.index(outer)] = replace(outer, **members)
 
 
-def now() -> str:
+def current_minute() -> str:
     return time.strftime(MINUTE)
 
 
@@ -110,7 +126,7 @@ def mark_of(text: str) -> str:
 
 def is_past(until: str) -> bool:
     """Whether a token's last minute, where it has one, is past."""
-    return "" < until < now()
+    return "" < until < current_minute()
 
 
 def living(tokens: Tokens) -> list[str]:
@@ -119,7 +135,7 @@ def living(tokens: Tokens) -> list[str]:
     return sorted(f"{it.token} {it.mark} {'look' if it.looks else 'all'} {it.until or '-'}" for it in rows)
 
 
-def later_than(minute: str) -> str:
+def later_minute(minute: str) -> str:
     """A regular expression for what begins with a later minute: at some digit a greater one, and before it the same."""
     places = [place for place, char in enumerate(minute) if char.isdigit() and char != "9"]
     return "^(?:" + "|".join(f"{minute[:place]}[{int(minute[place]) + 1}-9]" for place in places) + ")"
@@ -135,16 +151,25 @@ def _by_number(name: str, rows: list[tuple[int, str]]) -> str:
     return _map("$caller", name, [f'{number} "{text}"' for number, text in rows if text])
 
 
-def text_of(tokens: Tokens) -> str:
-    """The file."""
+def _test_form(record: dict[str, object]) -> None:
+    """Refuses a record of which a member has another form: as a file may have it that somebody handed over."""
+    for name, value in record.items():
+        if type(value) is not KINDS.get(name, str) or not re.fullmatch(FORMS[name], str(value)):
+            raise TokenError(1, f"a record of the tokens' file has another form than station-token writes: its {name}")
+
+
+def tokens_text(tokens: Tokens) -> str:
+    """The file. Each member of its records is held to its form, whether they were read or are written."""
     records = [asdict(it) for it in tokens.seats.values()] + [asdict(it) for it in tokens.outers]
+    for record in records:
+        _test_form(record)
     lines = "".join("#: " + json.dumps(record, separators=(",", ":")) + "\n" for record in records)
     outers = tokens.open_ones()
     seat_of = {it.number: tokens.seats[it.seat] for it in outers}
     ends = sorted({it.until for it in outers if it.until})
     health = tokens.seats.get(HEALTH)
     variable = {until: "$open_until_" + re.sub(r"\D", "", until) for until in ends}
-    parts = [_map("$time_iso8601", variable[it], [f'"~{later_than(it)}" ""'], "1") for it in ends]
+    parts = [_map("$time_iso8601", variable[it], [f'"~{later_minute(it)}" ""'], "1") for it in ends]
     parts += [
         _map("$shown", "$number_by_token", [f'"{it.text}" {it.number}' for it in outers if it.text]),
         _map('"$ssl_client_verify $ssl_client_s_dn"', "$number_by_certificate",
@@ -170,7 +195,7 @@ def tokens_of(text: str, path: Path, is_anew: bool = False) -> Tokens:
                 tokens.outers.append(Outer(**record))
             else:
                 tokens.seats[record["seat"]] = TokenSeat(**record)
-        same = text_of(tokens) == text
+        same = tokens_text(tokens) == text
     except (ValueError, TypeError, KeyError, AttributeError, RecursionError) as error:
         raise TokenError(1, f"{path} isn't what token writes: {error}") from None
     if not same and not is_anew:
@@ -203,7 +228,7 @@ def put(path: Path, text: Optional[str]) -> None:
         path.unlink()
         sync(path.parent)
     else:
-        put_whole(path, text)
+        replace_file(path, text)
 
 
 def check_folder(folder: Path) -> None:
@@ -222,19 +247,30 @@ def check_folder(folder: Path) -> None:
         raise TokenError(1, f"{folder} is another user's, or others may write it: name a folder of your own")
 
 
+def own_file(file: str) -> Path:
+    """Where a file is that root reads and puts anew: his own, in a folder where nobody else puts another one."""
+    try:
+        path = own_path(file)
+    except UnsafeFile as error:
+        raise TokenError(1, str(error)) from None
+    check_folder(path.parent)
+    _check_owner(path)
+    return path
+
+
 @contextmanager
 def alone(path: Path, patience: float) -> Iterator[None]:
     """One run at a time, in a folder that nobody else may write: the next one waits, for so many seconds."""
     _check_owner(path.parent)
     check_folder(path.parent)
     lock = path.with_name(path.name + ".lock")
-    with held(lock, TokenError(3, f"another run has {lock}: nothing was changed"), patience):
+    with hold_lock(lock, TokenError(3, f"another run has {lock}: nothing was changed"), patience):
         yield
 
 
 def inner_of(file: str) -> str:
     """The token of a file, as a station keeps it."""
     text = Path(file).read_text(encoding="ascii").strip()
-    if not re.fullmatch(r"[!#%-\[\]-~]{1,1024}", text):
+    if not re.fullmatch(INNER, text):
         raise TokenError(1, f'{file}: a token is visible ASCII, here without ", $ and \\')
     return text

@@ -22,8 +22,8 @@ from typing import Any, Iterator, Mapping, Optional, Sequence
 from urllib.parse import unquote
 
 from wanekupo.common.errors import PAGES, BadKey, BadSettings, StationError
-from wanekupo.common.files import IS_POSIX, locked, opened_lock, replace_bytes, synced_folder, tested_folder
-from wanekupo.lots.idevid import TIME, chain_fault, faults_of, late_fault, now
+from wanekupo.common.files import IS_POSIX, locked, opened_lock, replace_bytes, sync, tested_folder
+from wanekupo.lots.idevid import TIME, chain_fault, certificate_faults, late_fault, moment_now
 from wanekupo.lots.spools import CertificateRequest, certificates_of, der_of, pem_of
 
 READABLE = 0o644
@@ -132,7 +132,7 @@ class Authority:
     def keep(self, certificate: Any, record: Mapping[str, Any], told: str, faults: Sequence[str] = ()) -> bytes:
         """Keeps a certificate as the record's one, where it is as it has to be; else a person is told what to do."""
         serial = record["serial"]
-        wrong = [*faults, *faults_of(certificate, record), *chain_fault(certificate, [], self.trusted)]
+        wrong = [*faults, *certificate_faults(certificate, record), *chain_fault(certificate, [], self.trusted)]
         if wrong:
             raise NotCertified(f"the certificate of {serial} isn't as it has to be: {'; '.join(wrong)}", told)
         pem = pem_of("CERTIFICATE", der_of(certificate)).encode()
@@ -147,7 +147,7 @@ class Authority:
         self.take(record["issuer"])
         found = self._found(serial)
         if found is not None:
-            told = f"Nobody got it from here: {_taken_away(number_of(found))}, and begin again."
+            told = f"Nobody got it from here: {_taken_away(certificate_number(found))}, and begin again."
             return self.keep(found, record, told), False
         asked = self.issued / f"{serial}.asked"
         if asked.exists() and self.command:
@@ -158,7 +158,7 @@ class Authority:
             raise NotCertified(f"the command was asked for the certificate of {serial}, and gave none", told)
         self._need_room()
         replace_bytes(asked, f"{record['chip']} {record['key_sha256']}\n".encode(), READABLE)
-        begun = now()
+        begun = moment_now()
         certificate = self._signed(record, request, begun)
         try:
             return self.keep(certificate, record, "", list(late_fault(certificate, record, begun))), True
@@ -169,7 +169,7 @@ class Authority:
         """What a person does about a certificate that the CA shouldn't have signed."""
         if self.command:
             return f"Mend the command, and revoke that certificate in its CA. Then remove {asked}, and begin again."
-        return f"Mend ca.cnf. Nobody got that one: {_taken_away(number_of(certificate))}, and begin again."
+        return f"Mend ca.cnf. Nobody got that one: {_taken_away(certificate_number(certificate))}, and begin again."
 
     def _need_room(self) -> None:
         """Stops where the disk is almost full. The index is written anew with each certificate."""
@@ -205,7 +205,7 @@ class Authority:
 
     def _complete(self, certificate: Any) -> None:
         """Writes openssl's own copy of a certificate anew where it was cut, which openssl doesn't tell."""
-        file = self.folder / "newcerts" / f"{number_of(certificate)}.pem"
+        file = self.folder / "newcerts" / f"{certificate_number(certificate)}.pem"
         pem = pem_of("CERTIFICATE", der_of(certificate)).encode()
         if not file.exists() or file.read_bytes() != pem:
             replace_bytes(file, pem, READABLE)
@@ -275,7 +275,7 @@ class Authority:
             certificate = certificates_of(file.read_bytes(), file)[0]
         except BadKey:
             file.rename(file.with_suffix(".cut"))
-            synced_folder(file.parent)
+            sync(file.parent)
             return
         if not list(chain_fault(certificate, [], self.trusted)):
             self._ran([*self._openssl(), "-valid", str(file.absolute())], file.stem)
@@ -299,7 +299,7 @@ def _tested_secret(file: Path) -> None:
         raise BadSettings(f"others can read {file}, which has a secret of the CA", told)
 
 
-def number_of(certificate: Any) -> str:
+def certificate_number(certificate: Any) -> str:
     """A certificate's own number, as openssl names its file in newcerts and has it in the index."""
     number = f"{certificate.serial_number:X}"
     return number.zfill(len(number) + len(number) % 2)

@@ -16,14 +16,14 @@ from typing import Any, Iterable, Iterator, Mapping, Optional, Sequence
 
 from wanekupo.seat import listings as gathering
 from wanekupo.lots.authority import READABLE, Authority, NotCertified
-from wanekupo.seat.command import Command
+from wanekupo.seat.command_line import Command
 from wanekupo.seat.settings import Settings, looking_station_of
 from wanekupo.common.errors import BadKey, BadSettings, NotTheServer, StationError, UnsafeFile
 from wanekupo.common.files import replace_bytes, tested_folder
 from wanekupo.seat.forms import CHIP, SERIAL
-from wanekupo.lots.idevid import REVOKED, TIME, chain_fault, faults_of, is_early, now, weakness_of
+from wanekupo.lots.idevid import REVOKED, TIME, chain_fault, certificate_faults, is_early, moment_now, weakness_of
 from wanekupo.seat.keys import library
-from wanekupo.common.printing import Progress, say, say_json, warn
+from wanekupo.common.printing import Progress, print_shown, say_json, warn
 from wanekupo.seat.replies import Listed
 from wanekupo.common.sentences import sentence_of
 from wanekupo.lots.spools import CERTIFICATE, REQUEST, SECRET, CertificateRequest, certificates_of
@@ -194,7 +194,7 @@ def _check(request: CertificateRequest, record: Mapping[str, Any], file: Path) -
 # verify
 
 
-def verify(settings: Settings, args: argparse.Namespace) -> int:
+def verify_certificates(settings: Settings, args: argparse.Namespace) -> int:
     trusted, crl = tested_crl(args.trusted, args.crl)
     library("x509")
     chains = {name: _chain_of(name) for name in dict.fromkeys(args.certificates)}
@@ -205,7 +205,7 @@ def verify(settings: Settings, args: argparse.Namespace) -> int:
         for name, chain in chains.items():
             try:
                 if chain:
-                    say(f"{name}: {_verified(chain, serials[name], books, trusted, crl)}\n")
+                    print_shown(f"{name}: {_verified(chain, serials[name], books, trusted, crl)}\n")
             except (NotCertified, BadKey) as error:
                 warn(f"{name}: {sentence_of(error)}")
                 refused += 1
@@ -245,19 +245,19 @@ def _verified(chain: Sequence[Any], serial: str, books: DevicesBySerial, trusted
         raise NotCertified("it has no serialNumber of a record in its subject")
     listed, record = books.record(serial)
     whose = f"{serial}, the chip {listed.chip}"
-    wrong = [*faults_of(chain[0], record), *chain_fault(chain[0], chain[1:], trusted, crl)]
+    wrong = [*certificate_faults(chain[0], record), *chain_fault(chain[0], chain[1:], trusted, crl)]
     if wrong == [REVOKED]:
         raise NotCertified(f"it is the certificate of {whose}, and its CA revoked it", "Trust this device no more.")
     if wrong:
         told = "Don't trust it, and look where it is from."
         raise NotCertified(f"it isn't the certificate of {whose}: {'; '.join(wrong)}", told)
     if is_early(record):
-        told = f"It holds from then on: now it is {now().strftime(TIME)}."
+        told = f"It holds from then on: now it is {moment_now().strftime(TIME)}."
         raise NotCertified(f"it is the certificate of {whose}, valid from {record['not_before']} and not before", told)
     return f"{whose} of {listed.order}, {listed.state}: as its record"
 
 
 COMMANDS = [
     Command("certify", "have the requests of a spool certified", add_certify, certify, CERTIFY),
-    Command("verify", "hold certificates to their records", add_verify, verify, VERIFY),
+    Command("verify", "hold certificates to their records", add_verify, verify_certificates, VERIFY),
 ]

@@ -42,7 +42,7 @@ def azure_line(spool: Path, row: Row) -> dict[str, Any]:
     return {"id": row["serial"], "importMode": "create", "status": "enabled", "authentication": known}
 
 
-def lines_of(line: Callable[[Path, Row], dict[str, Any]], spool: Path, rows: Sequence[Row]) -> str:
+def cloud_lines(line: Callable[[Path, Row], dict[str, Any]], spool: Path, rows: Sequence[Row]) -> str:
     """The lines of the devices that are in use, all of one form, each serial number once. A cloud is to trust none that
     was scrapped."""
     made = [line(spool, row) for row in rows if row["state"] in IN_USE]

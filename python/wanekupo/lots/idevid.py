@@ -8,13 +8,13 @@ from __future__ import annotations
 import contextlib
 import hashlib
 import re
-import subprocess
 import tempfile
 from datetime import datetime, timezone
 from pathlib import Path
 from typing import Any, Callable, Iterator, Mapping, Optional, Sequence
 
 from wanekupo.common.errors import BadKey, BadSettings
+from wanekupo.common.process import run_command
 from wanekupo.seat.keys import library
 from wanekupo.lots.spools import certificates_of, der_of, key_of_certificate, pem_of
 
@@ -30,8 +30,8 @@ EXTENSIONS = {
     "authorityKeyIdentifier": False,
 }
 BESIDES = ("authorityInfoAccess", "cRLDistributionPoints")
-USAGES = ("digital_signature", "content_commitment", "key_encipherment", "data_encipherment", "key_agreement")
-USAGES += ("key_cert_sign", "crl_sign")
+USAGES = "digital_signature content_commitment key_encipherment data_encipherment key_agreement".split()
+USAGES += ["key_cert_sign", "crl_sign"]
 
 # The keys that a device may have, and how its certificate may be signed.
 CURVES = ("secp256r1", "secp384r1", "secp521r1")
@@ -56,7 +56,7 @@ BACKDATED = 86_400
 Record = Mapping[str, Any]
 
 
-def now() -> datetime:
+def moment_now() -> datetime:
     return datetime.now(timezone.utc).replace(microsecond=0)
 
 
@@ -68,7 +68,7 @@ def validity_of(certificate: Any) -> tuple[datetime, datetime]:
     return begins, ends
 
 
-def faults_of(certificate: Any, record: Record) -> Iterator[str]:
+def certificate_faults(certificate: Any, record: Record) -> Iterator[str]:
     """What of a certificate isn't as its record wants it, each in words: what is there, and what is wanted."""
     library("x509")
     for part, look in PARTS.items():
@@ -130,7 +130,7 @@ def _time_faults(certificate: Any, record: Record) -> Iterator[str]:
     begins, ends = (it.strftime(TIME).rjust(15, "0") for it in validity_of(certificate))
     if record["not_before"] not in (None, begins):
         yield f"it begins at {begins}, and the record at {record['not_before']}"
-    if record["not_before"] is None and begins > now().strftime(TIME):
+    if record["not_before"] is None and begins > moment_now().strftime(TIME):
         yield f"it begins at {begins}, which is to come, and its record has no beginning"
     if ends != record["not_after"]:
         yield f"it ends at {ends}, and the record at {record['not_after']}"
@@ -180,7 +180,7 @@ PARTS: Mapping[str, Callable[[Any, Record], Iterator[str]]] = {
 
 def is_early(record: Record) -> bool:
     """Whether a record's certificate holds later alone. It is issued before, and nobody else takes it until then."""
-    return record["not_before"] is not None and record["not_before"] > now().strftime(TIME)
+    return record["not_before"] is not None and record["not_before"] > moment_now().strftime(TIME)
 
 
 def late_fault(certificate: Any, record: Record, asked: datetime) -> Iterator[str]:
@@ -203,7 +203,7 @@ def chain_fault(
     listed = _errors_of(certificate, others, trusted, "-crl_check", "-CRLfile", str(crl)) if crl else []
     if crl and not listed:
         return
-    at = max(now(), validity_of(certificate)[0])
+    at = max(moment_now(), validity_of(certificate)[0])
     broken = _errors_of(certificate, others, trusted, "-attime", str(int(at.timestamp())))
     unknown = [told for number, told in listed if number != EARLY]
     if broken:
@@ -224,7 +224,7 @@ def _errors_of(certificate: Any, others: Sequence[Any], trusted: Path, *more: st
             file.write_text("".join(pem_of("CERTIFICATE", der_of(it)) for it in its), encoding="ascii")
             words += ["-untrusted", str(file)] if name == "others" and its else []
         try:
-            done = subprocess.run([*words, str(file)], capture_output=True, text=True, check=False)
+            done = run_command([*words, str(file)])
         except FileNotFoundError:
             raise BadSettings("there is no command openssl", "Install Debian's openssl.") from None
     found = [(int(it[1]), it[2]) for it in ERROR.finditer(done.stderr)]

@@ -19,13 +19,13 @@ from typing import IO, Any, Callable, Iterator, Mapping, Optional, Sequence
 from wanekupo.lots import clouds
 from wanekupo.seat import listings as gathering
 from wanekupo.lots import sheets
-from wanekupo.seat.command import Command
+from wanekupo.seat.command_line import Command
 from wanekupo.seat.settings import Settings, looking_station_of, token_of
 from wanekupo.common.errors import BadKey, BadSettings, StationError
-from wanekupo.common.files import locked, opened_own, replace_bytes, synced_folder
+from wanekupo.common.files import locked, opened_own, replace_bytes, sync
 from wanekupo.lots.idevid import REVOKED, chain_fault
-from wanekupo.seat.records import COLUMNS, Lot, Row, fields_of, is_row, lot_of, rows_of
-from wanekupo.common.printing import Progress, say, say_json, table_lines, warn
+from wanekupo.seat.lot_records import COLUMNS, Lot, Row, fields_of, is_row, lot_of, device_rows
+from wanekupo.common.printing import Progress, print_shown, say_json, table_lines, warn
 from wanekupo.common.signing import CMS, DIGEST, MINISIG, Signer, add_signer, beside, digest_file, signer_of
 from wanekupo.lots.spools import CERTIFICATE, certificate_in, certificates_of, der_of, key_of_certificate
 from wanekupo.lots.spools import read_in, request_in, tested_crl, tested_spool
@@ -41,7 +41,7 @@ SPOOLED = ("csr", "certificate")
 WRITTEN = 0o666
 
 
-def add_arguments(parser: argparse.ArgumentParser) -> None:
+def add_list_words(parser: argparse.ArgumentParser) -> None:
     parser.add_argument("orders", nargs="*", metavar="ORDER", help="the orders' names")
     parser.add_argument("--all", action="store_true", help="each order of the customer, in place of names")
     parser.add_argument("--out", metavar="FILE", help="the list's file")
@@ -65,7 +65,7 @@ def _check(settings: Settings, args: argparse.Namespace) -> Optional[Signer]:
         raise BadSettings("only a file is signed, or goes with a cloud's or a spreadsheet's", "Give --out FILE.")
     _check_files([Path(it) for it in (args.out, args.xlsx, args.aws, args.azure) if it is not None], signer)
     if args.xlsx:
-        sheets.library()
+        sheets.openpyxl_library()
     if (args.aws or args.azure or args.crl) and settings.spool is None:
         raise BadSettings("certificates are looked for in a spool, and none is named", "Give --spool FOLDER.")
     if (args.crl is None) != (args.trusted is None):
@@ -103,7 +103,7 @@ def main(settings: Settings, args: argparse.Namespace) -> int:
             lot = lot_of(station, args.orders)
             _warn_of_missing(lot)
             with _part_of(file, settings) as part:
-                rows = gathered((station, second), lot, part, told)
+                rows = lot_rows((station, second), lot, part, told)
     rows = sorted(rows, key=lambda row: (row["order"], row["serial"]))
     names: tuple[str, ...] = COLUMNS
     of_all = len(rows)
@@ -118,7 +118,7 @@ def main(settings: Settings, args: argparse.Namespace) -> int:
         _warn_of_misread(names, lines, args.xlsx)
         text = table_lines(names, [names, *lines], False)
     if file is None:
-        say(text)
+        print_shown(text)
         return 0
     made = {Path(args.xlsx): sheets.xlsx_of(names, lines)} if args.xlsx else {}
     write_all(_clouds_files(settings.spool, rows, args) | made | {file: text.encode()}, signer)
@@ -156,9 +156,9 @@ def write_all(files: Mapping[Path, bytes], signer: Optional[Signer]) -> None:
             rooms[file].mkdir(mode=0o700)
             made = rooms[file] / file.name
             replace_bytes(made, data, WRITTEN)
-            digest_file(made)
+            digest_file(made, data)
             if signer:
-                signer.sign(made)
+                signer.sign(made, data)
         for file, room in rooms.items():
             _put_in_place(file, room)
     finally:
@@ -184,7 +184,7 @@ def _put_in_place(file: Path, room: Path) -> None:
         beside(file, ending).unlink(missing_ok=True)
     for made in (room / file.name, *sorted(it for it in room.iterdir() if it.name != file.name)):
         os.replace(made, file.with_name(made.name))
-    synced_folder(file.parent)
+    sync(file.parent)
 
 
 def _spooled(spool: Path, row: Row) -> dict[str, Optional[str]]:
@@ -234,14 +234,14 @@ def _clouds_files(spool: Optional[Path], rows: Sequence[Row], args: argparse.Nam
     made: dict[Path, bytes] = {}
     for file, line in ((args.aws, clouds.aws_line), (args.azure, clouds.azure_line)):
         if file is not None and spool is not None:
-            made[Path(file)] = clouds.lines_of(line, spool, rows).encode("ascii")
+            made[Path(file)] = clouds.cloud_lines(line, spool, rows).encode("ascii")
     return made
 
 
 # What came before the list was cut.
 
 
-def gathered(stations: Any, lot: Lot, part: Optional[IO[bytes]], told: Callable[[int, int], None]) -> list[Row]:
+def lot_rows(stations: Any, lot: Lot, part: Optional[IO[bytes]], told: Callable[[int, int], None]) -> list[Row]:
     """The rows of a lot. Those of the part are taken where the list has the same chip with the same serial number, and
     with its state of now; the others are asked for, and added to the part."""
     listed = {it.chip: it for it in lot.listed}
@@ -249,7 +249,7 @@ def gathered(stations: Any, lot: Lot, part: Optional[IO[bytes]], told: Callable[
     rows = {chip: row | {"state": listed[chip].state} for chip, row in rows.items()}
     missing = [it for it in lot.listed if it.chip not in rows]
     told(len(rows), len(listed))
-    for some in rows_of(stations, lot, missing):
+    for some in device_rows(stations, lot, missing):
         rows |= {row["chip"]: row for row in some}
         if part:
             part.writelines(_line_of(row) for row in some)
@@ -317,4 +317,4 @@ def _rows_in(part: IO[bytes]) -> Iterator[Row]:
         yield row
 
 
-COMMANDS = [Command("manifest", SAID, add_arguments, main, MORE)]
+COMMANDS = [Command("manifest", SAID, add_list_words, main, MORE)]

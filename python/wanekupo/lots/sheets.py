@@ -77,7 +77,7 @@ def _more(count: int) -> str:
     return f"; so {'is' if count == 1 else 'are'} {count} more of this column" if count else ""
 
 
-def library() -> Any:
+def openpyxl_library() -> Any:
     """Debian's python3-openpyxl, which not every customer needs."""
     try:
         return importlib.import_module("openpyxl")
@@ -90,8 +90,8 @@ def xlsx_of(names: Sequence[str], lines: Sequence[Sequence[str]]) -> bytes:
     """A list as .xlsx. Each cell is a text, and its format too, so that it stays one where somebody edits it."""
     if len(lines) >= MOST_ROWS:
         raise BadSettings(f"the list has {len(lines)} lines, and a sheet {MOST_ROWS}", "Make one of fewer orders.")
-    book = library().Workbook(write_only=True)
-    sheet, made = book.create_sheet("list"), library().cell.WriteOnlyCell
+    book = openpyxl_library().Workbook(write_only=True)
+    sheet, made = book.create_sheet("list"), openpyxl_library().cell.WriteOnlyCell
     for line in (names, *lines):
         sheet.append([_text_cell(made(sheet), field) for field in line])
     out = io.BytesIO()

@@ -58,7 +58,7 @@ def escaped(text: str) -> str:
     return ascii_text.replace("\\", "\\\\").replace('"', '\\"').replace("\n", "\\n")
 
 
-def number(value: Value) -> str:
+def number_text(value: Value) -> str:
     """A value. A whole number stands without a point, as of bytes."""
     if isinstance(value, bool) or float(value).is_integer():
         return str(int(value))
@@ -88,7 +88,7 @@ class Samples:
             values = self.found.get(metric, {})
             if values:
                 lines += [f"# HELP {metric} {said}", f"# TYPE {metric} {kind}"]
-            lines += [f"{metric}{_labels(dict(labels))} {number(value)}" for labels, value in values.items()]
+            lines += [f"{metric}{_labels(dict(labels))} {number_text(value)}" for labels, value in values.items()]
         return "".join(f"{line}\n" for line in lines)
 
 

@@ -26,7 +26,7 @@ class ShiftHours:
         return is_today or minute < self.end - DAY and (moment.weekday() - 1) % 7 in self.days
 
 
-def shift_of(text: str) -> ShiftHours:
+def shift_hours(text: str) -> ShiftHours:
     """As `Mon-Fri 06:00-14:00`, `Sat 06:00-12:00` or `Sun-Thu 22:00-06:00`."""
     found = HOURS.fullmatch(text)
     names = [it for it in (found[1], found[2] or found[1]) if it in DAYS] if found else []

@@ -8,7 +8,6 @@ away.
 from __future__ import annotations
 
 import re
-from datetime import datetime, timezone
 from pathlib import Path
 from typing import Any, Optional
 
@@ -16,7 +15,7 @@ from wanekupo.common.errors import BadJournal, UnsafeFile
 from wanekupo.metrics.exposition import Samples
 from wanekupo.seat.journal import seat_named
 from wanekupo.seat.journal_lines import SUFFIX, Folders, folders_at, journals_below, lines_of
-from wanekupo.common.moments import moment_of, text_of
+from wanekupo.common.moments import moment_of, now_text
 from wanekupo.common.printing import warn
 from wanekupo.common.sentences import sentence_of
 from wanekupo.seat.states import LOST
@@ -32,17 +31,13 @@ MOST_SEATS = 500
 OTHERS = "others"
 
 
-def now() -> str:
-    return text_of(datetime.now(timezone.utc))
-
-
 class Counts:
     """What is known of the journals, in the part of the kept file that is theirs."""
 
     def __init__(self, kept: dict[str, Any]):
         self.read: dict[str, int] = kept.setdefault("read", {})
         self.seats: dict[str, dict[str, Any]] = kept.setdefault("seats", {})
-        self.now = now()
+        self.now = now_text()
 
     def seat(self, name: str) -> dict[str, Any]:
         known = name if name in self.seats or len(self.seats) < MOST_SEATS else OTHERS

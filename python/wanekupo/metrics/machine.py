@@ -10,6 +10,7 @@ import os
 import re
 import ssl
 import subprocess
+import time
 import urllib.request
 from pathlib import Path
 from typing import Any, Optional
@@ -17,6 +18,7 @@ from typing import Any, Optional
 from wanekupo.common.errors import StationError
 from wanekupo.metrics.exposition import Samples
 from wanekupo.common.moments import moment_of
+from wanekupo.common.process import run_command
 
 # What a start takes beside the bytes of the file, by the size of its pages (docs/reference/program.md).
 SMALL_PAGES, LARGE_PAGES = (1.0, 6_000_000), (1.1, 11_000_000)
@@ -28,6 +30,9 @@ LONGEST, LONGEST_PAGE = 10, 4096
 # The file that the tool for backups leaves in their folder, and the unit that runs it.
 LAST_BACKUP, BACKUP_UNIT = "last-backup.json", "station-backup"
 
+# By how many seconds a note may be ahead of this machine's clock.
+AHEAD = 60
+
 
 # The process.
 
@@ -36,7 +41,8 @@ def properties_of(unit: str, *names: str) -> dict[str, str]:
     """What systemd says of a unit; of a moment the seconds since 1970 behind an @."""
     words = ["systemctl", "show", unit, "--timestamp=unix", f"--property={','.join(names)}"]
     try:
-        done = subprocess.run(words, capture_output=True, text=True, check=True, timeout=LONGEST)
+        done = run_command(words, LONGEST)
+        done.check_returncode()
     except (OSError, subprocess.SubprocessError) as error:
         raise StationError(f"systemctl doesn't show the unit {unit}", "Look whether systemd runs here.") from error
     return dict(line.split("=", 1) for line in done.stdout.splitlines() if "=" in line)
@@ -112,7 +118,7 @@ def add_store(samples: Samples, store: Path) -> None:
 # nginx.
 
 
-def requests_of(url: str, context: Optional[ssl.SSLContext]) -> int:
+def nginx_requests(url: str, context: Optional[ssl.SSLContext]) -> int:
     """How many requests nginx has had since its start, by the page of its module stub_status."""
     if not url.startswith(("http://", "https://")):
         raise ValueError(f"{url} is no address of a page")
@@ -156,7 +162,7 @@ def add_requests(
     connections: int,
 ) -> None:
     counted = requests_since(kept, start, passed_by(passed))
-    samples.add("wanekupo_http_requests_total", requests_of(url, context))
+    samples.add("wanekupo_http_requests_total", nginx_requests(url, context))
     samples.add("wanekupo_server_requests_total", counted)
     samples.add("wanekupo_connections_left", max(0, connections - counted))
 
@@ -164,20 +170,19 @@ def add_requests(
 # The last backup.
 
 
-def failed_behind(moment: float) -> bool:
-    """Whether the backups' unit failed behind a moment: a disk that is full or read-only takes no note of that."""
-    shown = properties_of(BACKUP_UNIT, "Result", "ExecMainExitTimestamp")
-    at = re.fullmatch(r"@(\d+)", shown.get("ExecMainExitTimestamp", ""))
-    return at is not None and shown.get("Result") != "success" and int(at[1]) > moment
+def backup_unit_failed() -> bool:
+    """Whether the backups' unit failed when it ran last. A note that says otherwise is the store user's word."""
+    return properties_of(BACKUP_UNIT, "Result").get("Result") != "success"
 
 
 def add_backup(samples: Samples, folder: Path, has_unit: bool) -> None:
-    """The last backup, by its note, and where systemd runs the backups by their unit's failure behind that."""
+    """The last backup, by its note; it is no good one where the note is of a time to come, or where systemd runs the
+    backups and their unit failed."""
     file = folder / LAST_BACKUP
     try:
         last = json.loads(file.read_text(encoding="utf-8"))
         ended = moment_of(last["at"]).timestamp()
-        is_fine = last["ok"] is True and not (has_unit and failed_behind(ended))
+        is_fine = last["ok"] is True and ended <= time.time() + AHEAD and not (has_unit and backup_unit_failed())
         values = {"timestamp_seconds": ended, "success": is_fine, "bytes": int(last["bytes"] or 0)}
     except (ValueError, KeyError, TypeError) as error:
         raise StationError(f"{file} doesn't say how the last backup ended", "Make a backup.") from error

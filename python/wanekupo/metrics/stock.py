@@ -6,8 +6,6 @@ addresses can be known from outside is in the orders (`mac`, `macs`, `quantity`)
 
 from __future__ import annotations
 
-import tomllib
-from pathlib import Path
 from typing import Any, Mapping, Sequence
 
 from wanekupo.seat import listings as gathering
@@ -65,18 +63,6 @@ def add_site(samples: Samples, report: str, known: Sequence[str]) -> None:
 
 
 # Addresses.
-
-
-def pools_of(site: Path) -> dict[str, list[Block]]:
-    """The pools of each customer of a site file."""
-    try:
-        text = tomllib.loads(site.read_text(encoding="utf-8"))
-        return {
-            it["name"]: [(int(pool["first"], 16), int(pool["count"])) for pool in it.get("pool", ())]
-            for it in text["customer"]
-        }
-    except (KeyError, TypeError, AttributeError, ValueError) as error:
-        raise StationError(f"{site} is no site file: {error}", "Name the file that the server runs with.") from error
 
 
 def learn_blocks(station: Station, names: Sequence[str], blocks: dict[str, Any]) -> None:

@@ -29,14 +29,13 @@ import argparse
 import math
 import os
 import signal
-import subprocess
 import sys
 import time
 from dataclasses import dataclass
 from pathlib import Path
 
 
-from wanekupo.common.process import end_tool
+from wanekupo.common.process import end_tool, run_command, succeeds
 from wanekupo.common.errors import PlantError
 from wanekupo.plant.trial_copy import Backup, copy_files, copy_running, newest_backup
 from wanekupo.common.store_user import (
@@ -71,7 +70,7 @@ NAMES = ("metrics_timestamp_seconds", "connections_left", "server_memory_bytes",
          "start_memory_bytes")  # fmt: skip
 
 
-def say(text: str) -> None:
+def tell_restart(text: str) -> None:
     print(f"restart: {text}", flush=True)
 
 
@@ -82,7 +81,7 @@ def megabytes(size: int) -> int:
 # ---- What asks for it.
 
 
-def number_of(value: str) -> int | None:
+def whole_number(value: str) -> int | None:
     """A metric's value as a whole number; none where it is no amount."""
     try:
         found = float(value)
@@ -94,7 +93,7 @@ def number_of(value: str) -> int | None:
 def metrics_in(text: str, title: str, now: float) -> Metrics:
     """The metrics of a text, which the store's user wrote."""
     rows = dict(line.split(" ", 1) for line in text.splitlines() if " " in line)
-    found = [number_of(rows.get(f"wanekupo_{name}", "")) for name in NAMES]
+    found = [whole_number(rows.get(f"wanekupo_{name}", "")) for name in NAMES]
     age = int(now) - (found[0] or 0)
     if not -AHEAD <= age <= OLDEST:
         raise NoRestartError(f"the metrics in {title} are {age} s old: look at wanekupo-metrics.timer")
@@ -181,13 +180,12 @@ def planned_until(args: argparse.Namespace, store: StoreFolder, moment: float) -
 
 
 def service(*words: str) -> bool:
-    return subprocess.run(["systemctl", *words], stdin=subprocess.DEVNULL, check=False).returncode == 0
+    return succeeds("systemctl", *words)
 
 
 def is_healthy(args: argparse.Namespace) -> bool:
-    words = ["curl", "-s", "-m", "5", "-o", "/dev/null", "-w", "%{http_code}", "--cacert", str(args.ca), args.health]
-    done = subprocess.run(words, stdin=subprocess.DEVNULL, stdout=subprocess.PIPE, check=False)
-    return done.stdout == b"200"
+    words = ["curl", "-q", "-s", "-m", "5", "-o", "/dev/null", "-w", "%{http_code}", "--cacert", str(args.ca), args.health]
+    return run_command(words).stdout == "200"
 
 
 def restart(args: argparse.Namespace, store: StoreFolder, wait: int) -> float:
@@ -204,7 +202,7 @@ def restart(args: argparse.Namespace, store: StoreFolder, wait: int) -> float:
     return time.monotonic() - begun
 
 
-def run(args: argparse.Namespace) -> None:
+def run_restart(args: argparse.Namespace) -> None:
     store = StoreFolder(args.db)
     store.size()
     clear_rooms(args.room)
@@ -215,31 +213,32 @@ def run(args: argparse.Namespace) -> None:
     reasons = reasons_of(args, metrics, log)
     if not reasons and not args.check and not args.now:
         held = f"the log has {megabytes(log)} MB, the server holds {megabytes(metrics.held)} MB"
-        say(f"nothing asks for it, nothing was done: {metrics.left} connections are left, {held}")
+        tell_restart(f"nothing asks for it, nothing was done: {metrics.left} connections are left, {held}")
         return
     why = "; ".join(reasons) or ("it was asked for by --now" if args.now else "nothing asks for it")
     if metrics.needs > metrics.may_have:
-        told = f"a start needs {megabytes(metrics.needs)} MB, and the server may have {megabytes(metrics.may_have)}"
-        raise NoRestartError(f"no restart: {told}: raise MemoryMax= first")
+        needs = f"a start needs {megabytes(metrics.needs)} MB, and the server may have {megabytes(metrics.may_have)}"
+        raise NoRestartError(f"no restart: {needs}: raise MemoryMax= first")
     told, by = seconds_away(args, store, metrics)
     if args.check:
-        say(f"{why}; it would be away for {told} s, {by}; nothing was done")
+        tell_restart(f"{why}; it would be away for {told} s, {by}; nothing was done")
         return
     wait = 3 * told + 60
     planned_until(args, store, time.time() + wait)
-    say(f"the server will be away for {told} s, {by}, because: {why}")
+    tell_restart(f"the server will be away for {told} s, {by}, because: {why}")
     away = restart(args, store, wait)
     planned_until(args, store, time.time())
     log = store.size("-wal")
-    say(f"done: the server was away for {round(away)} s at the most, and {told} were told; the log has {log} bytes")
+    done = f"the server was away for {round(away)} s at the most, and {told} were told; the log has {log} bytes"
+    tell_restart(f"done: {done}")
 
 
-def whole(path: str) -> Path:
+def absolute_path(path: str) -> Path:
     """A path as it is named from anywhere."""
     return Path(os.path.abspath(path))
 
 
-def words() -> argparse.ArgumentParser:
+def restart_parser() -> argparse.ArgumentParser:
     made = argparse.ArgumentParser(
         prog="station-restart", description=__doc__, allow_abbrev=False,
         formatter_class=argparse.RawDescriptionHelpFormatter,
@@ -248,29 +247,30 @@ def words() -> argparse.ArgumentParser:
     kind.add_argument("--check", action="store_true", help="change nothing")
     kind.add_argument("--now", action="store_true", help="restart also where nothing asks for it")
     made.add_argument("--unit", default="station", help="the server's (%(default)s)")
-    made.add_argument("--db", type=whole, default="/var/lib/station/books.db", help="the store (%(default)s)")
-    made.add_argument("--site", type=whole, default="/etc/station/site.toml", help="(%(default)s)")
+    made.add_argument("--db", type=absolute_path, default="/var/lib/station/books.db", help="the store (%(default)s)")
+    made.add_argument("--site", type=absolute_path, default="/etc/station/site.toml", help="(%(default)s)")
     made.add_argument("--program", default="station", help="(%(default)s)")
-    made.add_argument("--metrics", type=whole, default="/var/lib/wanekupo-metrics/wanekupo.prom", help="(%(default)s)")
-    made.add_argument("--backups", type=whole, default="/var/backups/station", help="(%(default)s)")
+    metrics = "/var/lib/wanekupo-metrics/wanekupo.prom"
+    made.add_argument("--metrics", type=absolute_path, default=metrics, help="(%(default)s)")
+    made.add_argument("--backups", type=absolute_path, default="/var/backups/station", help="(%(default)s)")
     made.add_argument("--snapshot", default="", metavar="KIND", help="lvm, btrfs or zfs (as the last backup's)")
-    made.add_argument("--room", type=whole, default=str(ROOMS), metavar="FOLDER",
+    made.add_argument("--room", type=absolute_path, default=str(ROOMS), metavar="FOLDER",
                       help="of root's, where a copy is tried (%(default)s)")  # fmt: skip
     made.add_argument("--health", default="https://station.example:8443/health", metavar="URL", help="(%(default)s)")
-    made.add_argument("--ca", type=whole, default="/etc/station/cert.pem", metavar="FILE", help="(%(default)s)")
+    made.add_argument("--ca", type=absolute_path, default="/etc/station/cert.pem", metavar="FILE", help="(%(default)s)")
     made.add_argument("--connections", type=int, default=200_000, metavar="N", help="(%(default)s)")
     made.add_argument("--log", type=int, default=64, metavar="MB", help="(%(default)s)")
     made.add_argument("--memory", type=int, default=50, metavar="PERCENT", help="(%(default)s)")
     return made
 
 
-def stopped(_: int, __: object) -> None:
+def stop_restart(_: int, __: object) -> None:
     raise NoRestartError("stopped by a signal")
 
 
 def main() -> int:
-    args = words().parse_args()
+    args = restart_parser().parse_args()
     os.umask(0o077)
     for number in STOPS:
-        signal.signal(number, stopped)
-    return end_tool("restart", lambda: run(args))
+        signal.signal(number, stop_restart)
+    return end_tool("restart", lambda: run_restart(args))

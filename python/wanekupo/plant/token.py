@@ -32,7 +32,6 @@ import os
 import re
 import secrets
 import shlex
-import subprocess
 import sys
 import time
 from dataclasses import dataclass, replace
@@ -40,22 +39,21 @@ from pathlib import Path
 from typing import Optional
 
 
-from wanekupo.common.process import end_tool
+from wanekupo.common.process import end_tool, run_command
 from wanekupo.standby import living
 from wanekupo.standby.half import SETTINGS, Half, StandbyError, read_settings
 from wanekupo.common.token_file import (
-    HEALTH, LAST, MINUTE, PREFIX, Outer, TokenError, Tokens, TokenSeat, alone, check_folder, inner_of, is_past,
-    mark_of, now, put, read, text_of, tokens_of,
+    HEALTH, HOLDER, LAST, MANAGER, MINUTE, NAME, PREFIX, SERVER, SUBJECT, Outer, TokenError, Tokens, TokenSeat, alone,
+    check_folder, inner_of, is_past, mark_of, current_minute, own_file, put, read, tokens_text, tokens_of,
 )  # fmt: skip
-from wanekupo.common.site_file import digest_of, digests_of, grown, is_in, lines_of
-from wanekupo.common.whole_file import make_file, put_whole
+from wanekupo.common.store_user import read_small
+from wanekupo.common.site_file import digest_of, read_site_file
+from wanekupo.common.files import make_file, replace_file
+from wanekupo.plant.site.growth import lines_of, with_seat
 
 NAMED = "station-token"
 
 FILE, SITE, PID = "/etc/station/tokens.conf", "/etc/station/site.toml", "/run/nginx.pid"
-NAME = r"[A-Za-z0-9._-]{1,32}"
-SERVER = r"[a-z][a-z0-9_]{0,31}|127\.0\.0\.1:[1-9]\d{0,4}"
-SUBJECT = r"[A-Za-z0-9 ._@:/=,+'()-]{3,400}"
 # How long nginx may take to start its workers anew, in seconds.
 TAKEN = 30.0
 
@@ -86,7 +84,7 @@ def minute_of(day: str) -> str:
         datetime.date.fromisoformat(day)
     except ValueError:
         raise TokenError(1, f"there is no day {day}") from None
-    if until < now():
+    if until < current_minute():
         raise TokenError(1, f"{day} is past")
     return until
 
@@ -103,13 +101,10 @@ def minute_after(grace: str) -> str:
 # ---- nginx
 
 
-def ran(command: str) -> tuple[bool, str]:
+def test_nginx(command: str) -> tuple[bool, str]:
     """Whether a command did it, and what it said."""
     try:
-        done = subprocess.run(
-            shlex.split(command), stdin=subprocess.DEVNULL, capture_output=True, text=True, errors="replace",
-            check=False,
-        )  # fmt: skip
+        done = run_command(shlex.split(command))
     except FileNotFoundError as error:
         return False, f"there is no {error.filename}: install it, or say --no-reload where another proxy reads the file"
     except (OSError, ValueError) as error:
@@ -135,11 +130,11 @@ def workers(pid_file: str) -> set[str]:
     return found
 
 
-def told(command: str, pid_file: str) -> str:
+def reload_nginx(command: str, pid_file: str) -> str:
     """Has nginx read its configuration; what is wrong, or nothing. It may say yes and refuse it only then, as where a
     zone has another key than before: whether it took it is seen by a worker that wasn't there."""
     before = workers(pid_file)
-    is_fine, said = ran(command)
+    is_fine, said = test_nginx(command)
     end = time.monotonic() + TAKEN
     while is_fine and not workers(pid_file) - before:
         if time.monotonic() > end:
@@ -156,15 +151,15 @@ def commit(args: argparse.Namespace, tokens: Tokens, before: Optional[str]) -> O
     """The file anew, tested and read by nginx; where nginx didn't read it, for whatever reason, the error is for the
     end. Where the test fails the file of before is back."""
     path = Path(args.file)
-    put(path, text_of(tokens))
+    put(path, tokens_text(tokens))
     if args.no_reload:
         return None
     try:
-        is_fine, said = ran(args.test)
+        is_fine, said = test_nginx(args.test)
         if not is_fine:
             put(path, before)
             raise TokenError(4, f"nginx refuses its configuration, so nothing was changed:\n{said}")
-        wrong = told(args.reload, args.pid)
+        wrong = reload_nginx(args.reload, args.pid)
     except (OSError, ValueError) as error:
         wrong = f"{error}. Mend that, and type `{NAMED} write`"
     return TokenError(5, f"{path} is changed, and nginx may go on as before:\n{wrong}") if wrong else None
@@ -174,14 +169,14 @@ def put_site(args: argparse.Namespace, done: Outcome) -> Optional[TokenError]:
     """A site file's new text, where a command has one."""
     try:
         if done.site:
-            put_whole(Path(args.into).resolve(), done.site, os.stat(args.into))
+            replace_file(args.into, done.site, like=args.into.stat())
         return None
     except OSError as error:
         told = f"`{NAMED} seat {args.seat}` prints the lines that it lacks"
         return TokenError(7, f"{args.file} is changed, and {args.into} isn't: {error}. {told}")
 
 
-def say(args: argparse.Namespace, done: Outcome, text: str) -> list[TokenError]:
+def print_outcome(args: argparse.Namespace, done: Outcome, text: str) -> list[TokenError]:
     """Prints what a command came to."""
     try:
         print(text, end="", flush=True)
@@ -212,9 +207,22 @@ def left_to_the_other(path: Path, tokens: Tokens) -> Optional[TokenError]:
 # ---- commands
 
 
+def digests_of(path: str) -> dict[str, tuple[str, str]]:
+    """The digest of each seat of a site file with its customer, and of the manager, by name."""
+    site = read_site_file(path)
+    found = {seat: (it.name, it.seats[seat]) for seat, it in site.seats().items()}
+    return found | ({MANAGER: (MANAGER, site.manager)} if site.manager else {})
+
+
+def is_in(digests: dict[str, tuple[str, str]], seat: TokenSeat) -> bool:
+    """Whether a site has a seat with its token; a manager's name isn't in the site."""
+    customer, digest = digests.get(MANAGER if seat.is_manager() else seat.seat, ("", ""))
+    return digest == digest_of(seat.inner) and (seat.is_manager() or customer == seat.customer)
+
+
 def taken_over(args: argparse.Namespace, name: str, server: str) -> TokenSeat:
     """A seat that the site file has, with its token out of a file."""
-    digests = digests_of(Path(args.site).read_text(encoding="utf-8"), args.site)
+    digests = digests_of(args.site)
     customer = name if name.startswith("@") else digests.get(name, ("", ""))[0]
     made = TokenSeat(name, customer, inner_of(args.known), server)
     if not is_in(digests, made):
@@ -243,7 +251,8 @@ def seat(args: argparse.Namespace, tokens: Tokens) -> Outcome:
     if args.into:
         if not os.access(args.into, os.W_OK):
             raise TokenError(1, f"{args.into} can't be written")
-        text = grown(Path(args.into).read_text(encoding="utf-8"), made, args.into)
+        args.into = own_file(args.into)
+        text = with_seat(read_small(args.into).decode(), made, str(args.into))
         return Outcome(told=f"{made.title()} is in {args.into}", site=text)
     return Outcome(lines_of(made), f"{made.title()}: these lines are for the site file")
 
@@ -257,37 +266,37 @@ def new_one(tokens: Tokens, like: Outer) -> Outer:
         number=max([it.number for it in tokens.outers], default=0) + 1,
         text=text,
         mark=mark_of(text or like.subject),
-        since=now(),
+        since=current_minute(),
         ended="",
     )
     tokens.add(made)
     return made
 
 
-def told_of(made: Outer) -> str:
+def outer_sentence(made: Outer) -> str:
     what = "looks, and no more" if made.looks else "may all that its seat may"
-    end = f", until {shown(made.until)}" if made.until else ""
+    end = f", until {shown_until(made.until)}" if made.until else ""
     return f"{made.token} {what}{end}: {made.subject or made.mark}"
 
 
-def add(args: argparse.Namespace, tokens: Tokens) -> Outcome:
+def add_outer(args: argparse.Namespace, tokens: Tokens) -> Outcome:
     if args.seat not in tokens.seats:
         raise TokenError(1, f"there is no seat {args.seat}: make it with `{NAMED} seat`")
     subject = of_form(SUBJECT, args.certificate, "subject of a certificate") if args.certificate else ""
     if subject and any(it.subject == subject for it in tokens.open_ones()):
         raise TokenError(1, f"the certificate {subject} has a seat already")
     until = minute_of(args.until) if args.until else ""
-    holder = of_form(r"[ -~]{0,80}", args.holder, "text of at most 80 letters")
+    holder = of_form(HOLDER, args.holder, "text of at most 80 letters")
     like = Outer("", 0, args.seat, args.look, "", "", subject=subject, until=until, holder=holder)
     made = new_one(tokens, like)
-    return Outcome(told=told_of(made), secret=made.text)
+    return Outcome(told=outer_sentence(made), secret=made.text)
 
 
 def of_name(outers: list[Outer], name: str) -> list[Outer]:
     return [it for it in outers if name in (it.token, it.seat)]
 
 
-def named(tokens: Tokens, name: str) -> list[Outer]:
+def outers_named(tokens: Tokens, name: str) -> list[Outer]:
     """The outer token of a name, or all of a seat."""
     found = of_name(tokens.open_ones(), name)
     if not found:
@@ -295,17 +304,17 @@ def named(tokens: Tokens, name: str) -> list[Outer]:
     return found
 
 
-def end(tokens: Tokens, outer: Outer) -> None:
-    tokens.change(outer, text="", ended=now())
+def end_outers(tokens: Tokens, outer: Outer) -> None:
+    tokens.change(outer, text="", ended=current_minute())
 
 
 def revoke(args: argparse.Namespace, tokens: Tokens) -> Outcome:
     """Ends them. Of one that has ended nginx may not know it yet: then it is told once more."""
     if of_name(tokens.outers, args.name) and not of_name(tokens.open_ones(), args.name):
         return Outcome(told=f"{args.name} had ended before")
-    found = named(tokens, args.name)
+    found = outers_named(tokens, args.name)
     for outer in found:
-        end(tokens, outer)
+        end_outers(tokens, outer)
     return Outcome(told="".join(f"{it.token} has ended: {it.subject or it.mark}\n" for it in found).rstrip())
 
 
@@ -317,7 +326,7 @@ def end_past(tokens: Tokens) -> None:
 
 
 def rotate(args: argparse.Namespace, tokens: Tokens) -> Outcome:
-    found = [it for it in named(tokens, args.name) if not it.until or it.until.endswith(LAST)]
+    found = [it for it in outers_named(tokens, args.name) if not it.until or it.until.endswith(LAST)]
     if not found:
         raise TokenError(1, f"{args.name} was rotated already, and ends by itself")
     if len(found) > 1:
@@ -330,20 +339,21 @@ def rotate(args: argparse.Namespace, tokens: Tokens) -> Outcome:
     if until:
         tokens.change(old, until=min(until, old.until or until))
     else:
-        end(tokens, old)
-    return Outcome(told=f"{told_of(made)}\n{old.token} {'ends ' + until if until else 'has ended'}", secret=made.text)
+        end_outers(tokens, old)
+    told = f"{outer_sentence(made)}\n{old.token} {'ends ' + until if until else 'has ended'}"
+    return Outcome(told=told, secret=made.text)
 
 
-def shown(until: str) -> str:
+def shown_until(until: str) -> str:
     return until.removesuffix(LAST) or "-"
 
 
-def rows_of(tokens: Tokens, is_all: bool) -> list[list[str]]:
+def listed_rows(tokens: Tokens, is_all: bool) -> list[list[str]]:
     rows = [["name", "seat", "may", "until", "since", "known by", "holder"]]
     for it in tokens.outers:
         if it.ended and not is_all:
             continue
-        end_of_it = f"ended {it.ended}" if it.ended else shown(it.until) + (" past" if is_past(it.until) else "")
+        end_of_it = f"ended {it.ended}" if it.ended else shown_until(it.until) + (" past" if is_past(it.until) else "")
         rows.append(
             [it.token, it.seat, "look" if it.looks else "all", end_of_it, it.since, it.subject or it.mark, it.holder]
         )
@@ -351,7 +361,7 @@ def rows_of(tokens: Tokens, is_all: bool) -> list[list[str]]:
 
 
 def show(args: argparse.Namespace, tokens: Tokens) -> Outcome:
-    rows = rows_of(tokens, args.all)
+    rows = listed_rows(tokens, args.all)
     widths = [max(len(row[place]) for row in rows) for place in range(len(rows[0]))]
     lines = ["  ".join(cell.ljust(width) for cell, width in zip(row, widths)).rstrip() for row in rows]
     asking = {it.seat for it in tokens.open_ones()} | {HEALTH}
@@ -367,8 +377,8 @@ def inner(args: argparse.Namespace, tokens: Tokens) -> Outcome:
     return Outcome(told=told, secret=tokens.seats[args.seat].inner, is_change=False)
 
 
-def check(args: argparse.Namespace, tokens: Tokens) -> Outcome:
-    digests = digests_of(Path(args.site).read_text(encoding="utf-8"), args.site)
+def check_file(args: argparse.Namespace, tokens: Tokens) -> Outcome:
+    digests = digests_of(args.site)
     lines = [f"{it.title()}: {args.site} has it not, or with another token"
              for it in tokens.seats.values() if not is_in(digests, it)]  # fmt: skip
     held = {digest_of(it.inner) for it in tokens.seats.values()}
@@ -380,23 +390,23 @@ def check(args: argparse.Namespace, tokens: Tokens) -> Outcome:
     return Outcome(told=f"{len(digests)} seats, as in {args.site}", is_change=False)
 
 
-def write(args: argparse.Namespace, tokens: Tokens) -> Outcome:
+def write_file(args: argparse.Namespace, tokens: Tokens) -> Outcome:
     return Outcome(told=f"{args.file} is written anew")
 
 
 COMMANDS = {
     "seat": seat,
-    "add": add,
+    "add": add_outer,
     "revoke": revoke,
     "rotate": rotate,
     "list": show,
     "inner": inner,
-    "check": check,
-    "write": write,
+    "check": check_file,
+    "write": write_file,
 }
 
 
-def run(args: argparse.Namespace) -> None:
+def run_token(args: argparse.Namespace) -> None:
     path = Path(args.file)
     with alone(path, args.wait):
         before = read(path)
@@ -416,12 +426,12 @@ def run(args: argparse.Namespace) -> None:
             raise
         missed = left_to_the_other(path, tokens) if done.is_change else None
         wrong = [it for it in (late, put_site(args, done), missed) if it]
-    wrong += say(args, done, done.shown + (f"{done.secret}\n" if done.secret and not to else ""))
+    wrong += print_outcome(args, done, done.shown + (f"{done.secret}\n" if done.secret and not to else ""))
     if wrong:
         raise TokenError(wrong[0].status, "\n".join(map(str, wrong)))
 
 
-def parser() -> argparse.ArgumentParser:
+def token_parser() -> argparse.ArgumentParser:
     made = argparse.ArgumentParser(
         prog=NAMED, description=__doc__, formatter_class=argparse.RawDescriptionHelpFormatter
     )
@@ -456,5 +466,5 @@ def parser() -> argparse.ArgumentParser:
 
 
 def main() -> int:
-    args = parser().parse_args()
-    return end_tool(NAMED, lambda: run(args))
+    args = token_parser().parse_args()
+    return end_tool(NAMED, lambda: run_token(args))

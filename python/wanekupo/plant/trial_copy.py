@@ -5,12 +5,11 @@ and root takes of a backup a name and a size, which that user gets back as words
 """
 
 import re
-import subprocess
 import sys
 from dataclasses import dataclass
 from pathlib import Path
 
-from wanekupo.common.process import own_command
+from wanekupo.common.process import own_command, run_command
 from wanekupo.common.store_user import StoreUser, UserError, shown
 
 FILES = ("books.db", "books.db-wal")
@@ -77,9 +76,7 @@ def copy_running(db: Path, backups: Path, snapshot: str, made: Path) -> Path:
     """A copy of the store as it is now, though its server runs: by a snapshot, as `station-backup` makes it."""
     kind = ["--snapshot", snapshot] if snapshot else []
     words = [own_command("station-backup"), "--trial", "--db", str(db), "--into", str(backups), *kind, str(made)]
-    done = subprocess.run(
-        words, stdin=subprocess.DEVNULL, capture_output=True, text=True, errors="replace", check=False
-    )  # fmt: skip
+    done = run_command(words)
     said = [line.removeprefix("backup: ") for line in shown(done.stderr).strip().splitlines()]
     if done.returncode:
         raise NoCopyError((said or ["it said nothing"])[-1])

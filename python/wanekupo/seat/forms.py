@@ -27,7 +27,7 @@ LATER = ("not_before",)
 Form = Callable[[Any], bool]
 
 
-def text(pattern: re.Pattern[str]) -> Form:
+def text_form(pattern: re.Pattern[str]) -> Form:
     return lambda it: isinstance(it, str) and pattern.fullmatch(it) is not None
 
 
@@ -39,7 +39,7 @@ def or_null(form: Form) -> Form:
     return lambda it: it is None or form(it)
 
 
-def number(least: int = 0, most: int = FAR) -> Form:
+def number_form(least: int = 0, most: int = FAR) -> Form:
     return lambda it: type(it) is int and least <= it <= most
 
 
@@ -53,7 +53,7 @@ def members(forms: Mapping[str, Form]) -> Form:
 
 def keys_of_fields(it: Any) -> bool:
     """The SHA-256 of keys by the names of their fields."""
-    return isinstance(it, dict) and all(map(text(NAME), it)) and all(map(text(DIGEST), it.values()))
+    return isinstance(it, dict) and all(map(text_form(NAME), it)) and all(map(text_form(DIGEST), it.values()))
 
 
 def wrong_in(reply: Mapping[str, Any], forms: Mapping[str, Form]) -> list[str]:
@@ -61,51 +61,51 @@ def wrong_in(reply: Mapping[str, Any], forms: Mapping[str, Form]) -> list[str]:
     return [name for name, form in forms.items() if not (form(reply[name]) if name in reply else name in LATER)]
 
 
-COUNT = number()
-WORDS = each(members({"block": COUNT, "word": COUNT, "mask": text(MASK)}))
+COUNT = number_form()
+WORDS = each(members({"block": COUNT, "word": COUNT, "mask": text_form(MASK)}))
 BURNT = {"bits": WORDS, "keys": keys_of_fields}
 BATCHES = {"batch1": members(BURNT), "batch2": members(BURNT)}
 LISTED = {
-    "chip": text(CHIP),
-    "order": text(NAME),
+    "chip": text_form(CHIP),
+    "order": text_form(NAME),
     "state": word(*STATES),
     "reason": or_null(word(*LOST)),
-    "serial": or_null(text(SERIAL)),
+    "serial": or_null(text_form(SERIAL)),
 }
 ORDER = {
-    "name": text(NAME),
-    "issuer": text(NAME),
-    "prefix": text(PREFIX),
-    "width": number(1, 9),
+    "name": text_form(NAME),
+    "issuer": text_form(NAME),
+    "prefix": text_form(PREFIX),
+    "width": number_form(1, 9),
     "first": COUNT,
-    "quantity": number(1),
-    "macs": number(0, 4),
-    "mac": or_null(text(CHIP)),
-    "next": or_null(text(SERIAL)),
-    "not_before": or_null(text(TIME)),
+    "quantity": number_form(1),
+    "macs": number_form(0, 4),
+    "mac": or_null(text_form(CHIP)),
+    "next": or_null(text_form(SERIAL)),
+    "not_before": or_null(text_form(TIME)),
 }
 IDENTITY = {
-    "chip": text(CHIP),
-    "issuer": text(NAME),
-    "serial": text(SERIAL),
-    "key_sha256": text(DIGEST),
-    "mac": or_null(text(CHIP)),
+    "chip": text_form(CHIP),
+    "issuer": text_form(NAME),
+    "serial": text_form(SERIAL),
+    "key_sha256": text_form(DIGEST),
+    "mac": or_null(text_form(CHIP)),
     "not_after": word(NO_END),
-    "not_before": or_null(text(TIME)),
+    "not_before": or_null(text_form(TIME)),
 }
-ENTRY = BURNT | {"n": number(1), "event": word("read", *STEPS), "note": text(NOTE), "seat": text(NAME)}
+ENTRY = BURNT | {"n": number_form(1), "event": word("read", *STEPS), "note": text_form(NOTE), "seat": text_form(NAME)}
 
 # By the request's path.
 REPLIES: Mapping[str, Mapping[str, Form]] = {
     "/v1/order": ORDER,
-    "/v1/map": {"map": text(DIGEST)},
-    "/v1/device": LISTED | BURNT | {"map": text(DIGEST), "pending": members(BATCHES)},
+    "/v1/map": {"map": text_form(DIGEST)},
+    "/v1/device": LISTED | BURNT | {"map": text_form(DIGEST), "pending": members(BATCHES)},
     "/v1/plan": BATCHES | {"state": word(*PLANS)},
     "/v1/readback": {"outcome": word("match", "short", *LOST), "rest": members(BURNT), "state": word(*STATES)},
     "/v1/identity": IDENTITY,
-    "/v1/ship": {"chip": text(CHIP), "state": word("shipped")},
-    "/v1/scrap": {"chip": text(CHIP), "state": word("scrapped")},
+    "/v1/ship": {"chip": text_form(CHIP), "state": word("shipped")},
+    "/v1/scrap": {"chip": text_form(CHIP), "state": word("scrapped")},
     "/v1/import": {"added": COUNT, "present": COUNT},
-    "/v1/ledger": {"chip": text(CHIP), "entries": each(members(ENTRY))},
-    "/v1/devices": {"devices": each(members(LISTED)), "next": or_null(text(CHIP))},
+    "/v1/ledger": {"chip": text_form(CHIP), "entries": each(members(ENTRY))},
+    "/v1/devices": {"devices": each(members(LISTED)), "next": or_null(text_form(CHIP))},
 }

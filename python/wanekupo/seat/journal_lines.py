@@ -37,7 +37,7 @@ MOST_NUMBER = 2**53 - 1
 # machine makes 1,000 chips a day, of 8 lines each. And of a folder the files of ten years, in how many folders in it.
 MOST, MOST_LINES = 1 << 29, 2_000_000
 MOST_FILES, DEEPEST = 20_000, 2
-SUFFIX = ".journal"
+SUFFIX, PACKED = ".journal", ".gz"
 
 LOOK = "Look who wrote there, and move away what isn't that station's."
 
@@ -59,24 +59,17 @@ def lines_of(file: Name, start: int = 0, follows_links: bool = True) -> Iterator
     """The whole lines of a file from a byte on. A last one without its line feed was cut by a crash, or is being
     written: it says nothing. A file that is shorter is another one, and is read from its beginning."""
     with open(opened_plain(file, os.O_RDONLY, follows_links), "rb") as source:
-        end = start if os.fstat(source.fileno()).st_size >= start else 0
-        source.seek(end)
-        number = 0
-        while (found := _next(source))[0]:
-            data, length = found
-            number, end = number + 1, end + length
+        yield from lines_in(source, start if os.fstat(source.fileno()).st_size >= start else 0)
+
+
+def lines_in(source: IO[bytes], end: int = 0) -> Iterator[Line]:
+    """The same of what is open. Behind a line that is too long nothing is read: its end may be terabytes away."""
+    source.seek(end)
+    number, data = 0, b"\n"
+    while data.endswith(b"\n") and (data := source.readline(LONGEST_LINE)):
+        if data.endswith(b"\n") or len(data) == LONGEST_LINE:
+            number, end = number + 1, end + len(data)
             yield _line_of(data, number, end)
-
-
-def _next(source: IO[bytes]) -> tuple[bytes, int]:
-    """The next line with its line feed, and its length; of one that is too long the first bytes. Nothing where it was
-    cut, or there is none."""
-    line = part = source.readline(LONGEST_LINE)
-    length = len(part)
-    while len(part) == LONGEST_LINE and not part.endswith(b"\n"):
-        part = source.readline(LONGEST_LINE)
-        length += len(part)
-    return (line, length) if part.endswith(b"\n") else (b"", 0)
 
 
 def _line_of(data: bytes, number: int, end: int) -> Line:
@@ -172,7 +165,7 @@ def _is_moment(at: Any) -> bool:
 # The journals of a folder.
 
 
-def journals_below(folder: Path) -> list[Path]:
+def journals_below(folder: Path, endings: tuple[str, ...] = (SUFFIX,)) -> list[Path]:
     """The files of a folder's journals, in it and in the folders in it; no folder's link is followed. Others may write
     there, so what no station makes is refused: it would cost all who read it."""
     found, folders, count = list[Path](), [(folder, 0)], 0
@@ -186,7 +179,7 @@ def journals_below(folder: Path) -> list[Path]:
                     if depth == DEEPEST:
                         raise BadJournal(f"{shown(str(place))} has a folder in it, and no journal lies so deep", LOOK)
                     folders.append((Path(it.path), depth + 1))
-                elif it.name.endswith(SUFFIX):
+                elif it.name.endswith(endings):
                     found.append(Path(it.path))
     return sorted(found)
 

@@ -6,16 +6,14 @@ the kinds of signatures are no work for a client of our own. It is imported wher
 
 from __future__ import annotations
 
-import contextlib
 import hashlib
 import importlib
-import os
 import warnings
 from pathlib import Path
 from typing import Any, Optional
 
 from wanekupo.common.errors import BadKey
-from wanekupo.common.files import NOFOLLOW, synced_folder
+from wanekupo.common.files import replace_bytes
 
 READABLE = 0o644
 
@@ -90,7 +88,7 @@ def _key_of_request(csr: bytes) -> bytes:
     return found
 
 
-def digest_of(public_key: bytes) -> str:
+def key_digest(public_key: bytes) -> str:
     """What a record has of a key: `key_sha256`."""
     return hashlib.sha256(public_key).hexdigest()
 
@@ -108,14 +106,5 @@ def keep_csr(spool: Path, issuer: str, serial: str, csr: bytes) -> Path:
         raise BadKey(f"{file} has another request of the serial number {serial}", told)
     except FileNotFoundError:
         pass
-    new = file.with_name(f".{serial}.{os.getpid()}.new")
-    with contextlib.suppress(FileNotFoundError):
-        new.unlink()
-    with open(os.open(new, os.O_WRONLY | os.O_CREAT | os.O_EXCL | NOFOLLOW, READABLE), "wb") as out:
-        os.fchmod(out.fileno(), READABLE)
-        out.write(csr)
-        out.flush()
-        os.fsync(out.fileno())
-    os.rename(new, file)
-    synced_folder(file.parent)
+    replace_bytes(file, csr, READABLE, is_exact=True)
     return file

@@ -125,7 +125,7 @@ def _of_the_server(make: Callable[[Any], Made]) -> Callable[[Any], Made]:
 
 def made(kind: Callable[..., Made], data: Mapping[str, Any], **others: Any) -> Made:
     """An object of a reply's members. Those that the class doesn't name, as of a later server, are passed over."""
-    names = {field.name for field in fields(kind)}  # type: ignore[arg-type]
+    names = {field.name for field in fields(kind)}
     return kind(**{**{name: value for name, value in data.items() if name in names}, **others})
 
 

@@ -65,15 +65,18 @@ class StateFile:
 
     @property
     def next(self) -> Optional[int]:
-        return self._data["next"]
+        number: Optional[int] = self._data["next"]
+        return number
 
     @property
     def under_way(self) -> Optional[dict[str, str]]:
-        return self._data["under_way"]
+        asked: Optional[dict[str, str]] = self._data["under_way"]
+        return asked
 
     @property
     def last(self) -> Optional[dict[str, Any]]:
-        return self._data["last"]
+        request: Optional[dict[str, Any]] = self._data["last"]
+        return request
 
     @property
     def late(self) -> list[dict[str, str]]:

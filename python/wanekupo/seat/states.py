@@ -53,7 +53,7 @@ def left_by(step: str) -> frozenset[str]:
     return after(STEPS.get(step, {}), step)
 
 
-def later_than(state: str) -> frozenset[str]:
+def later_states(state: str) -> frozenset[str]:
     """A state, and all that a device in it may come to."""
     found = frozenset((state,))
     while more := frozenset().union(*(after(found, step) for step in STEPS)) - found:
@@ -61,4 +61,4 @@ def later_than(state: str) -> frozenset[str]:
     return found
 
 
-LATER = {state: later_than(state) for state in STATES}
+LATER = {state: later_states(state) for state in STATES}

@@ -12,10 +12,11 @@ import io
 import json
 import os
 import threading
-from typing import Any, Callable, Iterable, Iterator, Mapping, NoReturn, Optional, Sequence, TypeVar
+from typing import Any, Callable, Concatenate, Iterable, Iterator, Mapping, NoReturn, Optional, ParamSpec, Sequence
+from typing import TypeVar
 from urllib.parse import quote
 
-from wanekupo.chips.chip import checked, shows
+from wanekupo.chips.chip import checked_blocks, shows_work
 from wanekupo.seat.connection import Server
 from wanekupo.common.errors import BadStateFile, NotTheServer, OutOfStep, Refused, UnderWay
 from wanekupo.chips.espefuse import Burner
@@ -40,10 +41,12 @@ from wanekupo.seat.replies import (
     order_of,
     work_of,
 )
-from wanekupo.seat.rows import LONGEST_BODY, Rows, csv_of, parts_of
+from wanekupo.seat.import_rows import LONGEST_BODY, Rows, csv_of, import_parts
 from wanekupo.seat.state_file import StateFile, members_of
 
 Self = TypeVar("Self", bound="Seat")
+Words = ParamSpec("Words")
+Result = TypeVar("Result")
 
 # A number that no seat comes to.
 FAR = 2**53 - 1
@@ -53,11 +56,11 @@ FAR = 2**53 - 1
 WRONG_NUMBER, OTHER_BODY, UNKNOWN_DEVICE, WRONG_STATE = 11, 12, 15, 17
 
 
-def _in_turn(call: Callable[..., Any]) -> Callable[..., Any]:
+def _in_turn(call: Callable[Concatenate[Self, Words], Result]) -> Callable[Concatenate[Self, Words], Result]:
     """A call of a station that waits for those of other threads."""
 
     @functools.wraps(call)
-    def alone(station: Seat, *words: Any, **named: Any) -> Any:
+    def alone(station: Self, /, *words: Words.args, **named: Words.kwargs) -> Result:
         with station._turn:
             return call(station, *words, **named)
 
@@ -172,12 +175,12 @@ class Seat:
 
     # Requests.
 
-    def _posted(self, path: str, text: str) -> tuple[int, Any, bool]:
+    def _posted(self, path: str, text: str) -> tuple[int, dict[str, Any], bool]:
         """Has a POST's text sent, in UTF-8."""
         return self._server.asked("POST", path, json.loads(text), path, text.encode())
 
     @_in_turn
-    def get(self, path: str, **parameters: str) -> Any:
+    def get(self, path: str, /, **parameters: str) -> Any:
         """What is shown: a reply's members, or a report's text."""
         query = "&".join(f"{name}={quote(text, safe='')}" for name, text in parameters.items())
         status, body, _ = self._server.asked("GET", path, parameters, f"{path}?{query}" if query else path)
@@ -281,13 +284,14 @@ class Seat:
             accepted(*self._posted("/v1/ship", json.dumps({"nr": FAR, "chip": 12 * "0"}))[:2])
         except Refused as refused:
             if refused.no == WRONG_NUMBER and "expected" in refused.more:
-                return refused.more["expected"]
+                expected: int = refused.more["expected"]
+                return expected
             raise
         raise NotTheServer(f"number {FAR} was accepted")
 
     def operator(self) -> str:
         """Who works there, as the journal's lines have it."""
-        return self._journal.operator() if self._journal else ""
+        return str(self._journal.operator()) if self._journal else ""
 
     def operated_by(self, name: str) -> None:
         """Who works there from the next line of the journal on."""
@@ -337,7 +341,7 @@ class Station(Seat):
         return str(self.post("/v1/map", {"text": text})["map"])
 
     def register(self, chip: str, order: str, map: str, blocks: Blocks) -> Device:
-        shown = {"map": map, "blocks": checked(chip, blocks)}
+        shown = {"map": map, "blocks": checked_blocks(chip, blocks)}
         return device_of(self.post("/v1/device", {"chip": chip, "order": order, **shown}))
 
     def plan(self, chip: str, wishes: Sequence[Mapping[str, Any]]) -> Plan:
@@ -345,7 +349,7 @@ class Station(Seat):
         return Plan(data["state"], work_of(data["batch1"]), work_of(data["batch2"]))
 
     def read_back(self, chip: str, blocks: Blocks) -> Verdict:
-        data = self.post("/v1/readback", {"chip": chip, "blocks": checked(chip, blocks)})
+        data = self.post("/v1/readback", {"chip": chip, "blocks": checked_blocks(chip, blocks)})
         return Verdict(data["outcome"], data["state"], work_of(data["rest"]))
 
     def identify(self, chip: str, public_key: bytes) -> Identity:
@@ -368,7 +372,7 @@ class Station(Seat):
         """Any number of such rows, in parts, and how many of the first ones an earlier call had sent. It may be stopped
         anywhere and called again with the same rows: the part under way, or the one behind the last, is gone on with.
         `told` gets how many rows are done, of how many."""
-        parts = list(parts_of(rows))
+        parts = list(import_parts(rows))
         of, done, added, present = sum(map(len, parts)), 0, 0, 0
         begin = self._part_to_begin(issuer, parts)
         before = sum(map(len, parts[:begin]))
@@ -446,11 +450,11 @@ class Station(Seat):
             if device.state not in ("awaiting1", "awaiting2"):
                 return device
             work = device.batch1 if device.state == "awaiting1" else device.batch2
-            checked(chip, chip_io.read())
+            checked_blocks(chip, chip_io.read())
             for _ in range(tries):
                 chip_io.burn(work)
                 blocks = chip_io.read()
-                if shows(blocks, work):
+                if shows_work(blocks, work):
                     break
             if self.read_back(chip, blocks).outcome == "short":
                 return self.device(chip)

@@ -15,7 +15,8 @@ import time
 from collections.abc import Sequence
 
 
-from wanekupo.standby.half import Half, StandbyError, clean_words, fenced_by_command, read_settings, run, take_word
+from wanekupo.common.store_words import clean_words
+from wanekupo.standby.half import Half, StandbyError, fenced_by_command, read_settings, run_bounded, take_word
 
 IS_OFF, IS_UNKNOWN = 7, 1
 # DRBD's own tool ends a handler behind ten minutes. `other-is-off` goes on without it then.
@@ -32,7 +33,7 @@ def answered() -> int:
     if half.state().role != "Primary":
         # `takeover` has had the other machine switched off, and says so by the word. By hand nobody comes past it.
         return IS_UNKNOWN
-    run(shlex.split(settings.leave_address))
+    run_bounded(shlex.split(settings.leave_address))
     end = time.monotonic() + LONGEST
     answer = heard_answer(half, time.monotonic() + GRACE) if settings.fence else None
     if answer is None:
@@ -40,7 +41,7 @@ def answered() -> int:
     if answer is None:
         wait_on(half)
     else:
-        run(shlex.split(settings.take_address))
+        run_bounded(shlex.split(settings.take_address))
     return IS_OFF if answer else IS_UNKNOWN
 
 
@@ -66,7 +67,7 @@ def wait_on(half: Half) -> None:
     while half.state().is_frozen:
         time.sleep(1)
     if half.state().role == "Primary":
-        run(shlex.split(half.settings.take_address))
+        run_bounded(shlex.split(half.settings.take_address))
     os._exit(0)
 
 

@@ -8,7 +8,6 @@ alone.
 from __future__ import annotations
 
 import contextlib
-import fcntl
 import os
 import re
 import shlex
@@ -17,16 +16,17 @@ import subprocess
 import sys
 import time
 import tomllib
-from collections.abc import Callable, Iterator
+from collections.abc import Callable
 from dataclasses import dataclass, fields
 from datetime import datetime, timedelta, timezone
 from pathlib import Path
-from typing import Any, TextIO
+from typing import TextIO
 
 from wanekupo.common.errors import PlantError
 from wanekupo.common.store_user import UserError, shown
 from wanekupo.common.store_words import clean_words
-from wanekupo.common.whole_file import put_whole
+from wanekupo.common.files import hold_lock, replace_file
+from wanekupo.common.process import run_command
 
 SETTINGS = Path("/etc/station/standby.toml")
 # What this machine says of itself until it is switched off. Nobody but root writes there.
@@ -108,32 +108,31 @@ def read_settings(file: Path = SETTINGS) -> StandbySettings:
     return StandbySettings(**values)
 
 
-def run(words: list[str], seconds: float = COMMAND_SECONDS, **more: Any) -> subprocess.CompletedProcess[str]:
+def run_bounded(words: list[str], seconds: float = COMMAND_SECONDS) -> subprocess.CompletedProcess[str]:
     """A command with what it prints. Where it takes too long it is a failure as any other. It has no terminal of
     root's: what is at the other end of a witness's `ssh` asks nobody for a password."""
     try:
-        form = {"encoding": "utf-8", "errors": "replace", "stdin": subprocess.DEVNULL, "start_new_session": True}
-        return subprocess.run(words, capture_output=True, timeout=seconds, **form, **more)
+        return run_command(words, seconds, is_apart=True)
     except (subprocess.TimeoutExpired, OSError, LookupError) as error:
         return subprocess.CompletedProcess(words, 1, "", str(error))
 
 
 def done(words: list[str], seconds: float = COMMAND_SECONDS) -> str:
     """What a command prints that has to do what it says."""
-    ended = run(words, seconds)
+    ended = run_bounded(words, seconds)
     if ended.returncode:
         said = (ended.stderr or ended.stdout).strip().replace("\n", "; ")
         raise StandbyError(f"`{shlex.join(words)}` ended with status {ended.returncode}: {said}")
     return ended.stdout.strip()
 
 
-def tell(line: str, out: TextIO | None = None) -> None:
+def print_told(line: str, out: TextIO | None = None) -> None:
     """Prints a line for the person who typed the script. Where nobody reads it any more the work goes on."""
     with contextlib.suppress(OSError):
         print(shown(line.replace("\n", "; ")), file=out or sys.stdout, flush=True)
 
 
-def ended(name: str, call: Callable[[], int], *, alone: bool = False) -> int:
+def end_script(name: str, call: Callable[[], int], *, alone: bool = False) -> int:
     """The status of a command's call, with sentences where it is refused or stopped. With `alone` a second one that has
     it too is kept out."""
     clean_words()
@@ -145,24 +144,18 @@ def ended(name: str, call: Callable[[], int], *, alone: bool = False) -> int:
         with alone_at_work() if alone else contextlib.nullcontext():
             return call()
     except (StandbyError, UserError) as refused:
-        tell(f"{name}: refused: {refused}", sys.stderr)
+        print_told(f"{name}: refused: {refused}", sys.stderr)
     except OSError as error:
-        tell(f"{name}: It failed: {error}. Mend that, and type the same again.", sys.stderr)
+        print_told(f"{name}: It failed: {error}. Mend that, and type the same again.", sys.stderr)
     except KeyboardInterrupt:
-        tell(f"{name}: It was stopped. Type the same again, and it goes on.", sys.stderr)
+        print_told(f"{name}: It was stopped. Type the same again, and it goes on.", sys.stderr)
     return 1
 
 
-@contextlib.contextmanager
-def alone_at_work() -> Iterator[None]:
+def alone_at_work() -> contextlib.AbstractContextManager[None]:
     """Keeps a second `takeover` or `stepdown` of this machine out."""
-    with open(run_file("lock"), "w", encoding="ascii") as lock:
-        try:
-            fcntl.flock(lock, fcntl.LOCK_EX | fcntl.LOCK_NB)
-        except BlockingIOError:
-            message = "Another `takeover` or `stepdown` is at work on this machine: wait until it ends."
-            raise StandbyError(message) from None
-        yield
+    message = "Another `takeover` or `stepdown` is at work on this machine: wait until it ends."
+    return hold_lock(run_file("lock"), StandbyError(message))
 
 
 @dataclass(frozen=True)
@@ -201,8 +194,8 @@ class Half:
         # Where DRBD doesn't look for the other machine there is no letter of a protocol behind the disks.
         form = rf"^ *{minor}: cs:(\S+) ro:(\S+)/(\S+) ds:(\S+)/(\S+) +(?:[ABC] +)?([rs])"
         table = TABLE.read_text(encoding="ascii") if TABLE.exists() else ""
-        if found := re.search(form, table, re.MULTILINE):
-            return DrbdState(*found.groups()[:5], is_frozen=found[6] == "s")
+        if it := re.search(form, table, re.MULTILINE):
+            return DrbdState(it[1], it[2], it[3], it[4], it[5], is_frozen=it[6] == "s")
         raise StandbyError(f"DRBD has no {self.settings.device} here: `drbdadm up {self.resource}`.")
 
     def received(self) -> str:
@@ -218,7 +211,7 @@ class Half:
     def other_name(self) -> str:
         """The other machine's name, by the resource's own file."""
         found = re.findall(r"^    on (\S+) \{", self.asked("dump"), re.MULTILINE)
-        names = [name for name in found if name != os.uname().nodename]
+        names: list[str] = [name for name in found if name != os.uname().nodename]
         if len(names) != 1:
             raise StandbyError(f"The resource {self.resource} has {len(names)} other machines, and not one.")
         return names[0]
@@ -278,7 +271,7 @@ def alone_since(received: str) -> datetime:
         since = datetime.fromisoformat(moment)
         if then == received and timedelta(0) <= now - since < GATHERED:
             return since
-    put_whole(file, f"{now.isoformat()} {received}")
+    replace_file(file, f"{now.isoformat()} {received}")
     return now
 
 
@@ -287,7 +280,7 @@ def forget_alone() -> None:
 
 
 def give_word() -> None:
-    put_whole(word_file(), "off\n")
+    replace_file(word_file(), "off\n")
 
 
 def take_word() -> bool:
@@ -302,7 +295,7 @@ def take_word() -> bool:
 
 def fenced_by_command(settings: StandbySettings) -> bool:
     """Whether the plant's own command has switched the other machine off."""
-    return bool(settings.fence) and run(shlex.split(settings.fence)).returncode == 0
+    return bool(settings.fence) and run_bounded(shlex.split(settings.fence)).returncode == 0
 
 
 def waited_for(is_there: Callable[[], bool], seconds: float) -> bool:

@@ -9,7 +9,7 @@ import sys
 from collections.abc import Sequence
 
 
-from wanekupo.standby.half import Half, StandbyError, read_settings, tell
+from wanekupo.standby.half import Half, StandbyError, read_settings, print_told
 
 
 def main(words: Sequence[str]) -> int:
@@ -21,5 +21,5 @@ def main(words: Sequence[str]) -> int:
             return 0
         print("The store's volume isn't mounted here: `takeover` mounts it.", file=sys.stderr)
     except (StandbyError, OSError) as refused:
-        tell(f"refused: {refused}", sys.stderr)
+        print_told(f"refused: {refused}", sys.stderr)
     return 2

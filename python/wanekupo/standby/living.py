@@ -11,10 +11,10 @@ import os
 import re
 from pathlib import Path
 
-from wanekupo.standby.half import Half, StandbyError, tell
+from wanekupo.standby.half import Half, StandbyError, print_told
 from wanekupo.common.store_user import MINUTE, StoreFolder, UserError, read_small
 from wanekupo.common.token_file import Tokens, TokenError, is_past, living, read, tokens_of
-from wanekupo.common.whole_file import put_whole
+from wanekupo.common.files import replace_file
 
 NOTE = "tokens.living"
 TOKEN = re.compile(r"(@?[A-Za-z0-9._-]{1,32}:\d{1,9}) [0-9a-f]{12} (?:all|look) (-|\d{4}-\d\d-\d\dT\d\d:\d\d)")
@@ -31,7 +31,7 @@ def here(half: Half) -> Tokens:
         raise StandbyError(f"The tokens of this machine can't be read: {error}.") from None
 
 
-def listed(folder: int) -> set[str] | None:
+def listed_tokens(folder: int) -> set[str] | None:
     """The lines of the list in a store's folder, but for tokens whose time is past; None where there is none that
     `station-token` wrote, so that who may write there keeps no operator from a takeover."""
     try:
@@ -39,11 +39,11 @@ def listed(folder: int) -> set[str] | None:
     except FileNotFoundError:
         return None
     except (UserError, OSError, UnicodeDecodeError) as error:
-        tell(f"{NOTE} beside the store can't be read: {error}")
+        print_told(f"{NOTE} beside the store can't be read: {error}")
         return None
     found = {line: TOKEN.fullmatch(line) for line in lines}
     if not all(found.values()):
-        tell(f"{NOTE} beside the store isn't what `station-token` writes: look who wrote it")
+        print_told(f"{NOTE} beside the store isn't what `station-token` writes: look who wrote it")
         return None
     return {line for line, token in found.items() if token and not is_past(token[2].strip("-"))}
 
@@ -56,7 +56,7 @@ def leave(half: Half, tokens: Tokens) -> None:
     try:
         store = StoreFolder(half.folder / "books.db")
         try:
-            store.user.call(lambda: put_whole(half.folder / NOTE, text), seconds=MINUTE)
+            store.user.call(lambda: replace_file(half.folder / NOTE, text), seconds=MINUTE)
         finally:
             os.close(store.handle)
     except (UserError, OSError) as error:
@@ -68,15 +68,15 @@ def names_of(lines: set[str]) -> str:
     return ", ".join(sorted(line.partition(" ")[0] for line in lines))
 
 
-def test(half: Half, there: set[str] | None, is_known: bool) -> None:
+def test_tokens(half: Half, there: set[str] | None, is_known: bool) -> None:
     """Refuses tokens that could not ask the machine which had the store, unless the operator has said that they may."""
     own, other = set(living(here(half))), half.other_name()
     if lacking := (there or set()) - own:
-        tell(f"tokens that this machine hasn't as {other} had them, 401 here: {names_of(lacking)}")
+        print_told(f"tokens that this machine hasn't as {other} had them, 401 here: {names_of(lacking)}")
     if not (more := own - (there or set())):
         return
     if is_known:
-        tell(f"tokens that {other} didn't let in so, and that may ask here by your word: {names_of(more)}")
+        print_told(f"tokens that {other} didn't let in so, and that may ask here by your word: {names_of(more)}")
         return
     why = f"{other} didn't let in so" if there is not None else f"{other} may have ended, as the volume has no list"
     raise StandbyError(

@@ -18,10 +18,9 @@ from dataclasses import dataclass
 from pathlib import Path
 
 from wanekupo.standby import living
-from wanekupo.standby.half import Half, StandbyError, done, run
+from wanekupo.standby.half import Half, StandbyError, done, run_bounded
 from wanekupo.common.store_user import StoreFolder, user_named
-from wanekupo.common.token_file import MANAGER, TokenError
-from wanekupo.common.site_file import digests_of
+from wanekupo.common.site_file import SiteFileError, read_site_file
 
 # A seat and its last number, in a line of a witness, and of what sqlite3 reads of a half.
 SEAT = re.compile(r"seat ([A-Za-z0-9._-]{1,32}) ([0-9]{1,16})")
@@ -38,11 +37,11 @@ def looped(*words: str) -> Iterator[str]:
     try:
         yield device
     finally:
-        run(["losetup", "--detach", device])
+        run_bounded(["losetup", "--detach", device])
 
 
 @contextlib.contextmanager
-def snapshot(half: Half, folder: str) -> Iterator[str]:
+def device_snapshot(half: Half, folder: str) -> Iterator[str]:
     """A device that shows the half, and whose changes go into a file of the folder."""
     disk, changes = half.disk(), Path(folder) / CHANGES
     with open(changes, "wb") as file:
@@ -57,23 +56,23 @@ def snapshot(half: Half, folder: str) -> Iterator[str]:
             done(["dmsetup", "mknodes", NAME])
             yield f"/dev/mapper/{NAME}"
         finally:
-            run(["dmsetup", "remove", "--retry", NAME])
-            run(["dmsetup", "mknodes"])
+            run_bounded(["dmsetup", "remove", "--retry", NAME])
+            run_bounded(["dmsetup", "mknodes"])
 
 
-def clear(half: Half) -> None:
+def clear_look(half: Half) -> None:
     """Takes away what a look has left that was killed. No other one is at work: `takeover` sees to that."""
     found = Path(half.settings.scratch).glob(f"{FOLDER}*")
     left = [it for it in found if it.is_dir() and not it.is_symlink() and it.lstat().st_uid == 0]
     for folder in left:
-        run(["umount", str(folder / "shown")])
-    if run(["dmsetup", "info", NAME]).returncode == 0:
-        if run(["dmsetup", "remove", "--retry", NAME]).returncode:
+        run_bounded(["umount", str(folder / "shown")])
+    if run_bounded(["dmsetup", "info", NAME]).returncode == 0:
+        if run_bounded(["dmsetup", "remove", "--retry", NAME]).returncode:
             raise StandbyError("A look that was killed is at work still. Wait a minute, and type the same again.")
-        run(["dmsetup", "mknodes"])
+        run_bounded(["dmsetup", "mknodes"])
     for place in (half.disk(), *(str(folder / CHANGES) for folder in left)):
-        for line in run(["losetup", "--associated", place]).stdout.splitlines():
-            run(["losetup", "--detach", line.partition(":")[0]])
+        for line in run_bounded(["losetup", "--associated", place]).stdout.splitlines():
+            run_bounded(["losetup", "--detach", line.partition(":")[0]])
     for folder in left:
         if not os.path.ismount(folder / "shown"):
             shutil.rmtree(folder, ignore_errors=True)
@@ -82,17 +81,17 @@ def clear(half: Half) -> None:
 @contextlib.contextmanager
 def mounted(half: Half) -> Iterator[Path]:
     """The folder in which the half's files are shown."""
-    clear(half)
+    clear_look(half)
     with tempfile.TemporaryDirectory(dir=half.settings.scratch, prefix=FOLDER) as folder:
         os.chmod(folder, 0o711)
         shown = Path(folder) / "shown"
         shown.mkdir()
-        with snapshot(half, folder) as device:
+        with device_snapshot(half, folder) as device:
             half.mount(device, str(shown))
             try:
                 yield shown
             finally:
-                run(["umount", str(shown)])
+                run_bounded(["umount", str(shown)])
 
 
 def as_user(half: Half, words: list[str], folder: Path) -> str:
@@ -117,8 +116,8 @@ def tested_owner(half: Half, store: StoreFolder) -> None:
 def seats_of(site: str) -> list[str]:
     """The seats that a site file names. The manager is none: it looks, and has no number."""
     try:
-        return [name for name in digests_of(Path(site).read_text(encoding="utf-8"), site) if name != MANAGER]
-    except (TokenError, OSError, UnicodeDecodeError, RecursionError) as error:
+        return list(read_site_file(site).seats())
+    except (SiteFileError, OSError) as error:
         raise StandbyError(f"The seats of {site} can't be read: {error}.") from None
 
 
@@ -147,6 +146,6 @@ def contents(half: Half) -> Contents:
             words = [settings.program, "replay", "--site", settings.site, "--db", "books.db", "--existing"]
             as_user(half, words, shown)
             text = as_user(half, ["sqlite3", "-safe", "-readonly", "books.db", SEATS], shown)
-            return Contents(numbers_of(text, seats_of(settings.site)), living.listed(store.handle))
+            return Contents(numbers_of(text, seats_of(settings.site)), living.listed_tokens(store.handle))
         finally:
             os.close(store.handle)

@@ -28,7 +28,7 @@ SAMPLE, SHORTEST = "write-your-own", 16
 HANDLER = Path("/usr/share/wanekupo/standby/fence-peer")
 
 
-def test(half: Half) -> None:
+def test_resource(half: Half) -> None:
     """Refuses a resource that doesn't keep what this set-up promises."""
     text = done(["drbdsetup", "show", "--show-defaults", half.resource])
     found = dict(re.findall(r"^\s+([a-z0-9-]+)\s+([^\s;\"]+);", text, re.MULTILINE))

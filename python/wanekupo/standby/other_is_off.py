@@ -14,7 +14,7 @@ from collections.abc import Sequence
 
 
 from wanekupo.standby.half import (
-    Half, StandbyError, done, ended, give_word, read_settings, run, take_word, tell, waited_for,
+    Half, StandbyError, done, end_script, give_word, read_settings, run_bounded, take_word, print_told, waited_for,
 )  # fmt: skip
 
 
@@ -22,7 +22,7 @@ from wanekupo.standby.half import (
 HANDLER = 60
 
 
-def say(name: str) -> int:
+def give_operators_word(name: str) -> int:
     half = Half(read_settings())
     other, state = half.other_name(), half.state()
     if name != other:
@@ -45,10 +45,10 @@ def say(name: str) -> int:
         # DRBD has ended its handler, as nobody said anything for ten minutes.
         done(["drbdadm", "resume-io", half.resource])
         # The process that waited behind it brings the address back too: at the same moment one of the two may fail.
-        if run(shlex.split(half.settings.take_address)).returncode:
+        if run_bounded(shlex.split(half.settings.take_address)).returncode:
             time.sleep(5)
             half.command("take_address")
-    tell(f"This machine goes on alone, and {other} has an older half from now on: {half.state()}")
+    print_told(f"This machine goes on alone, and {other} has an older half from now on: {half.state()}")
     return 0
 
 
@@ -58,4 +58,4 @@ def main(words: Sequence[str]) -> int:
     )
     parser.add_argument("name", metavar="NAME", help="the other machine's name")
     args = parser.parse_args(words)
-    return ended("other-is-off", lambda: say(args.name))
+    return end_script("other-is-off", lambda: give_operators_word(args.name))

@@ -16,9 +16,9 @@ from wanekupo.standby.half import (
     Half,
     StandbyError,
     done,
-    ended,
+    end_script,
     read_settings,
-    tell,
+    print_told,
 )
 
 
@@ -39,7 +39,7 @@ def step_down(is_alone: bool) -> int:
     if half.is_mounted():
         half.unmount()
     done(["drbdadm", "secondary", half.resource])
-    tell(f"stepped down: {half.state()}")
+    print_told(f"stepped down: {half.state()}")
     return 0
 
 
@@ -49,4 +49,4 @@ def main(words: Sequence[str]) -> int:
     )
     parser.add_argument("--alone", action="store_true", help="also where the other half isn't up to date")
     args = parser.parse_args(words)
-    return ended("stepdown", lambda: step_down(args.alone), alone=True)
+    return end_script("stepdown", lambda: step_down(args.alone), alone=True)

@@ -28,13 +28,13 @@ from wanekupo.standby.half import (
     DrbdState,
     alone_since,
     done,
-    ended,
+    end_script,
     fenced_by_command,
     forget_alone,
     give_word,
     read_settings,
     take_word,
-    tell,
+    print_told,
 )
 
 # Why a half with this state isn't fit.
@@ -70,9 +70,9 @@ def shut_out(half: Half, named: str | None) -> None:
     if named and named != other:
         raise StandbyError(f"The other machine of this one is {other}, and not {named}.")
     if fenced_by_command(half.settings):
-        tell(f"{other} was switched off by the plant's command")
+        print_told(f"{other} was switched off by the plant's command")
     elif named:
-        tell(f"{other} is off, by your word")
+        print_told(f"{other} is off, by your word")
     else:
         told = f"See that {other} has no power, and that it stays so. Then type `takeover --other-is-off {other}` again"
         state = half.state()
@@ -86,19 +86,19 @@ def tested_contents(half: Half, args: argparse.Namespace, since: datetime | None
         if since:
             told = "Gather `wanekupo witness` of all stations now, and type the same again with --witness FILE."
             raise StandbyError(f"There is no witness. {told}")
-        tell("no witness was named: both halves are connected")
+        print_told("no witness was named: both halves are connected")
     contents = compared(half, args, since)
-    living.test(half, contents.tokens, args.ended_tokens_may_ask)
+    living.test_tokens(half, contents.tokens, args.ended_tokens_may_ask)
 
 
 def compared(half: Half, args: argparse.Namespace, since: datetime | None) -> look.Contents:
     """Prints the numbers of this half, and refuses it where it is behind its witness."""
-    witnessed = witness.gathered(args.witness, half.settings.witnesses, since)
+    witnessed = witness.highest_numbers(args.witness, half.settings.witnesses, since)
     contents = look.contents(half)
     for seat, number in contents.numbers.items():
-        tell(f"seat {seat} {number}")
+        print_told(f"seat {seat} {number}")
     if args.witness or half.settings.witnesses:
-        witness.compare(contents.numbers, witnessed)
+        witness.compare_numbers(contents.numbers, witnessed)
     return contents
 
 
@@ -106,11 +106,12 @@ def looked(args: argparse.Namespace) -> int:
     """Prints what this half has, and changes nothing."""
     half = Half(read_settings())
     state = half.state()
-    tell(f"DRBD says: {state}")
+    print_told(f"DRBD says: {state}")
     if "Primary" in (state.role, state.other_role):
         raise StandbyError(f"A server may be writing this half ({state}): type `stepdown --alone` where the store is.")
     compared(half, args, None)
-    tell("This half isn't behind its witness." if args.witness or half.settings.witnesses else "No witness was named.")
+    is_held = args.witness or half.settings.witnesses
+    print_told("This half isn't behind its witness." if is_held else "No witness was named.")
     return 0
 
 
@@ -127,13 +128,13 @@ def promote(half: Half, before: DrbdState) -> None:
         take_word()
 
 
-def served(half: Half) -> int:
+def serve_here(half: Half) -> int:
     """Mounts, starts the server and takes the address, as far as that isn't done."""
     if not half.is_mounted():
         half.mount()
     half.command("start", SERVER_SECONDS)
     half.command("take_address")
-    tell(f"taken over: {half.state()}")
+    print_told(f"taken over: {half.state()}")
     living.leave(half, living.here(half))
     return 0
 
@@ -141,7 +142,7 @@ def served(half: Half) -> int:
 def take_over(args: argparse.Namespace) -> int:
     half = Half(read_settings())
     state = half.state()
-    tell(f"DRBD says: {state}")
+    print_told(f"DRBD says: {state}")
     tested_state(state)
     is_alone = not state.is_connected()
     if not is_alone:
@@ -149,14 +150,14 @@ def take_over(args: argparse.Namespace) -> int:
     if state.is_frozen:
         raise StandbyError(f"This machine's writes are frozen ({state}). {FROZEN}")
     if state.role == "Primary":
-        return served(half)
-    needs.test(half)
+        return serve_here(half)
+    needs.test_resource(half)
     if is_alone:
         shut_out(half, args.other_is_off)
     tested_contents(half, args, alone_since(half.received()) if is_alone else None)
     promote(half, state)
     forget_alone()
-    return served(half)
+    return serve_here(half)
 
 
 def main(words: Sequence[str]) -> int:
@@ -169,7 +170,7 @@ def main(words: Sequence[str]) -> int:
     parser.add_argument("--ended-tokens-may-ask", action="store_true", help="your word for this machine's tokens")
     parser.add_argument("--look", action="store_true", help="change nothing, and only print what this half has")
     args = parser.parse_args(words)
-    return ended("takeover", lambda: looked(args) if args.look else take_over(args), alone=True)
+    return end_script("takeover", lambda: looked(args) if args.look else take_over(args), alone=True)
 
 
 def look_alone(words: Sequence[str]) -> int:

@@ -16,7 +16,7 @@ from dataclasses import dataclass
 from datetime import datetime, timedelta, timezone
 from pathlib import Path
 
-from wanekupo.standby.half import StandbyError, run, tell
+from wanekupo.standby.half import StandbyError, run_bounded, print_told
 from wanekupo.standby.look import SEAT
 
 # Which seats each station's PC has, by root's own file: docs/reference/files.md, Folders of journals.
@@ -66,7 +66,7 @@ def highest(replies: Iterable[tuple[str, Reply]]) -> dict[str, Reply]:
     return found
 
 
-def tested(text: str, name: str, since: datetime | None) -> dict[str, Reply]:
+def tested_numbers(text: str, name: str, since: datetime | None) -> dict[str, Reply]:
     """A witness's numbers, where it is one, and all of it was made when the other machine was off: one from before says
     nothing of what that machine answered then."""
     lines = [line.strip() for line in text.splitlines()]
@@ -114,23 +114,23 @@ def hold(replies: dict[str, Reply], owner: str, owners: dict[str, str], table: P
             raise StandbyError(f"{told}: leave it away where it is foreign, and give that seat's own part {name}.")
 
 
-def gathered(
+def highest_numbers(
     files: Iterable[str], commands: Iterable[str], since: datetime | None, table: Path = TABLE
 ) -> dict[str, Reply]:
     """The numbers of all witnesses together, the highest of each seat. One that can't be had is none, and where root's
     file says which seats are a PC's each part has these alone."""
     owners, replies = owners_in(table), list[dict[str, Reply]]()
-    for word, call, form in [*((it, read, "{}") for it in files), *((it, printed, "`{}`") for it in commands)]:
-        owner, name = owned(word)
-        replies.append(tested(call(name), form.format(name), since))
+    for word, call, form in [*((it, read_witness, "{}") for it in files), *((it, printed, "`{}`") for it in commands)]:
+        owner, name = part_and_source(word)
+        replies.append(tested_numbers(call(name), form.format(name), since))
         if owners:
             hold(replies[-1], owner, owners, table)
     if replies and not owners:
-        tell(f"{table} isn't there, or empty: nobody has looked whether each part has its own PC's seats alone.")
+        print_told(f"{table} isn't there, or empty: nobody has looked whether each part has its own PC's seats alone.")
     return highest(pair for it in replies for pair in it.items())
 
 
-def owned(word: str) -> tuple[str, str]:
+def part_and_source(word: str) -> tuple[str, str]:
     """The PC of a part, which may be none, and its file or command."""
     found = NAMED.fullmatch(word)
     return (found[1], found[2]) if found else ("", word)
@@ -138,21 +138,21 @@ def owned(word: str) -> tuple[str, str]:
 
 def printed(command: str) -> str:
     """What a witness's command prints."""
-    ended = run([*BOUNDED, *shlex.split(command)])
+    ended = run_bounded([*BOUNDED, *shlex.split(command)])
     if ended.returncode:
         said = (ended.stderr or ended.stdout).strip()[:400].replace("\n", "; ")
         raise StandbyError(f"The witness `{command}` ended with status {ended.returncode}: {said}")
     return ended.stdout
 
 
-def read(name: str) -> str:
+def read_witness(name: str) -> str:
     try:
         return sys.stdin.read() if name == "-" else Path(name).read_text(encoding="ascii")
     except (OSError, UnicodeDecodeError) as error:
         raise StandbyError(f"The witness {name} can't be read: {error}.") from None
 
 
-def compare(store: dict[str, int], witness: dict[str, Reply]) -> None:
+def compare_numbers(store: dict[str, int], witness: dict[str, Reply]) -> None:
     """Refuses a store that is behind the witness, and a witness that lacks seats or replies which the store has. In
     `store` is each seat of the site file: one that asked for nothing here may have asked the other machine alone."""
     behind = [seat for seat in sorted(witness) if store.get(seat, 0) < witness[seat].number]

@@ -51,7 +51,7 @@ FOLDERS = """bin dev etc/drbd.d etc/station lib/drbd lib64 mnt modules proc root
 
 # Those of Python's modules that the scripts import, and that a restore needs, as a Python says that has imported them.
 IMPORTED = """
-import argparse, encodings.idna, importlib, pathlib, pkgutil, secrets, sys, textwrap, wanekupo.seat.replays
+import argparse, encodings.idna, importlib, pathlib, pkgutil, secrets, sys, textwrap, wanekupo.seat.journal_restore
 for name in ("wanekupo.standby", "wanekupo.plant"):
     for found in pkgutil.walk_packages(importlib.import_module(name).__path__, f"{name}."):
         importlib.import_module(found.name)

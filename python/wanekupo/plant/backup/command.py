@@ -59,15 +59,15 @@ from pathlib import Path
 from wanekupo.common.errors import cause_of
 from wanekupo.plant.backup.copies import BackupError, copy_for_trial, copy_store, name_of_user
 from wanekupo.plant.backup.folder import (
-    LAST, LOCK, NEW, bytes_of, copy_off, last_snapshot, new_name, note, placed, remove_begun, sole_backup, tidy,
+    LAST, LOCK, NEW, backup_bytes, copy_off, last_snapshot, new_name, note, placed, remove_begun, sole_backup, tidy,
 )  # fmt: skip
-from wanekupo.plant.backup.snapshot import KINDS, SnapshotStaysError, snapshot, volume_of
+from wanekupo.plant.backup.snapshot import KINDS, SnapshotStaysError, hold_snapshot, volume_of
 from wanekupo.common.store_user import DAY, MINUTE, StoreFolder, StoreUser, UserError, opened, shown, user_of
 from wanekupo.common.store_words import clean_words
-from wanekupo.common.whole_file import opened_lock
+from wanekupo.common.files import opened_shared_lock
 
 
-def tell(*lines: str) -> None:
+def warn_backup(*lines: str) -> None:
     for line in lines:
         print(shown(f"backup: {line}"), file=sys.stderr, flush=True)
 
@@ -81,7 +81,7 @@ def out(*lines: str) -> None:
         os.dup2(os.open(os.devnull, os.O_WRONLY), sys.stdout.fileno())
 
 
-def ended(number: int, _: object) -> None:
+def stop_run(number: int, _: object) -> None:
     """A signal ends a run as an error does: what it began is gone."""
     raise BackupError(f"stopped by signal {number}")
 
@@ -91,7 +91,7 @@ def copy(args: argparse.Namespace, db: str, folder: Path) -> None:
     out(*copy_store(args.program, args.site, db, folder, args.snapshot))
 
 
-def keep(args: argparse.Namespace, name: str) -> None:
+def finish_backup(args: argparse.Namespace, name: str) -> None:
     """What comes behind a copy: its encryption, its name, those that don't stay, and its way off. That way may be shut
     for weeks, or be cut by the unit's time, so it comes last; and what can't be tidied keeps no backup from it."""
     path, untidy = placed(args.into / f"{NEW}{name}", args.into, name, args.recipient), ""
@@ -104,7 +104,7 @@ def keep(args: argparse.Namespace, name: str) -> None:
         copy_off(args.copy_with, path)
     if untidy:
         raise BackupError(untidy)
-    note(args.into, True, bytes_of(path), f"backed up in {path}", args.taken)
+    note(args.into, True, backup_bytes(path), f"backed up in {path}", args.taken)
     out(f"backed up in {path}")
 
 
@@ -128,7 +128,7 @@ def done_as(user: StoreUser, call: Callable[[], None], seconds: float = DAY) -> 
 
 def with_lock(args: argparse.Namespace) -> None:
     """Makes the lock's file where there is none: root makes no file there, and a run without root has to open it."""
-    os.close(opened_lock(args.into / LOCK))
+    os.close(opened_shared_lock(args.into / LOCK))
 
 
 @contextlib.contextmanager
@@ -152,16 +152,16 @@ def note_failure(args: argparse.Namespace, said: str) -> None:
     try:
         as_owner(args.into)(lambda: note(args.into, False, 0, said, args.taken))
     except (BackupError, UserError, OSError) as error:
-        tell(f"{args.into / LAST} doesn't say so, and may still say that a backup was made: {cause_of(error)}")
+        warn_backup(f"{args.into / LAST} doesn't say so, and may still say that a backup was made: {cause_of(error)}")
 
 
-def clear(args: argparse.Namespace) -> None:
+def clear_begun(args: argparse.Namespace) -> None:
     remove_begun(args.into)
 
 
 def begin(args: argparse.Namespace) -> None:
     for left in remove_begun(args.into):
-        tell(f"an earlier run left {left}, which is removed now")
+        warn_backup(f"an earlier run left {left}, which is removed now")
 
 
 def run_into(args: argparse.Namespace, by: Callable[[Callable[[], None]], None]) -> None:
@@ -172,19 +172,19 @@ def run_into(args: argparse.Namespace, by: Callable[[Callable[[], None]], None])
         by(lambda: begin(args))
         try:
             if args.snapshot:
-                with snapshot(args.volume) as db:
+                with hold_snapshot(args.volume) as db:
                     by(lambda: copy(args, str(db), begun))
             else:
                 by(lambda: copy(args, args.db, begun))
         except SnapshotStaysError as error:
             stays = str(error)
-            tell(f"the snapshot can't be removed: {stays}")  # at once, as what comes now may fail too
-        by(lambda: keep(args, name))
+            warn_backup(f"the snapshot can't be removed: {stays}")  # at once, as what comes now may fail too
+        by(lambda: finish_backup(args, name))
         if stays:
             raise BackupError(f"the backup {name} is here, and its snapshot stays: {stays}")
     except BaseException:
         with contextlib.suppress(BackupError, OSError):
-            by(lambda: clear(args))
+            by(lambda: clear_begun(args))
         raise
 
 
@@ -214,10 +214,10 @@ def remove_left(args: argparse.Namespace, db: Path) -> None:
         try:
             volumes.append(volume_of(noted, db, ""))
         except BackupError as error:
-            tell(f"the last snapshot was of {noted}, and whether one is left can't be seen: {error}")
+            warn_backup(f"the last snapshot was of {noted}, and whether one is left can't be seen: {error}")
     for volume in volumes:
         if left := volume.removed():
-            tell(f"an earlier run left {left}, which is removed now")
+            warn_backup(f"an earlier run left {left}, which is removed now")
     args.taken = args.snapshot, args.snapshot_size
 
 
@@ -244,7 +244,7 @@ def run_snapshot(args: argparse.Namespace) -> None:
             return
         user = tested_user(store, args.folder.parent if args.trial else args.into)
         if args.trial:
-            with snapshot(args.volume) as found:
+            with hold_snapshot(args.volume) as found:
                 done_as(user, lambda: copy_for_trial(str(found), args.folder))
             return
         done_as(user, lambda: with_lock(args), MINUTE)
@@ -295,7 +295,7 @@ def run_stopped(args: argparse.Namespace) -> None:
         run_into(args, by)
 
 
-def run(args: argparse.Namespace) -> None:
+def make_backup(args: argparse.Namespace) -> None:
     if args.clean:
         run_clean(args)
     elif args.trial:
@@ -308,7 +308,7 @@ def run(args: argparse.Namespace) -> None:
         run_stopped(args)
 
 
-def words() -> argparse.ArgumentParser:
+def backup_parser() -> argparse.ArgumentParser:
     parser = argparse.ArgumentParser(description=__doc__, formatter_class=argparse.RawDescriptionHelpFormatter)
     parser.add_argument("--program", default="station", help="the program")
     parser.add_argument("--site", help="the site file")
@@ -326,7 +326,7 @@ def words() -> argparse.ArgumentParser:
     return parser
 
 
-def checked(parser: argparse.ArgumentParser) -> argparse.Namespace:
+def checked_words(parser: argparse.ArgumentParser) -> argparse.Namespace:
     args = parser.parse_args()
     if args.clean or args.trial:
         if not args.snapshot and not args.into:
@@ -351,12 +351,12 @@ def make_whole(args: argparse.Namespace, program: str) -> None:
 
 
 def main() -> int:
-    args = checked(words())
+    args = checked_words(backup_parser())
     clean_words()
     args.taken = "", ""  # the kind and the size of a snapshot, once those of earlier runs are gone
     os.umask(0o077)
     for number in (signal.SIGTERM, signal.SIGINT, signal.SIGHUP):
-        signal.signal(number, ended)
+        signal.signal(number, stop_run)
     try:
         program = shutil.which(args.program)
         is_backup = not args.clean and not args.trial
@@ -365,10 +365,10 @@ def main() -> int:
         if is_backup and not shutil.which("sqlite3"):
             raise BackupError("no sqlite3")
         make_whole(args, program or args.program)
-        run(args)
+        make_backup(args)
         return 0
     except (BackupError, UserError, OSError) as error:
-        tell(cause_of(error))
+        warn_backup(cause_of(error))
         if args.into and not args.clean and not args.trial:
             note_failure(args, cause_of(error))
         return 1

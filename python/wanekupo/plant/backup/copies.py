@@ -6,18 +6,19 @@ Then sqlite3 counts, in its safe mode, in which it runs no command and writes no
 
 import contextlib
 import errno
-import hashlib
 import json
 import os
 import pwd
 import shutil
 import subprocess
-import time
 from collections.abc import Iterator
 from pathlib import Path
 
 from wanekupo.common.errors import PlantError, cause_of
-from wanekupo.common.whole_file import put_whole, sync
+from wanekupo.common.files import replace_file, sync
+from wanekupo.common.moments import now_text
+from wanekupo.common.process import succeeds
+from wanekupo.common.signing import digest_of_file
 
 FILES = ("books.db", "books.db-wal")
 ABOUT = "about.json"
@@ -56,10 +57,6 @@ def told_if_full(folder: Path, size: int, what: str) -> Iterator[None]:
         raise BackupError(told if is_full else f"{cause_of(error)}. {told}") from error
 
 
-def now() -> str:
-    return time.strftime("%Y-%m-%dT%H:%M:%SZ", time.gmtime())
-
-
 def name_of_user(user: int) -> str:
     try:
         return pwd.getpwuid(user).pw_name
@@ -67,7 +64,7 @@ def name_of_user(user: int) -> str:
         return str(user)
 
 
-def ended(*words: str) -> subprocess.CompletedProcess[str]:
+def run_unpiped(*words: str) -> subprocess.CompletedProcess[str]:
     """A command that has ended, with what it printed: into files, as another process of this user's may take its pipe,
     and whoever reads that waits for both."""
     with open(os.memfd_create("out"), "w+b") as out, open(os.memfd_create("err"), "w+b") as err:
@@ -80,7 +77,7 @@ def ended(*words: str) -> subprocess.CompletedProcess[str]:
 
 def safely(*words: str) -> subprocess.CompletedProcess[str]:
     """sqlite3 in its safe mode."""
-    return ended("sqlite3", "-safe", "-readonly", *words)
+    return run_unpiped("sqlite3", "-safe", "-readonly", *words)
 
 
 def is_served(db: Path) -> bool:
@@ -91,18 +88,13 @@ def is_served(db: Path) -> bool:
     return "locked" in done.stdout + done.stderr
 
 
-def counts_of(db: Path, store: str) -> list[str]:
+def copied_counts(db: Path, store: str) -> list[str]:
     """The numbers of a copy that are compared."""
     done = safely("-bail", str(db), COUNTED)
     if done.returncode:
         raise BackupError(f"sqlite3 can't read the copy of {store}: {done.stderr.strip()}")
     db.with_name(db.name + "-shm").unlink(missing_ok=True)
     return done.stdout.replace("|", " ").splitlines()
-
-
-def digest_of_file(path: Path) -> str:
-    with open(path, "rb") as file:
-        return hashlib.file_digest(file, "sha256").hexdigest()
 
 
 def look_at(store: str) -> Path:
@@ -124,7 +116,7 @@ def look_at(store: str) -> Path:
 def opened_by(program: str, site: str | Path, db: Path) -> bool:
     """Whether the program opens a copy, as which it joins its two files."""
     words = [program, "replay", "--site", str(site), "--db", str(db), "--existing"]
-    return subprocess.run(words, stdin=subprocess.DEVNULL, check=False).returncode == 0
+    return succeeds(*words)
 
 
 def _tried(program: str, site: str, folder: Path, store: str) -> list[str]:
@@ -136,7 +128,7 @@ def _tried(program: str, site: str, folder: Path, store: str) -> list[str]:
         shutil.copyfile(folder / name, trial / name)
     if not opened_by(program, site, trial / FILES[0]):
         raise BackupError("the program refuses the copy")
-    before, after = counts_of(folder / FILES[0], store), counts_of(trial / FILES[0], store)
+    before, after = copied_counts(folder / FILES[0], store), copied_counts(trial / FILES[0], store)
     shutil.rmtree(trial)
     if before != after:
         raise BackupError(f"the copy has other rows once the program has opened it: {before} before, {after} after")
@@ -145,10 +137,10 @@ def _tried(program: str, site: str, folder: Path, store: str) -> list[str]:
 
 def about_of(program: str, folder: Path, counts: list[str], taken: str) -> str:
     """What a backup says of itself."""
-    said = ended(program, "--version")
+    said = run_unpiped(program, "--version")
     names = [*FILES, "site.toml"]
     told = {
-        "at": now(),
+        "at": now_text(),
         "program": said.stdout.strip(),
         "program_sha256": digest_of_file(Path(program)),
         "of": taken or "a stopped server",
@@ -195,7 +187,7 @@ def copy_store(program: str, site: str, store: str, folder: Path, taken: str = "
             shutil.copyfile(source, folder / name)
             sync(folder / name)
         counts = _tried(program, site, folder, store)
-        put_whole(folder / ABOUT, about_of(program, folder, counts, taken))
+        replace_file(folder / ABOUT, about_of(program, folder, counts, taken))
         for name in FILES:
             if digest_of_file(Path(f"{db}{name[len(FILES[0]):]}")) != digest_of_file(folder / name):
                 raise BackupError(f"{store}{name[len(FILES[0]):]} isn't as it was copied any more: stop its server")

@@ -24,10 +24,12 @@ from collections.abc import Iterable
 from pathlib import Path
 from typing import Any
 
-from wanekupo.plant.backup.copies import BackupError, now, size_of, told_if_full
+from wanekupo.plant.backup.copies import BackupError, size_of, told_if_full
 from wanekupo.plant.backup.snapshot import KINDS
 from wanekupo.common.store_user import UserError, read_small
-from wanekupo.common.whole_file import held, put_whole, sync
+from wanekupo.common.files import hold_lock, replace_file, sync
+from wanekupo.common.moments import now_text
+from wanekupo.common.process import run_command
 
 NAME = re.compile(r"(\d{4}-\d\d-\d\dT\d{6}Z)(?:\.tar\.age)?")
 FORM = "%Y-%m-%dT%H%M%SZ"
@@ -37,7 +39,7 @@ TRIALS, LEFT, LARGEST = ("trial.*", "tried-by-site.*"), 3600, 65536
 SIZE = re.compile(r"\d{1,9}[bskmgtBSKMGT]?")
 
 
-def stay(names: Iterable[str], days: int, weeks: int) -> set[str]:
+def staying_backups(names: Iterable[str], days: int, weeks: int) -> set[str]:
     """Which backups stay: the newest of each of the last days that have one, and of each of the last such weeks. So a
     week without a backup takes none away."""
     found = sorted((it for it in names if NAME.fullmatch(it)), reverse=True)
@@ -69,7 +71,7 @@ def remove_begun(folder: Path) -> list[str]:
 def sole_backup(folder: Path) -> contextlib.AbstractContextManager[None]:
     """One backup at a time has a folder. Root makes no file in another user's."""
     is_made = bool(os.geteuid()) or not folder.stat().st_uid
-    return held(folder / LOCK, BackupError(f"another backup is at work in {folder}"), is_made=is_made)
+    return hold_lock(folder / LOCK, BackupError(f"another backup is at work in {folder}"), is_made=is_made)
 
 
 def new_name(folder: Path) -> str:
@@ -105,7 +107,7 @@ def placed(begun: Path, folder: Path, name: str, recipients: list[str]) -> Path:
     """The backup under its name. Of one that is encrypted nothing stays in plain."""
     ready = begun
     if recipients:
-        with told_if_full(folder, bytes_of(begun), "its encryption"):
+        with told_if_full(folder, backup_bytes(begun), "its encryption"):
             ready = encrypted(begun, name, recipients)
     path = folder / (f"{name}.tar.age" if recipients else name)
     os.rename(ready, path)
@@ -115,7 +117,7 @@ def placed(begun: Path, folder: Path, name: str, recipients: list[str]) -> Path:
     return path
 
 
-def bytes_of(path: Path) -> int:
+def backup_bytes(path: Path) -> int:
     return size_of(*path.iterdir()) if path.is_dir() else path.stat().st_size
 
 
@@ -124,9 +126,7 @@ def copy_off(command: str, path: Path) -> None:
     words = [word.replace("{}", str(path)) for word in shlex.split(command)]
     words += [] if "{}" in command else [str(path)]
     try:
-        done = subprocess.run(
-            words, stdin=subprocess.DEVNULL, capture_output=True, text=True, errors="replace", check=False
-        )  # fmt: skip
+        done = run_command(words)
     except OSError as error:
         raise BackupError(f"{path} is here, and wasn't copied off: {words[0]}: {error.strerror}") from error
     if done.returncode:
@@ -138,7 +138,7 @@ def copy_off(command: str, path: Path) -> None:
 def tidy(folder: Path, days: int, weeks: int) -> list[str]:
     """Removes the backups that don't stay, and gives their names."""
     names = [it.name for it in folder.iterdir() if NAME.fullmatch(it.name)]
-    gone = sorted(set(names) - stay(names, days, weeks))
+    gone = sorted(set(names) - staying_backups(names, days, weeks))
     for name in gone:
         remove(folder / name)
     return gone
@@ -165,5 +165,5 @@ def note(folder: Path, ok: bool, size: int, said: str, taken: tuple[str, str]) -
     """Says how the last backup went, in the folder of all, and the kind and the size of its snapshot, or of the last
     one's that had one."""
     kind, room = taken if taken[0] else last_snapshot(folder)
-    told = {"at": now(), "ok": ok, "bytes": size, "said": said, "snapshot": kind, "snapshot_size": room}
-    put_whole(folder / LAST, json.dumps(told) + "\n")
+    told = {"at": now_text(), "ok": ok, "bytes": size, "said": said, "snapshot": kind, "snapshot_size": room}
+    replace_file(folder / LAST, json.dumps(told) + "\n")

@@ -17,6 +17,7 @@ from collections.abc import Callable, Iterator
 from pathlib import Path
 
 from wanekupo.plant.backup.copies import BackupError
+from wanekupo.common.process import run_command
 from wanekupo.common.store_user import STOPS, opened
 
 NAME = "station_backup"
@@ -31,7 +32,7 @@ class SnapshotStaysError(BackupError):
 
 
 @contextlib.contextmanager
-def whole() -> Iterator[None]:
+def signals_waiting() -> Iterator[None]:
     """A signal that would end this run waits: of a command that is killed in the middle a volume may stand still."""
     before = signal.pthread_sigmask(signal.SIG_BLOCK, STOPS)
     try:
@@ -44,16 +45,13 @@ def called(*words: str) -> subprocess.CompletedProcess[str]:
     """A command that has ended."""
     quiet = {**os.environ, "LVM_SUPPRESS_FD_WARNINGS": "1", "LC_ALL": "C.UTF-8"}
     try:
-        with whole():
-            return subprocess.run(
-                words, stdin=subprocess.DEVNULL, capture_output=True, text=True, errors="replace", check=False,
-                env=quiet,
-            )  # fmt: skip
+        with signals_waiting():
+            return run_command(words, environment=quiet)
     except OSError as error:
         raise BackupError(f"{words[0]}: {error.strerror}") from error
 
 
-def ran(*words: str) -> str:
+def command_output(*words: str) -> str:
     """What a command prints. Where it fails, what it said is the error, in a line."""
     done = called(*words)
     if done.returncode:
@@ -65,7 +63,8 @@ def ran(*words: str) -> str:
 def mounted_at(folder: Path) -> dict[str, str]:
     """The file system that has a folder."""
     words = ("findmnt", "--json", "--nofsroot", "--output", "SOURCE,FSTYPE,FSROOT,TARGET", "--target", str(folder))
-    return json.loads(ran(*words))["filesystems"][0]
+    found: dict[str, str] = json.loads(command_output(*words))["filesystems"][0]
+    return found
 
 
 def unmounted(folder: Path) -> bool:
@@ -83,7 +82,7 @@ def unmounted(folder: Path) -> bool:
 def below(device: str) -> str:
     """The volume that a device is over: of DRBD's, as on two machines, its own disk. Any other is one itself."""
     name, _, minor = device.partition("/dev/drbd")
-    return device if name or not minor else ran("drbdadm", "sh-ll-dev", f"minor-{minor}").strip()
+    return device if name or not minor else command_output("drbdadm", "sh-ll-dev", f"minor-{minor}").strip()
 
 
 class Volume:
@@ -121,7 +120,9 @@ class Lvm(Volume):
     @staticmethod
     def _looked(what: str, name: str) -> list[dict[str, str]]:
         """What LVM says of a volume, or of those of a group."""
-        return json.loads(ran("lvs", "--reportformat", "json", "--options", what, name))["report"][0]["lv"]
+        said = command_output("lvs", "--reportformat", "json", "--options", what, name)
+        found: list[dict[str, str]] = json.loads(said)["report"][0]["lv"]
+        return found
 
     def _found(self) -> dict[str, str]:
         """What LVM says of the snapshot; nothing where there is none."""
@@ -134,10 +135,10 @@ class Lvm(Volume):
             words += ["--setactivationskip", "n"]
         else:
             words += ["--size", self.size] if self.size else ["--extents", "20%ORIGIN"]
-        ran(*words, f"{self.group}/{self.volume}")
+        command_output(*words, f"{self.group}/{self.volume}")
         kind = self.mount["fstype"]
         options = f"ro,{SAFE}" + (",nouuid" if kind == "xfs" else "")
-        ran("mount", "-t", kind, "-o", options, f"/dev/{self.name}", str(self.at))
+        command_output("mount", "-t", kind, "-o", options, f"/dev/{self.name}", str(self.at))
         below = self.db.relative_to(self.mount["target"])
         return self.at / self.mount["fsroot"].strip("/") / below
 
@@ -148,7 +149,7 @@ class Lvm(Volume):
             return str(self.at) if was_mounted else ""
         if found["origin"] != self.volume or NAME not in found["lv_tags"].split(","):
             raise BackupError(f"{self.name} is no snapshot of a backup's: rename it, as a backup needs that name")
-        ran("lvremove", "--quiet", "--yes", "--force", self.name)
+        command_output("lvremove", "--quiet", "--yes", "--force", self.name)
         return f"the snapshot {self.name}"
 
     def fault(self) -> str:
@@ -179,7 +180,7 @@ class Btrfs(Volume):
 
     def _at_the_top(self, call: Callable[[Path], None]) -> None:
         try:
-            ran("mount", "-t", "btrfs", "-o", f"subvolid=5,{SAFE}", self.source, str(self.top))
+            command_output("mount", "-t", "btrfs", "-o", f"subvolid=5,{SAFE}", self.source, str(self.top))
             self._look_at_top()
             call(self.top / NAME)
         finally:
@@ -200,10 +201,10 @@ class Btrfs(Volume):
 
     def made(self) -> Path:
         def make(at: Path) -> None:
-            ran("btrfs", "subvolume", "snapshot", "-r", str(self.subvolume), str(at))
+            command_output("btrfs", "subvolume", "snapshot", "-r", str(self.subvolume), str(at))
 
         self._at_the_top(make)
-        ran("mount", "-t", "btrfs", "-o", f"ro,subvol=/{NAME},{SAFE}", self.source, str(self.at))
+        command_output("mount", "-t", "btrfs", "-o", f"ro,subvol=/{NAME},{SAFE}", self.source, str(self.at))
         return self.at / self.db.relative_to(self.subvolume)
 
     def removed(self) -> str:
@@ -211,7 +212,7 @@ class Btrfs(Volume):
 
         def remove(at: Path) -> None:
             if at.exists():
-                ran("btrfs", "subvolume", "delete", "--commit-after", str(at))
+                command_output("btrfs", "subvolume", "delete", "--commit-after", str(at))
                 was.append(f"the snapshot {NAME} on {self.source}")
 
         self._at_the_top(remove)
@@ -231,20 +232,21 @@ class Zfs(Volume):
         self.name = f"{self.dataset}@{NAME}"
 
     def made(self) -> Path:
-        ran("zfs", "snapshot", "-o", f"{MARK}=yes", self.name)
-        ran("mount", "-t", "zfs", "-o", f"ro,{SAFE}", self.name, str(self.at))
+        command_output("zfs", "snapshot", "-o", f"{MARK}=yes", self.name)
+        command_output("mount", "-t", "zfs", "-o", f"ro,{SAFE}", self.name, str(self.at))
         below = self.db.relative_to(self.mount["target"])
         return self.at / self.mount["fsroot"].strip("/") / below
 
     def removed(self) -> str:
         was_mounted = unmounted(self.at)
-        lines = ran("zfs", "list", "-H", "-t", "snapshot", "-d", "1", "-o", f"name,{MARK}", self.dataset).splitlines()
+        words = ("zfs", "list", "-H", "-t", "snapshot", "-d", "1", "-o", f"name,{MARK}", self.dataset)
+        lines = command_output(*words).splitlines()
         marks = dict(line.split("\t") for line in lines)
         if self.name not in marks:
             return str(self.at) if was_mounted else ""
         if marks[self.name] != "yes":
             raise BackupError(f"{self.name} is no snapshot of a backup's: rename it, as a backup needs that name")
-        ran("zfs", "destroy", self.name)
+        command_output("zfs", "destroy", self.name)
         return f"the snapshot {self.name}"
 
 
@@ -264,7 +266,7 @@ def volume_of(kind: str, db: Path, size: str) -> Volume:
 
 
 @contextlib.contextmanager
-def snapshot(volume: Volume) -> Iterator[Path]:
+def hold_snapshot(volume: Volume) -> Iterator[Path]:
     """The store's file in a snapshot, which is gone behind it. Where the snapshot isn't whole at the end, what was read
     of it is nothing."""
     is_whole = False
@@ -278,7 +280,7 @@ def snapshot(volume: Volume) -> Iterator[Path]:
             raise BackupError(fault)
         is_whole = True
     finally:
-        with whole():
+        with signals_waiting():
             try:
                 volume.removed()
             except BackupError as error:

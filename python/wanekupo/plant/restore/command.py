@@ -31,7 +31,6 @@ import json
 import os
 import shutil
 import signal
-import subprocess
 import sys
 from collections import Counter
 from collections.abc import Iterable
@@ -40,25 +39,27 @@ from typing import Any
 
 
 from wanekupo.common.errors import cause_of
-from wanekupo.plant.backup.copies import BackupError, copy_store, counts_of, opened_by, told_if_full
+from wanekupo.plant.backup.copies import BackupError, copy_store, copied_counts, opened_by, told_if_full
 from wanekupo.plant.restore.journals import half_of_memory, sources_of, take_journals
 from wanekupo.plant.restore.lost_store import (
-    NEEDED, by_customer, contradictions, last_numbers, lost_copy, missing_rows, number_gaps, steps_of,
+    NEEDED, by_customer, lost_contradictions, last_numbers, lost_copy, missing_rows, number_gaps, seats_out_of_step,
 )  # fmt: skip
-from wanekupo.plant.restore.place import StorePlace, check_backup, check_folders, free_name, served
+from wanekupo.plant.restore.place import StorePlace, check_backup, check_folders, free_name, serve_alone
 from wanekupo.plant.restore.plan import (
     CustomerPlan, Requests, RestoreError, absolute, asked_of, check_customers, check_left_out, choose_seats,
-    customers_of, named, requests_of_seats, tokens_at, told_of,
+    customers_of, name_customer, requests_of_seats, tokens_at, station_error_sentence,
 )  # fmt: skip
 from wanekupo.common.store_user import DAY, StoreFolder, UserError
 from wanekupo.common.store_user import shown as shown_lines
 from wanekupo.common.store_words import clean_words
 
 from wanekupo.common.errors import StationError
+from wanekupo.common.files import replace_file
 from wanekupo.seat.journal import Journal
 from wanekupo.seat.journal_lines import Folders, folders_at
 from wanekupo.common.printing import Progress
-from wanekupo.seat.replays import restore_requests
+from wanekupo.common.process import run_command
+from wanekupo.seat.journal_restore import restore_requests
 from wanekupo.seat.station import Station
 from wanekupo.common.texts import shown
 
@@ -66,17 +67,17 @@ ON, REFUSED, KEPT = 0, 1, 3
 SHOWN = 5
 
 
-def say(*lines: str) -> None:
+def print_lines(*lines: str) -> None:
     for line in lines:
         print(line, flush=True)
 
 
-def told(error: BaseException) -> str:
+def error_sentence(error: BaseException) -> str:
     """An error in a sentence."""
-    return told_of(error) if isinstance(error, StationError) else cause_of(error)
+    return station_error_sentence(error) if isinstance(error, StationError) else cause_of(error)
 
 
-def stopped(number: int, _: object) -> None:
+def stop_restore(number: int, _: object) -> None:
     raise RestoreError(f"stopped by signal {number}: begin it again, and it does all of it anew")
 
 
@@ -84,7 +85,7 @@ def stopped(number: int, _: object) -> None:
 
 
 def stop(unit: str) -> None:
-    done = subprocess.run(["systemctl", "stop", unit], capture_output=True, text=True, check=False)
+    done = run_command(["systemctl", "stop", unit])
     if done.returncode:
         raise RestoreError(f"systemd doesn't stop {unit}: {done.stderr.strip()}")
 
@@ -99,10 +100,10 @@ def gather(
     with half_of_memory():
         take_journals(sources_of(args.journals, customers, folders, args.folders), customers, args.leave_out)
     for line in choose_seats(customers, tokens, args.seat, args.tokens):
-        say(f"warning: {line}")
+        print_lines(f"warning: {line}")
     requests: dict[str, Requests] = {}
     for customer in customers.values():
-        with named(customer.name):
+        with name_customer(customer.name):
             customer.asked = asked_of(customer)
             requests |= requests_of_seats([customer])
     return requests
@@ -117,7 +118,7 @@ def copy_in(args: argparse.Namespace, place: StorePlace, about: dict[str, Any]) 
             raise RestoreError("the program doesn't open the backup, under no site file")
         if not opened_by(args.program, args.site, place.made):
             raise RestoreError(f"the program doesn't open the backup under {args.site}, which is no growth of its own")
-    counts = counts_of(place.made, str(args.backup))
+    counts = copied_counts(place.made, str(args.backup))
     if about and counts != about["counts"]:
         raise RestoreError(f"the backup has {counts}, and had {about['counts']} when it was made")
     return counts
@@ -135,34 +136,34 @@ def hold_against_lost(
         return None
     copy, is_opened = lost_copy(args.program, args.site, lost, place.work / "lost")
     if not is_opened:
-        say("the program doesn't open the lost store: the journals aren't held against it")
+        print_lines("the program doesn't open the lost store: the journals aren't held against it")
         return copy
-    found = by_customer(contradictions(customers, requests, copy, last_numbers(counts)))
+    found = by_customer(lost_contradictions(customers, requests, copy, last_numbers(counts)))
     told = {name: f"{name}: {'; '.join(its[:SHOWN])}; {len(its)} such lines" for name, its in found.items()}
     if open_ones := [name for name in told if name not in args.distrust_lost]:
         words = "Look which is right. Is that store an older one, or did it lose the end of its log? --distrust-lost"
         raise RestoreError(". ".join([*(told[name] for name in open_ones), f"{words} {open_ones[0]}"]))
-    say(*(f"warning: {it}" for it in told.values()))
+    print_lines(*(f"warning: {it}" for it in told.values()))
     return copy
 
 
 def replay(args: argparse.Namespace, place: StorePlace, customers: list[CustomerPlan]) -> dict[str, Any]:
     """Brings back what the journals have. Gives what became of each customer's devices that aren't as they were."""
     left = {}
-    with served(args.program, args.site, place.made) as url:
+    with serve_alone(args.program, args.site, place.made) as url:
         for customer in customers:
             if not customer.journals:
                 continue
             journal = Journal(place.work / f"{customer.seat}.journal", customer.seat)
             state = place.work / f"{customer.seat}.json"
             with Station(url, customer.token, state, journal=journal, closes_journal=True) as station:
-                with Progress(customer.name) as told, named(customer.name):
+                with Progress(customer.name) as told, name_customer(customer.name):
                     done = restore_requests(station, customer.asked, told)
             left[customer.name] = done.pop("left")
             for name in ("scrapped", "shipped"):
                 done[name] = len(done[name])
             made = ", ".join(f"{name} {number}" for name, number in done.items())
-            say(f"{customer.name}: by the seat {customer.seat}: {made}; left {len(left[customer.name])}")
+            print_lines(f"{customer.name}: by the seat {customer.seat}: {made}; left {len(left[customer.name])}")
     if not opened_by(args.program, args.site, place.made):
         raise RestoreError("the program doesn't open what it restored")
     return left
@@ -171,13 +172,13 @@ def replay(args: argparse.Namespace, place: StorePlace, customers: list[Customer
 def look(args: argparse.Namespace, place: StorePlace, copy: Path | None) -> tuple[list[str], dict[str, Any]]:
     """What of the lost store is in no journal, where its files are there: what keeps stations, and all lists."""
     if not copy:
-        say("nothing was there to compare with: what no journal has isn't known")
+        print_lines("nothing was there to compare with: what no journal has isn't known")
         return [], {}
     rows = missing_rows(copy, place.made)
     keeps = []
     for what, found in rows.items():
         if found is None:
-            say(f"{what}: sqlite3 can't read those of the lost store")
+            print_lines(f"{what}: sqlite3 can't read those of the lost store")
             continue
         keeps += [line for name, own in rows_of_customers(found) if (line := keeping(args, what, name, own))]
     shutil.rmtree(copy.parent)
@@ -194,46 +195,49 @@ def keeping(args: argparse.Namespace, what: str, name: str, rows: list[str]) -> 
     told = f"{shown(name)}: {len(rows)} {what} of the lost store"
     if what in NEEDED and name not in (*args.leave_out, *args.accept_missing):
         return f"{told} are in no journal: {'; '.join(rows[:SHOWN])}"
-    say(f"{told}, and it is left out" if name in args.leave_out else f"{told} aren't as they were")
+    print_lines(f"{told}, and it is left out" if name in args.leave_out else f"{told} aren't as they were")
     return ""
 
 
-def listed(place: StorePlace, left: dict[str, Any], rows: dict[str, Any]) -> None:
+def write_lists(place: StorePlace, left: dict[str, Any], rows: dict[str, Any]) -> None:
     """Writes the lists, and tells how many devices are in which other state."""
     for name, found in (("left.json", left), ("missing.json", rows)):
-        (place.work / name).write_text(json.dumps(found, indent=1) + "\n", encoding="utf-8")
+        replace_file(place.work / name, json.dumps(found, indent=1) + "\n")
     kinds = Counter((was, is_now or "not there") for devices in left.values() for was, is_now in devices.values())
     for (was, is_now), number in sorted(kinds.items()):
-        say(f"devices that were {was} and are {is_now}: {number}")
+        print_lines(f"devices that were {was} and are {is_now}: {number}")
     if kinds:
-        say("What to do with each: the page back-up-and-restore, Devices after a restore.")
+        print_lines("What to do with each: the page back-up-and-restore, Devices after a restore.")
 
 
-def end(args: argparse.Namespace, place: StorePlace, keeps: list[str], requests: dict[str, Requests]) -> int:
+def end_restore(args: argparse.Namespace, place: StorePlace, keeps: list[str], requests: dict[str, Requests]) -> int:
     """Says what keeps stations from going on; else backs the restored store up, and gives it its name."""
     if keeps:
-        say("", "Stations may not go on yet. No store was put in place.", *(f"- {it}." for it in keeps))
+        print_lines("", "Stations may not go on yet. No store was put in place.", *(f"- {it}." for it in keeps))
         told = "Bring a journal more, or write one (back-up-and-restore.md)"
-        say(f"{told}; or --without SEAT, --accept-missing CUSTOMER.")
+        print_lines(f"{told}; or --without SEAT, --accept-missing CUSTOMER.")
         return KEPT
     saved = free_name(args.backups, "restored")
     counts = copy_store(args.program, str(args.site), str(place.made), saved, "a restore")
-    say(f"restored: {', '.join(counts)}")
-    stops, chance = steps_of(requests, last_numbers(counts))
+    print_lines(f"restored: {', '.join(counts)}")
+    stops, chance = seats_out_of_step(requests, last_numbers(counts))
     done = place.put_in_place()
-    say("", f"The store is {place.db}, a backup of it {saved}, what this restore listed and asked {done}.")
+    print_lines("", f"The store is {place.db}, a backup of it {saved}, what this restore listed and asked {done}.")
     for name in args.leave_out:
-        say(f"{name} is left out, and none of its stations may go on: they would get numbers and addresses once more.")
-        say("Give them no token until its journals are brought back: back-up-and-restore.md, Leave a customer out.")
-    say(f"These seats stop at 11 or 12 by themselves: {' '.join(stops) or 'none'}.")
+        print_lines(
+            f"{name} is left out, and none of its stations may go on: they would get numbers and addresses once more.",
+            "Give them no token until its journals are brought back: back-up-and-restore.md, Leave a customer out.",
+        )
+    print_lines(f"These seats stop at 11 or 12 by themselves: {' '.join(stops) or 'none'}.")
     if chance:
-        say(f"These don't, as their next number is the one expected: {' '.join(chance)}.")
-        say("End the programs of these stations before the server starts.")
-    say("Stations may go on: systemctl start station. At each, before anything else: wanekupo number --resynchronize.")
+        print_lines(f"These don't, as their next number is the one expected: {' '.join(chance)}.")
+        print_lines("End the programs of these stations before the server starts.")
+    goes_on = "At each, before anything else: wanekupo number --resynchronize."
+    print_lines(f"Stations may go on: systemctl start station. {goes_on}")
     return ON
 
 
-def run(args: argparse.Namespace) -> int:
+def restore_as_root(args: argparse.Namespace) -> int:
     """Root's part: the tokens, and that no server has the store. The rest is done as the store's user."""
     store = StoreFolder(args.db)
     place = StorePlace(store)
@@ -246,10 +250,10 @@ def run(args: argparse.Namespace) -> int:
     if args.stop:
         stop(args.stop)
     place.refuse_server(args.port)
-    return store.user.call(lambda: restored(args, place, customers, tokens, folders), told, DAY)
+    return store.user.call(lambda: restore_store(args, place, customers, tokens, folders), error_sentence, DAY)
 
 
-def restored(
+def restore_store(
     args: argparse.Namespace, place: StorePlace, customers: dict[str, CustomerPlan],
     tokens: dict[str, str], folders: Folders,
 ) -> int:
@@ -257,8 +261,9 @@ def restored(
     place.refuse_links()
     with place.sole_restore():
         if place.state().get("placing"):
-            say(f"An earlier run was stopped while it put the store in place: {place.put_in_place()} has its lists.")
-            say("Stations may go on: systemctl start station. At each, first: wanekupo number --resynchronize.")
+            done = place.put_in_place()
+            print_lines(f"An earlier run was stopped while it put the store in place: {done} has its lists.")
+            print_lines("Stations may go on: systemctl start station. At each, first: wanekupo number --resynchronize.")
             return ON
         check_folders(args.backup, args.backups)
         requests = gather(args, customers, tokens, folders)
@@ -267,19 +272,19 @@ def restored(
         with told_if_full(place.folder, place.needs(args.backup), "a restore"):
             with place.locked():
                 counts = copy_in(args, place, about)
-                say(f"the backup of {about.get('at', 'a moment that it does not say')}: {', '.join(counts)}")
+                print_lines(f"the backup of {about.get('at', 'a moment that it does not say')}: {', '.join(counts)}")
                 copy = hold_against_lost(args, place, taken, requests, counts)
                 place.put_aside()
-            if place.lost():
-                say(f"what was there is in {place.lost().parent}")
+            if lost := place.lost():
+                print_lines(f"what was there is in {lost.parent}")
             left = replay(args, place, taken)
             keeps = number_gaps(taken, requests, last_numbers(counts), set(args.without.split(",")))
             more, rows = look(args, place, copy)
-            listed(place, left, rows)
-        return end(args, place, [*keeps, *more], requests)
+            write_lists(place, left, rows)
+        return end_restore(args, place, [*keeps, *more], requests)
 
 
-def words() -> argparse.ArgumentParser:
+def restore_parser() -> argparse.ArgumentParser:
     parser = argparse.ArgumentParser(description=__doc__, formatter_class=argparse.RawDescriptionHelpFormatter)
     parser.add_argument("backup", type=Path, metavar="BACKUP")
     parser.add_argument("site", type=Path, metavar="SITE")
@@ -306,11 +311,11 @@ def words() -> argparse.ArgumentParser:
 
 
 def main() -> int:
-    args = words().parse_args()
+    args = restore_parser().parse_args()
     clean_words()
     os.umask(0o077)
     for number in (signal.SIGTERM, signal.SIGINT, signal.SIGHUP):
-        signal.signal(number, stopped)
+        signal.signal(number, stop_restore)
     args.journals = absolute(args.journals)
     args.backup, args.site, args.tokens = (it.absolute() for it in (args.backup, args.site, args.tokens))
     args.backups = args.backups.absolute() if args.backups else args.backup.parent
@@ -319,9 +324,9 @@ def main() -> int:
         if not program or not all(map(shutil.which, ("sqlite3", "setpriv"))):
             raise RestoreError(f"{args.program}, sqlite3 and setpriv are needed, and one isn't there")
         args.program = os.path.abspath(program)
-        return run(args)
+        return restore_as_root(args)
     except (StationError, RestoreError, BackupError, UserError, OSError) as error:
-        print(f"restore: {shown_lines(told(error))}", file=sys.stderr)
+        print(f"restore: {shown_lines(error_sentence(error))}", file=sys.stderr)
     if args.stop:
         print(f"restore: the unit {args.stop} stays stopped, where it was", file=sys.stderr)
     return REFUSED

@@ -9,7 +9,7 @@ from collections.abc import Collection, Iterable, Iterator
 from pathlib import Path
 from typing import Any
 
-from wanekupo.plant.backup.copies import FILES, ended, opened_by, safely
+from wanekupo.plant.backup.copies import FILES, run_unpiped, opened_by, safely
 from wanekupo.plant.restore.plan import OWN, CustomerPlan, Requests, RestoreError
 from wanekupo.seat.journal import Asked, records_of
 from wanekupo.common.texts import brief, shown
@@ -33,12 +33,13 @@ MOST_GAPS = 20
 NEEDED = ("orders", "serial numbers")
 
 
-def rows_of(db: Path, query: str) -> list[dict[str, Any]] | None:
+def query_rows(db: Path, query: str) -> list[dict[str, Any]] | None:
     """The rows of a copy, or None where sqlite3 can't read them."""
     done = safely("-json", str(db), query)
     if done.returncode:
         return None
-    return json.loads(done.stdout or "[]")
+    rows: list[dict[str, Any]] = json.loads(done.stdout or "[]")
+    return rows
 
 
 def lost_copy(program: str, site: Path, lost: Path, folder: Path) -> tuple[Path, bool]:
@@ -46,7 +47,7 @@ def lost_copy(program: str, site: Path, lost: Path, folder: Path) -> tuple[Path,
     the process that has it closes that file."""
     folder.mkdir()
     for source, name in zip((lost, Path(f"{lost}-wal")), FILES):
-        done = ended("cp", "--", str(source), str(folder / name))
+        done = run_unpiped("cp", "--", str(source), str(folder / name))
         if done.returncode:
             raise RestoreError(f"{lost} can't be copied: {done.stderr.strip()}")
     return folder / FILES[0], opened_by(program, site, folder / FILES[0])
@@ -55,12 +56,12 @@ def lost_copy(program: str, site: Path, lost: Path, folder: Path) -> tuple[Path,
 # What the lost store says otherwise.
 
 
-def contradictions(
+def lost_contradictions(
     customers: Collection[CustomerPlan], requests: dict[str, Requests], lost: Path, before: dict[str, int]
 ) -> Iterator[tuple[str, str]]:
     """What journals have that the lost store hasn't, or has otherwise, each with the customer whose they are. `before`
     are the last numbers of the backup."""
-    seats = rows_of(lost, SEATS)
+    seats = query_rows(lost, SEATS)
     rows = {row["name"]: row for row in seats or []}
     for customer in customers if seats is not None else []:
         # A store that was restored since the backup knows what journals have, and not by the numbers of their seats.
@@ -72,7 +73,7 @@ def contradictions(
 
 
 def _last(rows: dict[str, dict[str, Any]], seat: str) -> int:
-    return rows[seat]["last"] if seat in rows else 0
+    return int(rows[seat]["last"]) if seat in rows else 0
 
 
 def _numbers_otherwise(seat: str, found: Requests, row: dict[str, Any] | None, is_restored: bool) -> Iterator[str]:
@@ -88,7 +89,7 @@ def _numbers_otherwise(seat: str, found: Requests, row: dict[str, Any] | None, i
 
 def _rows_otherwise(customers: Collection[CustomerPlan], lost: Path) -> Iterator[tuple[str, str]]:
     """Orders and serial numbers that had a reply, and aren't in the lost store."""
-    orders, given = rows_of(lost, TABLES["orders"]), rows_of(lost, TABLES["serial numbers"])
+    orders, given = query_rows(lost, TABLES["orders"]), query_rows(lost, TABLES["serial numbers"])
     names = {(row["customer"], row["name"]) for row in orders or []}
     keys = {(row["issuer"], row["serial"]): row["key_sha256"] for row in given or []}
     asked = [(customer.name, it) for customer in customers for it in customer.asked]
@@ -125,7 +126,7 @@ def missing_rows(lost: Path, restored: Path) -> dict[str, list[dict[str, Any]] |
     """The rows of the lost store that the restored one hasn't, by what they are; None where they can't be read."""
     found: dict[str, list[dict[str, Any]] | None] = {}
     for what in TABLES:
-        before, there = rows_of(lost, TABLES[what]), rows_of(restored, TABLES[what]) or []
+        before, there = query_rows(lost, TABLES[what]), query_rows(restored, TABLES[what]) or []
         known = {json.dumps(row, sort_keys=True) for row in there}
         missing = None if before is None else [it for it in before if json.dumps(it, sort_keys=True) not in known]
         found[what] = missing
@@ -169,7 +170,7 @@ def number_gaps(
     return told
 
 
-def steps_of(numbers: dict[str, Requests], after: dict[str, int]) -> tuple[list[str], list[str]]:
+def seats_out_of_step(numbers: dict[str, Requests], after: dict[str, int]) -> tuple[list[str], list[str]]:
     """The seats whose stations stop by themselves, and those whose next number is by chance what the store expects."""
     ahead = {seat: max(found, default=0) for seat, found in numbers.items()}
     chance = sorted(seat for seat, top in ahead.items() if after.get(seat, 0) in (top - 1, top))

@@ -24,10 +24,11 @@ from collections.abc import Iterator
 from pathlib import Path
 from typing import Any
 
-from wanekupo.plant.backup.copies import ABOUT, FILES, digest_of_file, size_of
+from wanekupo.plant.backup.copies import ABOUT, FILES, size_of
 from wanekupo.plant.restore.plan import RestoreError
 from wanekupo.common.store_user import StoreFolder, UserError, read_small
-from wanekupo.common.whole_file import held, put_whole, sync
+from wanekupo.common.files import hold_lock, replace_file, sync
+from wanekupo.common.signing import digest_of_file
 
 HOST = "127.0.0.1"
 FORM = "%Y-%m-%dT%H%M%SZ"
@@ -41,12 +42,12 @@ def holders_of(db: Path, table: Path = Path("/proc")) -> list[int]:
         with contextlib.suppress(OSError):  # one that ends meanwhile has nothing open
             links = [table / f"{process}/fd" / number for number in os.listdir(table / f"{process}/fd")]
             has_it = any(readlink(it) in (str(db), f"{db} (deleted)") for it in links)
-            if has_it and user_of(table / str(process)) in users:
+            if has_it and process_user(table / str(process)) in users:
                 found.add(process)
     return sorted(found - {os.getpid()})
 
 
-def user_of(process: Path) -> int:
+def process_user(process: Path) -> int:
     """A process's real user: who owns its folder may be root, where it lets nobody look at its memory."""
     return int((process / "status").read_text(errors="replace").partition("\nUid:")[2].split()[0])
 
@@ -118,7 +119,7 @@ class StorePlace:
 
     def sole_restore(self) -> contextlib.AbstractContextManager[None]:
         """One restore at a time."""
-        return held(self.folder / "restore.lock", RestoreError(f"another restore is at work in {self.folder}"))
+        return hold_lock(self.folder / "restore.lock", RestoreError(f"another restore is at work in {self.folder}"))
 
     # What a run leaves to the next.
 
@@ -140,7 +141,7 @@ class StorePlace:
         return f"write {json.dumps({'lost': max(names)})} into it" if names else "remove it"
 
     def keep(self, **changes: Any) -> None:
-        put_whole(self.begun, json.dumps({**self.state(), **changes}) + "\n")
+        replace_file(self.begun, json.dumps({**self.state(), **changes}) + "\n")
 
     # The files.
 
@@ -221,12 +222,13 @@ def check_folders(backup: Path, backups: Path) -> None:
 def said_in(backup: Path) -> dict[str, Any]:
     """What a backup says of itself; nothing of one by an earlier program."""
     try:
-        about = json.loads(read_small(backup / ABOUT))
+        found = json.loads(read_small(backup / ABOUT))
     except FileNotFoundError:
         return {}
     except (ValueError, RecursionError, UserError):
-        about = None
-    digests, counts = (about.get(it) for it in ("sha256", "counts")) if isinstance(about, dict) else (None, None)
+        found = None
+    about: dict[str, Any] = found if isinstance(found, dict) else {}
+    digests, counts = about.get("sha256"), about.get("counts")
     if not isinstance(digests, dict) or not set(FILES) <= set(digests) or not isinstance(counts, list):
         raise RestoreError(f"{backup / ABOUT} is damaged: take another backup")
     return about
@@ -249,7 +251,7 @@ def check_backup(backup: Path) -> dict[str, Any]:
 
 
 @contextlib.contextmanager
-def served(program: str, site: Path, db: Path) -> Iterator[str]:
+def serve_alone(program: str, site: Path, db: Path) -> Iterator[str]:
     """The address of a server over a store, on a port of this machine that nobody knows. It dies with this process."""
     with socket.socket() as listener:
         listener.bind((HOST, 0))

@@ -8,7 +8,6 @@ import contextlib
 import hashlib
 import heapq
 import os
-import tomllib
 from collections.abc import Collection, Iterable, Iterator
 from dataclasses import dataclass, field
 from pathlib import Path
@@ -18,8 +17,9 @@ from wanekupo.plant.backup.copies import BackupError
 from wanekupo.common.store_user import UserError, read_small
 from wanekupo.common.token_file import Outer, TokenError, Tokens, check_folder, read, tokens_of
 from wanekupo.common.errors import StationError
+from wanekupo.common.site_file import SiteFileError, read_site_file
 from wanekupo.seat.journal import Asked, requests_in, serials_of
-from wanekupo.seat.replays import tested_requests
+from wanekupo.seat.journal_restore import tested_requests
 from wanekupo.common.texts import brief, shown
 
 # How the name of a seat begins that is for restores alone.
@@ -36,14 +36,14 @@ def error_of(names: list[str], told: str) -> RestoreError:
 
 
 @contextlib.contextmanager
-def named(customer: str) -> Iterator[None]:
+def name_customer(customer: str) -> Iterator[None]:
     """Says whose the line is that an error of the client's names, and for whose journals no memory is left."""
     try:
         yield
     except MemoryError:
         raise error_of([customer], "no memory is left for its journals: move old days away") from None
     except StationError as error:
-        raise error_of([customer], told_of(error)) from error
+        raise error_of([customer], station_error_sentence(error)) from error
     except (ArithmeticError, AttributeError, LookupError, RecursionError, TypeError, ValueError) as error:
         told = f"its journals have what no station writes ({type(error).__name__}: {shown(brief(error))})"
         raise error_of([customer], told) from error
@@ -76,15 +76,10 @@ class CustomerPlan:
 
 def customers_of(site: Path) -> dict[str, CustomerPlan]:
     try:
-        text = tomllib.loads(site.read_text(encoding="utf-8"))
-        return {
-            it["name"]: CustomerPlan(
-                it["name"], {seat["name"]: seat["token"].lower() for seat in it.get("seat", [])}, bool(it["issuer"])
-            )
-            for it in text["customer"]
-        }
-    except (OSError, ValueError, KeyError, TypeError, AttributeError, RecursionError) as error:
-        raise RestoreError(f"{site} is no site file that can be read: {error}") from None
+        found = read_site_file(site).customers
+    except (SiteFileError, OSError) as error:
+        raise RestoreError(str(error)) from None
+    return {name: CustomerPlan(name, it.seats, bool(it.issuers)) for name, it in found.items()}
 
 
 # Journals.
@@ -132,7 +127,7 @@ def requests_of_seats(customers: Iterable[CustomerPlan]) -> dict[str, Requests]:
     found: dict[str, list[list[Placed]]] = {}
     for journal in (it for customer in customers for it in customer.journals if it.seat):
         found.setdefault(journal.seat, []).append(journal.lines)
-    return {seat: standing(heapq.merge(*its, key=lambda placed: placed[2]["at"])) for seat, its in found.items()}
+    return {seat: standing(heapq.merge(*its, key=lambda placed: str(placed[2]["at"]))) for seat, its in found.items()}
 
 
 def asked_of(customer: CustomerPlan) -> list[Asked]:
@@ -215,6 +210,6 @@ def absolute(words: Iterable[str]) -> list[str]:
     return found
 
 
-def told_of(error: StationError) -> str:
+def station_error_sentence(error: StationError) -> str:
     """An error of the client's in a sentence."""
     return " ".join(it for it in (f"{error}.", error.advice) if it)

@@ -7,6 +7,7 @@ store may hold it from the first moment of a start on: the new text opens a stor
 import http.client
 import os
 import shlex
+import signal
 import ssl
 import stat
 import time
@@ -16,9 +17,9 @@ from pathlib import Path
 
 from wanekupo.plant.trial_copy import Backup
 from wanekupo.common.process import own_command
-from wanekupo.common.store_user import LONGEST, MINUTE, PLAIN, SMALL, UserError, shown
+from wanekupo.common.store_user import LONGEST, MINUTE, PLAIN, SMALL, STOPS, UserError, shown
 from wanekupo.common.token_file import HEALTH, PREFIX, TokenError, alone, read, tokens_of
-from wanekupo.common.whole_file import sync
+from wanekupo.common.files import sync
 
 from wanekupo.plant.site.place import Place, text_in
 from wanekupo.plant.site.plan import PLACED, PREPARED, STOPPING, GrowthPlan, SeatWish, drop_plan, keep_plan
@@ -53,15 +54,29 @@ def apply(place: Place, plan: GrowthPlan) -> None:
         start(place, plan)
         for wish in plan.wishes:
             give_token(place, wish)
-    except Stopped as stopped:
-        place.service(place.args.start)
-        if plan.stage != PLACED:
+    except BaseException as error:
+        start_behind(place)
+        if plan.stage == STOPPING:
+            plan.backup = ""
+            noted(place, plan, PREPARED)
+        if plan.stage != PLACED or not isinstance(error, Stopped):
             raise
-        raise TokenError(5, f"stopped in the middle: {place.site} may have the new text; apply goes on") from stopped
+        raise TokenError(5, f"stopped in the middle: {place.site} may have the new text; apply goes on") from error
     keep_with_backup(place, plan)
     place.next.unlink(missing_ok=True)
     drop_plan(place.plan)
     say("done")
+
+
+def start_behind(place: Place) -> None:
+    """Starts the server behind an error, which no signal keeps from it. None is ignored, since what is started then
+    would ignore it too."""
+    before = {it: signal.signal(it, lambda *_: None) for it in STOPS}
+    try:
+        place.service(place.args.start)
+    finally:
+        for it, handler in before.items():
+            signal.signal(it, handler)
 
 
 def noted(place: Place, plan: GrowthPlan, stage: str) -> None:
@@ -73,31 +88,25 @@ def noted(place: Place, plan: GrowthPlan, stage: str) -> None:
 
 
 def stop_and_back_up(place: Place, plan: GrowthPlan) -> None:
-    """The server is stopped and the store backed up; where that fails the server is started with the old text."""
+    """The server is stopped and the store backed up."""
     left, user = plan.backup, place.user
     plan.backup = str(place.backups / f"before-{time.strftime('%Y-%m-%dT%H%M%S')}-{os.getpid()}")
     noted(place, plan, STOPPING)
     if left:  # by a run that was cut: it may be half a backup
         user.run("rm", "-rf", "--", left)
     is_stopped, said = place.service(place.args.stop)
-    try:
-        if not is_stopped:
-            raise TokenError(1, f"the server wasn't stopped: {said}")
-        say("the server is stopped")
-        words = ["--program", place.program, "--site", str(place.site), "--db", str(place.db), plan.backup]
-        done = user.run(own_command("station-backup"), *words, seconds=4 * LONGEST)  # it copies, starts and compares
-        if done.returncode:
-            raise TokenError(1, f"no backup, so nothing was changed: {shown(done.stderr).strip()}")
-        say(shown(done.stdout).strip())
-        if not plan.is_tried:
-            made = Backup(Path(plan.backup), place.size(), is_encrypted=False)
-            tried_over_backup(place, made, text_in(place.site), text_in(place.next))
-            say("a copy of that backup took the new text")
-    except (TokenError, UserError, OSError):
-        place.service(place.args.start)
-        plan.backup = ""
-        noted(place, plan, PREPARED)
-        raise
+    if not is_stopped:
+        raise TokenError(1, f"the server wasn't stopped: {said}")
+    say("the server is stopped")
+    words = ["--program", place.program, "--site", str(place.site), "--db", str(place.db), plan.backup]
+    done = user.run(own_command("station-backup"), *words, seconds=4 * LONGEST)  # it copies, starts and compares
+    if done.returncode:
+        raise TokenError(1, f"no backup, so nothing was changed: {shown(done.stderr).strip()}")
+    say(shown(done.stdout).strip())
+    if not plan.is_tried:
+        made = Backup(Path(plan.backup), place.size(), is_encrypted=False)
+        tried_over_backup(place, made, text_in(place.site), text_in(place.next))
+        say("a copy of that backup took the new text")
 
 
 def put_in_place(place: Place, plan: GrowthPlan) -> None:
@@ -161,7 +170,7 @@ def tell_failed(place: Place, plan: GrowthPlan, said: str) -> None:
     old = Path(plan.backup, "site.toml")
     try:
         text = place.user.run("cat", "--", str(old), seconds=MINUTE).stdout
-        held = place.held_text([place.site, *([old] if text else [])])
+        held = place.held_text([text_in(place.site), *([text] if text else [])])
         if held == text_in(place.site):
             told = f"The store holds the new text by now: start it with that alone, which is {place.site}."
         elif held == text:
@@ -189,12 +198,12 @@ def status_of(url: str, token: str, certificate: str = "") -> int:
     request = urllib.request.Request(url)
     if token:
         request.add_unredirected_header("Authorization", f"Bearer {token}")
-    handlers = [urllib.request.ProxyHandler({})]
+    handlers: list[urllib.request.BaseHandler] = [urllib.request.ProxyHandler({})]
     if context:
         handlers.append(urllib.request.HTTPSHandler(context=context))
     try:
         with urllib.request.build_opener(*handlers).open(request, timeout=PATIENCE) as reply:
-            return reply.status
+            return int(reply.status)
     except urllib.error.HTTPError as error:
         return error.code
 

@@ -5,7 +5,7 @@
     station-site add-pool acme 020000030000 65536
     station-site add-issuer acme acme-2
     station-site apply                             what was prepared: stops, backs up, puts in place, starts, asks
-    station-site check FILE                        the line, the member and the cause of a site's or a map's faults
+    station-site check FILE                        where a site or a map is wrong, and why, by the program
     station-site diff OLD NEW                      what NEW adds, in words; 1 where something goes
 
 An `add` prepares: it writes the new text beside the site file, as site.next.toml, tests it, and stops nothing. It may
@@ -16,7 +16,7 @@ by the same words, or by `apply`; no token is lost or made twice.
 A new seat's inner token is in the tokens' file alone (station-token(8)). Its outer one is in a new file, SEAT.token of
 the folder `--to`, made once the server knows the seat; a seat `health`, or any with --no-token, gets none. With
 --other-site the site of each other store of the house is held against the new text. As root, with Python 3.11;
-what is of the store is done as its user. docs/how-to/grow-a-site.md has the steps.
+what is of the store is done as its user, and the program runs so. docs/how-to/grow-a-site.md has the steps.
 
 Statuses: 0 done; 1 refused, and nothing runs otherwise than before; 2 the words are wrong; 3 another run has the lock;
 4 the server doesn't start, and which text the store holds is told; 5 it runs with the new text, and a token doesn't go
@@ -33,15 +33,13 @@ from typing import Any
 
 from wanekupo.common.process import end_tool
 from wanekupo.plant.site.apply import Stopped, apply, say
-from wanekupo.plant.site.difference import given_of
-from wanekupo.plant.site.faults import NAME
 from wanekupo.plant.site.growth import with_customer, with_items
 from wanekupo.plant.site.place import Place, text_in
 from wanekupo.plant.site.plan import PREPARED, GrowthPlan, SeatWish, drop_plan, keep_plan, read_plan
 from wanekupo.plant.site.trials import checked, is_map, tested_growth, tested_others, tried_over_copy
-from wanekupo.common.store_user import ROOMS
-from wanekupo.common.token_file import HEALTH, TokenError, Tokens, alone, check_folder, put, read, tokens_of
-from wanekupo.common.site_file import digest_of
+from wanekupo.common.store_user import ROOMS, STOPS
+from wanekupo.common.token_file import HEALTH, NAME, TokenError, Tokens, alone, check_folder, put, read, tokens_of
+from wanekupo.common.site_file import SiteCustomer, digest_of, read_site
 
 NAMED = "station-site"
 
@@ -50,7 +48,7 @@ NAMED = "station-site"
 
 
 def named(name: str, what: str) -> str:
-    if not NAME.fullmatch(name):
+    if not re.fullmatch(NAME, name):
         raise TokenError(1, f"{name!r} is no name of a {what}: 1 to 32 of A-Z a-z 0-9 . _ -")
     return name
 
@@ -85,7 +83,7 @@ def seat_of(place: Place, customer: str, name: str, is_trial: bool) -> dict[str,
 
 def add_wishes(args: argparse.Namespace, place: Place, plan: GrowthPlan) -> None:
     """Which of the new seats get an outer token, and where: in a file that isn't there yet."""
-    there = given_of(text_in(place.site), str(place.site)).seat_names()
+    there = read_site(text_in(place.site), str(place.site)).seats()
     for seat in (it for it in args.seats if it not in there):
         file = Path(args.to).absolute() / f"{seat}.token"
         is_without = args.no_token or seat == HEALTH
@@ -98,11 +96,8 @@ def add_wishes(args: argparse.Namespace, place: Place, plan: GrowthPlan) -> None
         plan.add(SeatWish(seat, args.customer, "" if is_without else str(file), args.holder))
 
 
-def new_ones(text: str, title: str, customer: str, kind: str, items: list[Any]) -> list[Any]:
-    """Those that the text doesn't have yet of what is to be added."""
-    there = given_of(text, title).customers.get(customer)
-    if not there:
-        raise TokenError(1, f"{title} has no customer {customer}: add-customer makes one")
+def new_ones(there: SiteCustomer, kind: str, items: list[Any]) -> list[Any]:
+    """Those that a customer doesn't have yet of what is to be added."""
     if kind == "issuer":
         return [it for it in items if it not in there.issuers]
     if kind == "pool":
@@ -110,28 +105,24 @@ def new_ones(text: str, title: str, customer: str, kind: str, items: list[Any]) 
     return [it for it in items if it["name"] not in there.seats]
 
 
-def added(text: str, title: str, customer: str, kind: str, items: list[Any]) -> str:
-    """The text with what it doesn't have yet."""
-    items = new_ones(text, title, customer, kind, items)
-    return with_items(text, customer, kind, items, title) if items else text
-
-
 def grown_text(args: argparse.Namespace, place: Place, text: str, is_trial: bool) -> str:
     """The text with what the words of a command ask for. What it has already stays once."""
     customer, title = named(args.customer, "customer"), str(place.next if place.next.exists() else place.site)
     issuers = [named(it, "issuer") for it in args.issuers]
     pools = [pool_of(*it) for it in args.pools]
-    is_new = args.command == "add-customer" and customer not in given_of(text, title).customers
-    if not is_new and customer not in given_of(text, title).customers:
+    there = read_site(text, title).customers.get(customer)
+    if not there and args.command != "add-customer":
         raise TokenError(1, f"{place.site} has no customer {customer}: add-customer makes one")
-    there = given_of(text, title).seat_names()
-    seats = [seat_of(place, customer, it, is_trial) for it in args.seats if there.get(it) != customer]
-    if is_new:
+    seats = [seat_of(place, customer, it, is_trial) for it in args.seats if not there or it not in there.seats]
+    if not there:
         parts = {"pool": pools, "seat": seats}
-        made = {"name": customer, "issuer": issuers, **{kind: items for kind, items in parts.items() if items}}
+        made: dict[str, Any] = {"name": customer, "issuer": issuers}
+        made |= {kind: items for kind, items in parts.items() if items}
         return with_customer(text, made, title)
-    for kind, items in (("issuer", issuers), ("pool", pools), ("seat", seats)):
-        text = added(text, title, customer, kind, items)
+    kinds: dict[str, list[Any]] = {"issuer": issuers, "pool": pools, "seat": seats}
+    for kind, items in kinds.items():
+        if more := new_ones(there, kind, items):
+            text = with_items(text, customer, kind, more, title)
     return text
 
 
@@ -141,8 +132,6 @@ def grown_text(args: argparse.Namespace, place: Place, text: str, is_trial: bool
 def tested(place: Place, plan: GrowthPlan, text: str) -> list[str]:
     """What a new text adds, once it went through all tests but that over a backup."""
     old = text_in(place.site)
-    if not place.has_program():
-        raise TokenError(1, f"there is no program {place.program}, which tests the new text: --program P")
     gains = tested_growth(place, old, text, str(place.next))
     tested_others(place, text, plan.others)
     return gains
@@ -187,7 +176,7 @@ def look_again(args: argparse.Namespace, place: Place, plan: GrowthPlan) -> None
     gains = tested(place, plan, text)
     plan.is_tried, over = tried_over_copy(place, text_in(place.site), text)
     tell(place, plan, gains, over)
-    there = given_of(text, str(place.next)).seat_names()
+    there = read_site(text, str(place.next)).seats()
     plan.wishes = [it for it in plan.wishes if it.seat in there]
 
 
@@ -222,14 +211,12 @@ def apply_command(args: argparse.Namespace, place: Place) -> None:
 def check(args: argparse.Namespace, place: Place) -> None:
     """The faults of one file; what of a site is another store's too."""
     path = Path(args.file)
-    text = text_in(path)
-    as_map = is_map(text)
-    if lines := checked(place, path, as_map):
+    if lines := checked(place, path):
         raise TokenError(1, "\n".join(lines))
-    if args.other_site and not as_map:
+    text = text_in(path)
+    if args.other_site and not is_map(text):
         tested_others(place, text, args.other_site)
-    by = "the program" if place.has_program() else "this tool alone, as there is no program"
-    say(f"{path} is a {'fuse map' if as_map else 'site'}, says {by}")
+    say(f"{path} is a {'fuse map' if is_map(text) else 'site'}, says the program")
 
 
 def diff(args: argparse.Namespace, place: Place) -> None:
@@ -302,14 +289,8 @@ def parser() -> argparse.ArgumentParser:
     return made
 
 
-SIGNALS = (signal.SIGTERM, signal.SIGINT, signal.SIGHUP)
-
-
 def stopped(number: int, _: object) -> None:
-    """A signal ends a run as an error does; a second one does nothing, as the server may have to be started. It isn't
-    ignored, since what is started then would ignore it too."""
-    for other in SIGNALS:
-        signal.signal(other, lambda *_: None)
+    """A signal ends a run as an error does, and a second one what that waits for. The server is started then."""
     raise Stopped(number)
 
 
@@ -317,7 +298,7 @@ def main() -> int:
     args = parser().parse_args()
     if args.command == "add-pool":
         args.pools = [(args.first, args.count)]
-    for number in SIGNALS:
+    for number in STOPS:
         signal.signal(number, stopped)
     os.umask(0o077)
     return end_tool(NAMED, lambda: COMMANDS[args.command](args, Place(args)))

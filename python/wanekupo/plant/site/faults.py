@@ -1,7 +1,7 @@
 """A fault of a text: its number, which is the program's, the line, the member, and the cause in words.
 
-docs/reference/files.md has the numbers. The reader of a site and that of a map find faults here by its rules; which
-number a text has is the program's to say, and tests/plant/test_sites.py holds the readers to it.
+docs/reference/files.md has the numbers. Which one a text has is the program's to say, and where a site has it, too; of
+a map the program says the number alone.
 """
 
 import math
@@ -10,12 +10,10 @@ import tomllib
 from dataclasses import dataclass
 from typing import Any
 
+from wanekupo.common.site_file import MARK
 from wanekupo.plant.site.positions import DEEPEST, Path, Places, TooDeep, places_of
 
 NAME = re.compile(r"[A-Za-z0-9._-]{1,32}")
-DIGEST = re.compile(r"[0-9A-Fa-f]{64}")
-TOKEN = re.compile(r"(?:wanekupo_)?[0-9A-Fa-f]{64}")  # as station-token makes them; it may be in a wrong place
-ADDRESS = re.compile(r"[0-9a-f]{12}")
 LARGEST_WHOLE = 2**63 - 1
 TYPES = {str: "a text", bool: "true or false", int: "a whole number", float: "a number with a point", list: "an array",
          dict: "a table"}  # fmt: skip
@@ -30,9 +28,7 @@ class Fault:
 
 
 def shown(value: object) -> str:
-    """A value as it may be printed: short, no token, and without what would be a command to a terminal."""
-    if isinstance(value, str) and TOKEN.search(value):
-        return f"a text of {len(value)} letters, which may be a token and isn't shown,"
+    """A value as it may be printed: short, and without what would be a command to a terminal."""
     if isinstance(value, str):
         text = "".join(char if char.isprintable() else f"\\x{ord(char):02x}" for char in value)
         return f'"{text}"' if len(text) <= 80 else f'"{text[:77]}.." (of {len(value)} letters)'
@@ -83,7 +79,7 @@ class Reader:
         return False
 
     def whole(self, table: object, path: Path, least: int, greatest: int, is_needed: bool = True) -> int | None:
-        value = self.member(table, path, int, is_needed)
+        value: int | None = self.member(table, path, int, is_needed)
         if value is None or least <= value <= greatest:
             return value
         bounds = f"{least} to {greatest:,}" if greatest < LARGEST_WHOLE else f"{least} or more"
@@ -97,14 +93,13 @@ class Reader:
 def read(text: str) -> Reader | Fault:
     """The document of a text, or why it is no TOML to the program, whose numbers are bounded where tomllib's aren't.
     A mark of the order of bytes in front of a text is passed over."""
-    text = text.removeprefix("\ufeff")
     try:
-        document = tomllib.loads(text)
+        document = tomllib.loads(text.removeprefix(MARK))
         reader = Reader(document, places_of(text))
     except tomllib.TOMLDecodeError as error:
         return of_toml(text, str(error))
     except TooDeep as error:
-        return Fault(1, int(str(error)), "the text", f"it is nested more than {DEEPEST} times")
+        return Fault(1, error.line, "the text", f"it is nested more than {DEEPEST} times")
     except RecursionError:
         return Fault(1, 1, "the text", f"it is nested more than {DEEPEST} times")
     except ValueError:
@@ -121,10 +116,10 @@ def read(text: str) -> Reader | Fault:
 def of_toml(text: str, told: str) -> Fault:
     """What tomllib tells, with its line."""
     found = re.search(r"^(.*) \(at (?:line (\d+), column (\d+)|end of document)\)$", told, re.DOTALL)
-    told, line, column = found.groups() if found else (told, None, None)
+    said, line, column = (str(found[1]), found[2], found[3]) if found else (told, None, None)
     place = f" at column {column}" if column else ""
     last = text.count("\n") + (0 if text.endswith("\n") or not text else 1)
-    return Fault(1, int(line or max(last, 1)), "the text", f"it is no TOML 1.0{place}: {told[:1].lower()}{told[1:]}")
+    return Fault(1, int(line or max(last, 1)), "the text", f"it is no TOML 1.0{place}: {said[:1].lower()}{said[1:]}")
 
 
 def walked(value: object, path: Path) -> Any:

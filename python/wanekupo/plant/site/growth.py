@@ -9,12 +9,9 @@ import tomllib
 from collections.abc import Iterator
 from typing import Any
 
-from wanekupo.common.token_file import TokenError
-
-from wanekupo.plant.site.faults import Fault, read
-from wanekupo.plant.site.positions import Path, Places
-
-MARK = "\ufeff"  # of the order of bytes, which may stand in front of a text
+from wanekupo.common.site_file import MARK, digest_of, read_site
+from wanekupo.common.token_file import TokenError, TokenSeat
+from wanekupo.plant.site.positions import Path, Places, places_of
 
 
 def value_of(item: object) -> str:
@@ -40,16 +37,35 @@ def customer_lines(customer: dict[str, Any]) -> str:
     return head + "".join(tables_of(f"customer.{kind}", customer.get(kind, [])) for kind in ("pool", "seat"))
 
 
+def lines_of(seat: TokenSeat) -> str:
+    """What a site file says of a seat, or of the manager."""
+    digest = digest_of(seat.inner)
+    if seat.is_manager():
+        return f'[manager]\ntoken = "{digest}"\n'
+    return tables_of("customer.seat", [{"name": seat.seat, "token": digest}])
+
+
+def with_seat(text: str, seat: TokenSeat, title: str) -> str:
+    """The text with a seat more, or with a manager, where there was none."""
+    own = {"token": digest_of(seat.inner)}
+    if not seat.is_manager():
+        return with_items(text, seat.customer, "seat", [{"name": seat.seat, **own}], title)
+    document, _ = parsed(text, title)
+    return taken([ended(text) + lines_of(seat)], {"manager": own, **document}, title, lines_of(seat))
+
+
+def ended(text: str) -> str:
+    """A text behind which a line may stand."""
+    return text if text.endswith("\n") else text + "\n"
+
+
 def with_customer(text: str, customer: dict[str, Any], title: str) -> str:
     """The text with a customer more, at its end."""
-    if text.startswith(MARK):
-        return MARK + with_customer(text.removeprefix(MARK), customer, title)
     document, places = parsed(text, title)
     wanted = copy.deepcopy(document)
     wanted["customer"].append(customer)
     section = "\n" + customer_lines(customer)
-    plain = text if text.endswith("\n") else text + "\n"
-    tried = [plain + section]
+    tried = [ended(text) + section]
     if not document["customer"]:  # `customer = []`, which no header can add to, goes
         begin, end = places.begins[("customer",)], places.ends[("customer",)]
         tried.append((text[:begin] + text[end:].lstrip(" \t").removeprefix("\n")).rstrip("\n") + "\n" + section)
@@ -59,8 +75,6 @@ def with_customer(text: str, customer: dict[str, Any], title: str) -> str:
 
 def with_items(text: str, name: str, kind: str, items: list[Any], title: str) -> str:
     """The text with more issuers, seats or pools of a customer, behind those that are there."""
-    if text.startswith(MARK):
-        return MARK + with_items(text.removeprefix(MARK), name, kind, items, title)
     document, places = parsed(text, title)
     place = next((at for at, it in enumerate(document["customer"]) if it["name"] == name), None)
     if place is None:
@@ -78,10 +92,8 @@ def with_items(text: str, name: str, kind: str, items: list[Any], title: str) ->
 
 
 def parsed(text: str, title: str) -> tuple[dict[str, Any], Places]:
-    reader = read(text)
-    if isinstance(reader, Fault):
-        raise TokenError(1, f"{title}:{reader.line}: {reader.cause}")
-    return reader.document, reader.places
+    read_site(text, title)  # which tells what is none
+    return tomllib.loads(text.removeprefix(MARK)), places_of(text)
 
 
 def in_array(text: str, places: Places, path: Path, there: list[Any], items: list[Any]) -> Iterator[str]:
@@ -113,7 +125,7 @@ def taken(tried: list[str], wanted: dict[str, Any], title: str, lines: str) -> s
     """The first text that is the wanted site."""
     for text in tried:
         try:
-            if tomllib.loads(text) == wanted:
+            if tomllib.loads(text.removeprefix(MARK)) == wanted:
                 return text
         except tomllib.TOMLDecodeError:
             continue

@@ -129,7 +129,7 @@ def judge_lock_fields(reader: Reader, found: FuseMap) -> None:
         elif role != "coding" and "read" in field.locks:
             cause = f"{name} has `read` (line {reader.line((*field.path, 'read'))}), and a field of locks can't have it"
             reader.tell(6, (role,), cause)
-    named = [(name, (role,)) for role, name in found.roles.items()]
+    named: list[tuple[Any, Path]] = [(name, (role,)) for role, name in found.roles.items()]
     for name, path, first in doubles(named):
         reader.tell(6, path, f"{name} is `{first[0]}` already")
 
@@ -137,8 +137,8 @@ def judge_lock_fields(reader: Reader, found: FuseMap) -> None:
 def judge_locks(reader: Reader, found: FuseMap) -> None:
     for kind, role in (("write", "wr"), ("read", "rd")):
         lock = found.named(found.roles[role])
-        for field in found.fields if lock else []:
-            if field.locks.get(kind, 0) >= lock.count:
+        for field in found.fields:
+            if lock and field.locks.get(kind, 0) >= lock.count:
                 cause = f"bit {field.locks[kind]:,} isn't in {lock.name}, which has {lock.count}, numbered from 0"
                 reader.tell(7, (*field.path, kind), cause)
 

@@ -1,7 +1,7 @@
 """Where a store and its site are, and the programs that python/bin/station-site runs there.
 
-What is of the store is done as the store's user (store_user.py): whatever a file may bring a program to do is done as
-that user, and never as root (docs/decisions/0015-a-backup-is-the-store-users.md).
+The program runs as the store's user (store_user.py): whatever a file may bring a program to do is done as that user,
+and never as root (docs/decisions/0015-a-backup-is-the-store-users.md). It gets texts by descriptors, and no name.
 """
 
 import argparse
@@ -9,7 +9,6 @@ import re
 import shlex
 import shutil
 import subprocess
-import tempfile
 from collections.abc import Iterator
 from contextlib import AbstractContextManager, contextmanager
 from functools import cached_property
@@ -17,13 +16,13 @@ from pathlib import Path
 
 from wanekupo.plant.trial_copy import Backup, copy_files, copy_running, newest_backup
 from wanekupo.common.process import own_command
-from wanekupo.common.store_user import StoreFolder, StoreUser, room, shown
+from wanekupo.common.store_user import StoreFolder, StoreUser, read_small, readable, reader_for, room, shown
 from wanekupo.common.token_file import TokenError
 
 
 def text_in(path: Path) -> str:
-    """A text as it is, with its ends of lines."""
-    data = path.read_bytes()
+    """A text as it is, with its ends of lines: of a plain file, as another user may have put a pipe or a link there."""
+    data = read_small(path)
     try:
         return data.decode()
     except UnicodeDecodeError as error:
@@ -45,9 +44,6 @@ class Place:
     def token_words(self) -> list[str]:
         """The command station-token, for this site's tokens."""
         return [own_command("station-token"), "--file", str(self.tokens), *shlex.split(self.args.token_words)]
-
-    def has_program(self) -> bool:
-        return shutil.which(self.program) is not None
 
     @cached_property
     def store(self) -> StoreFolder:
@@ -71,11 +67,26 @@ class Place:
         done = self.ran(*shlex.split(command))
         return done.returncode == 0, (done.stderr or done.stdout).strip()
 
-    def replayed(self, site: Path, db: Path | None = None, user: StoreUser | None = None) -> str:
-        """What the program says of a site, or of a store with it; nothing where it takes them."""
-        words = [self.program, "replay", "--site", str(site), *(["--db", str(db), "--existing"] if db else [])]
-        done = user.run(*words) if user else self.ran(*words)
-        return "" if done.returncode == 0 else (shown(done.stderr).strip() or f"status {done.returncode}")
+    @cached_property
+    def reader(self) -> StoreUser:
+        """As whom the program reads a text. It need not be there."""
+        if not shutil.which(self.program):
+            raise TokenError(1, f"there is no program {self.program}, which says what a text is: --program P")
+        return reader_for(self.db)
+
+    def refusal(self, command: str, text: str, old: str | None = None) -> str:
+        """What `check-site`, from an old text where there is one, or `check-map` says of a text; nothing where the
+        program takes it."""
+        with readable(text) as new, readable(old or "") as before:
+            more = [] if old is None else ["--from", f"/proc/self/fd/{before}"]
+            words = [self.program, command, f"/proc/self/fd/{new}", *more]
+            return refused(self.reader.run(*words, fds=(new, before)))
+
+    def store_refusal(self, text: str, copy: Path) -> str:
+        """What the program says of a copy of the store under a text; nothing where it opens it."""
+        with readable(text) as site:
+            words = [self.program, "replay", "--site", f"/proc/self/fd/{site}", "--db", str(copy), "--existing"]
+            return refused(self.user.run(*words, fds=(site,)))
 
     def newest_backup(self) -> Backup | None:
         return newest_backup(self.user, self.backups)
@@ -99,13 +110,13 @@ class Place:
     def size(self) -> int:
         return self.store.size() + self.store.size("-wal")
 
-    def held_text(self, texts: list[Path]) -> str:
+    def held_text(self, texts: list[str]) -> str:
         """The text that the store holds, whose server is stopped. The program opens a copy first, by one of the texts:
         so it is a store and nothing else. sqlite3 reads another copy, in its safe mode."""
         with self.copied(self.db, self.size()) as opened:
-            refused = [self.replayed(text, opened, self.user) for text in texts]
-            if all(refused):
-                raise TokenError(4, f"the program opens no copy of {self.db}: {refused[0]}")
+            said = [self.store_refusal(text, opened) for text in texts]
+            if all(said):
+                raise TokenError(4, f"the program opens no copy of {self.db}: {said[0]}")
         with self.copied(self.db, self.size()) as copy:
             words = ("sqlite3", "-safe", "-readonly", str(copy), "SELECT hex(body) FROM site_text")
             done = self.user.run(*words)
@@ -114,10 +125,6 @@ class Place:
         return bytes.fromhex(done.stdout.strip()).decode()
 
 
-@contextmanager
-def written(text: str) -> Iterator[Path]:
-    """A text in a file for the program, which is gone at the end."""
-    with tempfile.TemporaryDirectory(prefix="station-site.") as folder:
-        path = Path(folder) / "site.toml"
-        path.write_bytes(text.encode())
-        yield path
+def refused(done: "subprocess.CompletedProcess[str]") -> str:
+    """Why the program refused what it was given; nothing where it took it."""
+    return "" if done.returncode == 0 else (shown(done.stderr).strip() or f"status {done.returncode}")

@@ -9,7 +9,7 @@ from dataclasses import asdict, dataclass, field
 from pathlib import Path
 
 from wanekupo.common.token_file import TokenError, put
-from wanekupo.common.whole_file import sync
+from wanekupo.common.files import sync
 
 # PREPARED: the new text lies beside the old one. STOPPING: the server is being stopped, and the old text is in place.
 # PLACED: the new text is in place, and the server is being started.

@@ -9,6 +9,9 @@ import tomllib
 from bisect import bisect
 from dataclasses import dataclass, field
 
+from wanekupo.common.errors import PlantError
+from wanekupo.common.site_file import MARK
+
 Path = tuple[str | int, ...]
 
 BLANK = re.compile(r"(?:[ \t\r\n]|#[^\n]*)*")
@@ -22,8 +25,12 @@ STRINGS = [
 ]
 
 
-class TooDeep(Exception):
-    """A value that the program reads no more, as it is nested too deeply; its line."""
+class TooDeep(PlantError):
+    """A value that the program reads no more, as it is nested too deeply."""
+
+    def __init__(self, line: int):
+        super().__init__(f"line {line} is nested more than {DEEPEST} times")
+        self.line = line
 
 
 @dataclass
@@ -46,7 +53,7 @@ class Scanner:
     """Follows a text from its beginning to its end."""
 
     def __init__(self, text: str):
-        self.text, self.at = text, 0
+        self.text, self.at = text, len(MARK) if text.startswith(MARK) else 0
         self.breaks = [found.start() for found in re.finditer("\n", text)]
         self.depth = 0
         self.counts: dict[Path, int] = {}

@@ -1,20 +1,20 @@
 """Tests of a new text before anything is stopped: as a site, as a growth, over a backup's copy, beside other stores.
 
-The program says what holds. What this tool reads itself names the line and the cause, and has to agree with it.
+The program says what holds, and where a site is wrong.
 """
 
 import re
 from pathlib import Path
 
 from wanekupo.plant.trial_copy import Backup
-from wanekupo.common.store_user import UserError, shown
+from wanekupo.common.site_file import Site, read_site
+from wanekupo.common.store_user import UserError
 from wanekupo.common.token_file import TokenError
 
-from wanekupo.plant.site.difference import Given, difference, given_of, joined, shared
-from wanekupo.plant.site.faults import Fault
+from wanekupo.plant.site.difference import gains, joined, shared
+from wanekupo.plant.site.faults import Fault, read
 from wanekupo.plant.site.map_faults import map_faults
-from wanekupo.plant.site.place import Place, text_in, written
-from wanekupo.plant.site.site_faults import site_faults
+from wanekupo.plant.site.place import Place, text_in
 
 CUSTOMERS = 64
 
@@ -32,57 +32,39 @@ def is_map(text: str) -> bool:
     return not is_site and bool(re.search(has_member % "wr|rd|coding|field|block", text, re.MULTILINE))
 
 
-def program_says(place: Place, path: Path, as_map: bool) -> str:
-    """What the program says of a text in a file; nothing where it takes it."""
-    if not as_map:
-        return place.replayed(path)
-    done = place.ran(place.program, "check-map", str(path))
-    return "" if done.returncode == 0 else (done.stderr.strip() or f"status {done.returncode}")
+def checked(place: Place, path: Path) -> list[str]:
+    """Why the program takes the text of a file for no site, or for no map, a line each, its own line last."""
+    text = text_in(path)
+    said = place.refusal("check-map" if is_map(text) else "check-site", text)
+    found = faults_behind(text, number_of(said)) if said else []
+    lines = [f"{path}:{it.line}: {it.member}: {it.cause} (fault {it.number})" for it in found]
+    return [*lines, f"{path}: {said}"] if said else []
 
 
-def checked(place: Place, path: Path, as_map: bool) -> list[str]:
-    """The causes for which a text is no site or no map, a line each; the number is the program's."""
-    faults = (map_faults if as_map else site_faults)(text_in(path))
-    lines = [f"{path}:{it.line}: {it.member}: {it.cause} (fault {it.number})" for it in faults]
-    if not place.has_program():
-        return lines
-    said = program_says(place, path, as_map)
-    number = number_of(said)
-    if number == (faults[0].number if faults else 0) and bool(said) == bool(faults):
-        return [*lines, said] if said else []
-    return [*disagreement(faults, said, path), *([said] if said else [])]
+def faults_behind(text: str, number: int) -> list[Fault]:
+    """The places behind a number of which the program names none: the line of what is no TOML, and a map's faults. Of
+    a map of TOML 1.1 it is the line alone that isn't 1.0."""
+    if is_map(text):
+        found = map_faults(text)
+        return found if found and found[0].number in (1, number) else []
+    no_toml = read(text) if number == 1 else None
+    return [no_toml] if isinstance(no_toml, Fault) else []
 
 
-def disagreement(faults: list[Fault], said: str, path: Path) -> list[str]:
-    """What is told where the program has another number than this reader, which then holds."""
-    if faults and faults[0].number == 1:
-        what = f"{path}:{faults[0].line}: this line is TOML 1.1, and this tool reads 1.0"
-        return [f"{what}, so it names no cause"] if said else []
-    return [f"{path}: this tool reads it otherwise than the program does, whose number holds: tell its makers"]
-
-
-def tested_site(place: Place, text: str, title: str) -> Given:
+def tested_site(place: Place, text: str, title: str) -> Site:
     """What a text gives, once the program takes it as a site."""
-    given = given_of(text, title)
-    with written(text) as path:
-        if said := place.replayed(path):
-            raise TokenError(1, f"{title}: {said}")
-    return given
+    if said := place.refusal("check-site", text):
+        raise TokenError(1, f"{title}: {said}")
+    return read_site(text, title)
 
 
 def tested_growth(place: Place, old: str, new: str, title: str) -> list[str]:
-    """What a text adds to another one, in words; an error where something goes, or where the program says it does. It
-    is tried over a new store that holds the old text."""
-    found = difference(given_of(old, "the text of before"), tested_site(place, new, title))
-    if found.losses:
-        raise TokenError(1, "\n".join([*found.losses, "nothing of a site can be taken away: " + title]))
-    with written(old) as before, written(new) as after:
-        db = before.with_name("books.db")
-        done = place.ran(place.program, "replay", "--site", str(before), "--db", str(db))
-        said = (done.stderr.strip() or f"status {done.returncode}") if done.returncode else place.replayed(after, db)
-    if said:
-        raise TokenError(1, f"{title}: the program doesn't take it as a growth: {said}")
-    return found.gains
+    """What a text adds to another one, in words; an error where the program says that it is no growth of that."""
+    before = tested_site(place, old, "the text of before")
+    if said := place.refusal("check-site", new, old):
+        told = "\nnothing of a site can be taken away" if "store fault 1" in said else ""
+        raise TokenError(1, f"{title}: {said}{told}")
+    return gains(before, read_site(new, title))
 
 
 def tried_over_copy(place: Place, old: str, new: str) -> tuple[bool, str]:
@@ -116,21 +98,16 @@ def tried_over_backup(place: Place, backup: Backup, old: str, new: str) -> None:
 def try_over(place: Place, copy: Path, old: str, new: str, what: str) -> None:
     """Opens a copy with the text of now and then with the new one; an error where the program refuses one."""
     for text, title in ((old, place.site), (new, place.next)):
-        site = copy.with_name("site.toml")
-        done = place.user.run("dd", "status=none", f"of={site}", given=text)
-        said = shown(done.stderr).strip() or place.replayed(site, copy, place.user)
-        if said:
+        if said := place.store_refusal(text, copy):
             raise TokenError(1, f"{title}: {what} refuses it: {said}")
 
 
 def tested_others(place: Place, new: str, others: list[str]) -> None:
     """Whether another store of the house shares something with the new text, which no program would see."""
-    given = given_of(new, str(place.next))
+    given = read_site(new, str(place.next))
     for name in others:
         other = tested_site(place, text_in(Path(name)), name)
         if found := shared(given, other):
             raise TokenError(1, "\n".join(f"{name} has it too: {it}" for it in found))
         if len(given.customers) + len(other.customers) <= CUSTOMERS:
-            with written(joined([given, other])) as path:
-                if said := place.replayed(path):
-                    raise TokenError(1, f"{name} and the new text, joined, are no site: {said}")
+            tested_site(place, joined([given, other]), f"{name} and the new text, joined")

@@ -11,7 +11,7 @@ from typing import Any, Callable, Iterable, Iterator, Mapping, Sequence
 
 from wanekupo.common.errors import BadJournal, Differs, OutOfStep, Refused
 from wanekupo.seat.journal import Asked, Record, merged, records_of, states_of
-from wanekupo.seat.rows import LONGEST_BODY, Rows, parts_of
+from wanekupo.seat.import_rows import LONGEST_BODY, Rows, import_parts
 from wanekupo.seat.station import Station
 from wanekupo.common.texts import brief
 
@@ -147,7 +147,7 @@ def _serials_again(station: Station, records: Mapping[tuple[str, str], Record], 
     by_issuer: dict[str, dict[str, Record]] = {}
     for (issuer, serial), record in records.items():
         by_issuer.setdefault(issuer, {})[serial] = record
-    parts = [(own, part) for own in by_issuer.values() for part in parts_of(_rows_of(own))]
+    parts = [(own, part) for own in by_issuer.values() for part in import_parts(_rows_of(own))]
     for own, part in parts:
         counts = _part_again(station, own, part)
         added, present = added + counts[0], present + counts[1]

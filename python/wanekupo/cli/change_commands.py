@@ -10,22 +10,29 @@ from pathlib import Path
 from typing import Any, Callable, Optional
 
 from wanekupo.chips.chip import bit, chip_of, rlock, value, wlock
-from wanekupo.seat.command import Command, text_of, words
+from wanekupo.seat.command_line import Command, file_text, required_words
 from wanekupo.seat.settings import Settings, looking_station_of, station_of
 from wanekupo.common.errors import BadKey, BadSettings, Refused, StationError
 from wanekupo.chips.espefuse import TOOLS, Espefuse, KeyFile, NoEspefuse, NoFuses, find_tool, typed_lines, wishes_of
 from wanekupo.chips.families import Blocks, dump_of, family_of, map_of_family, names
 from wanekupo.seat.forms import TIME
-from wanekupo.seat.keys import digest_of, keep_csr, public_key_of
-from wanekupo.common.printing import Progress, say, say_json, warn
+from wanekupo.seat.keys import key_digest, keep_csr, public_key_of
+from wanekupo.common.printing import Progress, print_shown, say_json, warn
 from wanekupo.seat.replies import identity_of
-from wanekupo.seat.rows import rows_of
+from wanekupo.seat.import_rows import rows_of
 from wanekupo.seat.station import WRONG_STATE, Station
 from wanekupo.common.texts import shown
 
 DONE, QUARANTINED = 0, 4
 
 Asked = Callable[[Station, argparse.Namespace], Any]
+
+
+def _last_reply(station: Station) -> dict[str, Any]:
+    """What the request before was answered."""
+    last = station.finish()
+    assert last, "a request was made"
+    return last.reply
 
 
 def asks(ask: Asked) -> Callable[[Settings, argparse.Namespace], int]:
@@ -39,9 +46,9 @@ def asks(ask: Asked) -> Callable[[Settings, argparse.Namespace], int]:
         with station_of(settings, **options) as station:
             answer = ask(station, args)
             if answer is None:
-                answer = station.finish().reply  # type: ignore[union-attr]
+                answer = _last_reply(station)
         if isinstance(answer, str):
-            say(answer)
+            print_shown(answer)
             return DONE
         say_json(answer)
         return QUARANTINED if answer.get("state") == "quarantined" else DONE
@@ -53,7 +60,7 @@ def asks(ask: Asked) -> Callable[[Settings, argparse.Namespace], int]:
 
 
 def _add_order(parser: argparse.ArgumentParser) -> None:
-    words("name", "issuer", "prefix")(parser)
+    required_words("name", "issuer", "prefix")(parser)
     for name in ("width", "first", "quantity"):
         parser.add_argument(f"--{name}", type=int, required=True, metavar="N")
     parser.add_argument("--macs", type=int, default=0, metavar="N", help="addresses for each serial number")
@@ -96,11 +103,11 @@ def make_order(station: Station, args: argparse.Namespace) -> None:
 def map_text_of(word: str) -> str:
     """The text of a map: of a file, of standard input, or of a map that comes with the program, by its name."""
     is_named = word != "-" and not Path(word).is_file()
-    return text_of(str((map_of_family(word) if is_named else None) or word))
+    return file_text(str((map_of_family(word) if is_named else None) or word))
 
 
 def import_rows(station: Station, args: argparse.Namespace) -> Any:
-    rows = rows_of(text_of(args.file))
+    rows = rows_of(file_text(args.file))
     with Progress("rows") as told:
         done, before = station.import_all(args.issuer, rows, told)
     return {"added": done.added, "before": before, "present": done.present}
@@ -128,7 +135,7 @@ def _add_keys(parser: argparse.ArgumentParser) -> None:
 
 
 def _add_plan(parser: argparse.ArgumentParser) -> None:
-    words("chip")(parser)
+    required_words("chip")(parser)
     for kind, form in (("bit", "FIELD=INDEX"), ("value", "FIELD=DIGITS")):
         parser.add_argument(f"--{kind}", action="append", default=[], type=pair, metavar=form)
     for kind in ("wlock", "rlock"):
@@ -143,7 +150,7 @@ def _add_family(parser: argparse.ArgumentParser) -> None:
 
 
 def _add_register(parser: argparse.ArgumentParser) -> None:
-    words("order", "map")(parser)
+    required_words("order", "map")(parser)
     said = "the file of what espefuse dumps, or - for standard input"
     parser.add_argument("dump", nargs="?", metavar="DUMP", help=said)
     parser.add_argument("--part", metavar="CHIP", help="in place of DUMP: a part without fuses, by its name")
@@ -151,12 +158,12 @@ def _add_register(parser: argparse.ArgumentParser) -> None:
 
 
 def _add_read_back(parser: argparse.ArgumentParser) -> None:
-    words("chip", "dump")(parser)
+    required_words("chip", "dump")(parser)
     _add_family(parser)
 
 
 def _add_burning(parser: argparse.ArgumentParser) -> None:
-    words("chip")(parser)
+    required_words("chip")(parser)
     _add_keys(parser)
     parser.add_argument("--tool", metavar="T", help="espefuse's command, with its port")
     _add_family(parser)
@@ -164,7 +171,7 @@ def _add_burning(parser: argparse.ArgumentParser) -> None:
 
 def _shown(args: argparse.Namespace) -> Blocks:
     """The blocks that the server is told, of the dump of a chip."""
-    return dump_of(family_of(args.family), text_of(args.dump)).told()
+    return dump_of(family_of(args.family), file_text(args.dump)).told()
 
 
 def _register(station: Station, args: argparse.Namespace) -> None:
@@ -202,7 +209,7 @@ def _burn(settings: Settings, args: argparse.Namespace) -> int:
     work = device.batch2 if device.state == "awaiting2" else device.batch1
     if device.state not in ("awaiting1", "awaiting2"):
         warn(f"The chip awaits no batch: it is {device.state}.")
-    say("".join(f"{line}\n" for line in typed_lines(tool, family_of(args.family), work, dict(args.key))))
+    print_shown("".join(f"{line}\n" for line in typed_lines(tool, family_of(args.family), work, dict(args.key))))
     return DONE
 
 
@@ -217,7 +224,7 @@ def _settle(station: Station, args: argparse.Namespace) -> Any:
 
 
 def _add_identity(parser: argparse.ArgumentParser) -> None:
-    words("chip")(parser)
+    required_words("chip")(parser)
     group = parser.add_mutually_exclusive_group()
     group.add_argument("--pem", metavar="FILE", help="the public key as PEM")
     group.add_argument("--der", metavar="FILE", help="the public key as DER (SubjectPublicKeyInfo)")
@@ -228,12 +235,12 @@ def identified(station: Station, chip: str, public_key: bytes) -> dict[str, Any]
     """The record of a device with this key: given now, or by an earlier call that was stopped behind it."""
     try:
         station.identify(chip, public_key)
-        return station.finish().reply  # type: ignore[union-attr]
+        return _last_reply(station)
     except Refused as refused:
         if refused.no != WRONG_STATE:
             raise
-        found = station.get("/v1/identity", chip=chip)
-        if identity_of(found).key_sha256 != digest_of(public_key):
+        found: dict[str, Any] = station.get("/v1/identity", chip=chip)
+        if identity_of(found).key_sha256 != key_digest(public_key):
             raise
         return found
 
@@ -276,7 +283,7 @@ def _add_number(parser: argparse.ArgumentParser) -> None:
     parser.add_argument("--resynchronize", action="store_true", help="forget what is under way, and go on")
 
 
-def number(station: Station, args: argparse.Namespace) -> Any:
+def show_number(station: Station, args: argparse.Namespace) -> Any:
     if args.resynchronize:
         station.resynchronize()
     else:
@@ -289,7 +296,7 @@ COMMANDS = [
     Command(
         "map",
         "import a fuse map, a file or by its name one that comes with the program, and show its digest",
-        words("file"),
+        required_words("file"),
         asks(lambda it, args: it.import_map(map_text_of(args.file)) and None),
     ),
     Command("register", "register a chip, by the file of a dump", _add_register, asks(_register)),
@@ -303,14 +310,14 @@ COMMANDS = [
     ),
     Command("settle", "burn and read back what a chip awaits", _add_burning, asks(_settle)),
     Command("identity", "show a device's record, or with a public key give it one", _add_identity, _identity),
-    Command("ship", "ship a device", words("chip"), asks(lambda it, args: it.ship(args.chip) and None)),
-    Command("scrap", "scrap a device", words("chip"), asks(lambda it, args: it.scrap(args.chip) and None)),
+    Command("ship", "ship a device", required_words("chip"), asks(lambda it, args: it.ship(args.chip) and None)),
+    Command("scrap", "scrap a device", required_words("chip"), asks(lambda it, args: it.scrap(args.chip) and None)),
     Command(
         "import",
         "import serial numbers, any number of rows, in parts of 500; again, it goes on",
-        words("issuer", "file"),
+        required_words("issuer", "file"),
         asks(import_rows),
     ),
     Command("finish", "send what is under way again, and show the last request's reply", lambda _: None, asks(finish)),
-    Command("number", "show the number that the server expects, and the station's own", _add_number, asks(number)),
+    Command("number", "show the number that the server expects, and the station's own", _add_number, asks(show_number)),
 ]

@@ -34,7 +34,7 @@ def rows_of(text: str) -> Rows:
     return [(serial, digest) for _, (serial, digest) in lines[1:]]
 
 
-def parts_of(rows: Iterable[tuple[str, str]]) -> Iterator[Rows]:
+def import_parts(rows: Iterable[tuple[str, str]]) -> Iterator[Rows]:
     """The rows in parts that an import takes, by their number and their length."""
     part: Rows = []
     length = 0

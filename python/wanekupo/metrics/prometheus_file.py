@@ -16,18 +16,19 @@ from functools import partial
 from pathlib import Path
 from typing import Any, Callable, Iterator, Optional
 
-from wanekupo.seat.command import Command, told
+from wanekupo.seat.command_line import Command, told_as_error
 from wanekupo.seat.settings import Settings, context_of, looking_station_of
 from wanekupo.common.errors import StationError
 from wanekupo.metrics.exposition import Samples
 from wanekupo.common.files import opened_own, replace_file
-from wanekupo.metrics.hours import shift_of
+from wanekupo.metrics.hours import shift_hours
 from wanekupo.metrics.journal_counts import add_journals
 from wanekupo.metrics.machine import add_backup, add_requests, add_server, add_store
-from wanekupo.common.printing import say, warn
+from wanekupo.common.printing import print_shown, warn
 from wanekupo.common.sentences import sentence_of
+from wanekupo.common.site_file import SiteFileError, read_site_file
 from wanekupo.seat.station import Station
-from wanekupo.metrics.stock import add_addresses, add_customer, add_orders, add_site, learn_blocks, pools_of, table_of
+from wanekupo.metrics.stock import add_addresses, add_customer, add_orders, add_site, learn_blocks, table_of
 
 # The file of the manager's token among those of customers, each of which is NAME.token.
 MANAGER, ENDING = "@manager", ".token"
@@ -150,13 +151,17 @@ class Run:
     def _addresses(self, samples: Samples, customer: str, token: Path) -> None:
         if customer not in self.reported:
             raise StationError("the orders aren't known, as there is no report", "Look at that part.")
-        pools = pools_of(self.args.site).get(customer)
-        if pools is None:
+        try:
+            found = read_site_file(self.args.site).customers.get(customer)
+        except SiteFileError as error:
+            raise StationError(str(error), "Name the file that the server runs with.") from error
+        if found is None:
             raise StationError(f"{self.args.site} has no customer {customer}", "Name the token's file by its customer.")
         blocks = self.kept.part("blocks").setdefault(customer, {})
         with self.station(token) as station:
             learn_blocks(station, self.reported[customer], blocks)
-        add_addresses(samples, customer, pools, [blocks[name] for name in self.reported[customer] if blocks[name]])
+        own = [blocks[name] for name in self.reported[customer] if blocks[name]]
+        add_addresses(samples, customer, found.pools, own)
 
     def _site(self, samples: Samples, token: Path) -> None:
         """The customers whose own reports there aren't."""
@@ -188,7 +193,7 @@ def _metrics(settings: Settings, args: argparse.Namespace) -> int:
     if args.to:
         replace_file(args.to, text, READABLE)
     else:
-        say(text)
+        print_shown(text)
     run.kept.write()
     return 0
 
@@ -210,7 +215,7 @@ def _add_metrics(parser: argparse.ArgumentParser) -> None:
     said = "which seats each folder of journals has"
     add("--folders", type=Path, default=Path("/etc/station/journals.toml"), metavar="FILE", help=said)
     said = "the plant's hours, as 'Mon-Fri 06:00-14:00'; may come again"
-    add("--shift", type=told(shift_of), action="append", metavar="HOURS", help=said)
+    add("--shift", type=told_as_error(shift_hours), action="append", metavar="HOURS", help=said)
     add("--orders", type=int, default=100, metavar="N", help="at most so many open orders of each customer")
 
 

@@ -116,7 +116,7 @@ def _count(listed: Sequence[Listed], counts: Counts) -> None:
             raise Miscounted(f"the chip {it.chip} of {it.order} is {it.state}, and its serial number is {it.serial}")
 
 
-def rows_of(stations: Sequence[Station], lot: Lot, wanted: Sequence[Listed]) -> Iterator[list[Row]]:
+def device_rows(stations: Sequence[Station], lot: Lot, wanted: Sequence[Listed]) -> Iterator[list[Row]]:
     """The rows of these devices of a lot, some at a time, over the connections of two stations."""
     first, second = stations
     with ThreadPoolExecutor(1) as beside:

@@ -27,7 +27,7 @@ class Command:
     more: str = ""
 
 
-def words(*names: str) -> Callable[[argparse.ArgumentParser], None]:
+def required_words(*names: str) -> Callable[[argparse.ArgumentParser], None]:
     """Adds words that have to be given, in this order."""
 
     def add_arguments(parser: argparse.ArgumentParser) -> None:
@@ -42,7 +42,7 @@ def chip_word(word: str) -> str:
     return word.replace(":", "").lower() if COLONS.fullmatch(word) else word
 
 
-def told(parse: Callable[[str], Any]) -> Callable[[str], Any]:
+def told_as_error(parse: Callable[[str], Any]) -> Callable[[str], Any]:
     """The same for a word of the command line, whose error is told as it stands."""
 
     def parsed(word: str) -> Any:
@@ -54,7 +54,7 @@ def told(parse: Callable[[str], Any]) -> Callable[[str], Any]:
     return parsed
 
 
-def text_of(file: str) -> str:
+def file_text(file: str) -> str:
     """The text of a file, or of standard input where the file is -."""
     try:
         return sys.stdin.read() if file == "-" else Path(file).read_text(encoding="utf-8")

@@ -5,16 +5,16 @@ from __future__ import annotations
 import argparse
 from typing import Any, Callable, Iterator, Sequence
 
-from wanekupo.seat.command import Command, chip_word, words
+from wanekupo.seat.command_line import Command, chip_word, required_words
 from wanekupo.seat.settings import Settings, looking_station_of
-from wanekupo.common.printing import Formulas, say, say_json, table_lines
+from wanekupo.common.printing import Formulas, print_shown, say_json, table_lines
 from wanekupo.seat.replies import Listed
 from wanekupo.common.texts import csv_rows
 
 DEVICES = ("chip", "order", "state", "reason", "serial")
 
 
-def shows(path: str, parameter: str) -> Callable[[Settings, argparse.Namespace], int]:
+def show_command(path: str, parameter: str) -> Callable[[Settings, argparse.Namespace], int]:
     """Shows what the server says of the one that the command's word names."""
 
     def run(settings: Settings, args: argparse.Namespace) -> int:
@@ -51,7 +51,7 @@ def _devices(settings: Settings, args: argparse.Namespace) -> int:
             if not args.json:
                 row = [field or "" for field in row]
                 formulas.warn_of(DEVICES, [row])
-            say(table_lines(DEVICES, [row], args.json))
+            print_shown(table_lines(DEVICES, [row], args.json))
     return 0
 
 
@@ -67,7 +67,7 @@ def _add_site_report(parser: argparse.ArgumentParser) -> None:
     parser.add_argument("--json", action="store_true", help="a line of JSON each, in place of values and commas")
 
 
-def counted(row: Sequence[str]) -> list[Any]:
+def counts_in_json(row: Sequence[str]) -> list[Any]:
     """A report's row for JSON: its name, and then counts."""
     return [*row[:1], *map(int, row[1:])]
 
@@ -79,19 +79,24 @@ def _report_of(path: str) -> Callable[[Settings, argparse.Namespace], int]:
         wanted = getattr(args, "order", None)
         rows = [row for row in rows if wanted in (None, row[0])]
         if args.json:
-            say(table_lines(names, map(counted, rows), True))
+            print_shown(table_lines(names, map(counts_in_json, rows), True))
         else:
             Formulas().warn_of(names, rows)
-            say(table_lines(names, [names, *rows], False))
+            print_shown(table_lines(names, [names, *rows], False))
         return 0
 
     return run
 
 
 COMMANDS = [
-    Command("order", "show an order", words("name"), shows("/v1/order", "name")),
-    Command("device", "show a device", words("chip"), shows("/v1/device", "chip")),
-    Command("ledger", "show a device's ledger: what was done with it", words("chip"), shows("/v1/ledger", "chip")),
+    Command("order", "show an order", required_words("name"), show_command("/v1/order", "name")),
+    Command("device", "show a device", required_words("chip"), show_command("/v1/device", "chip")),
+    Command(
+        "ledger",
+        "show a device's ledger: what was done with it",
+        required_words("chip"),
+        show_command("/v1/ledger", "chip"),
+    ),
     Command("devices", "list devices: chip, order, state, reason and serial number", _add_devices, _devices),
     Command("report", "show the customer's report: the counts of each order", _add_report, _report_of("/v1/report")),
     Command(

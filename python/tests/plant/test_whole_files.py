@@ -4,7 +4,7 @@ import os
 import stat
 
 import pytest
-from wanekupo.common.whole_file import held, make_file, opened_lock, put_whole
+from wanekupo.common.files import hold_lock, make_file, opened_shared_lock, replace_file
 
 
 def mode_of(path):
@@ -30,9 +30,9 @@ def test_a_text_comes_in_a_files_place(tmp_path):
     like.write_text("x")
     like.chmod(0o640)
     for text in ("one\n", "two\n", ""):
-        put_whole(path, text)
+        replace_file(path, text)
         assert path.read_text() == text and mode_of(path) == 0o600
-    put_whole(path, "three\n", like.stat())
+    replace_file(path, "three\n", like=like.stat())
     assert path.read_text() == "three\n" and mode_of(path) == 0o640
     assert sorted(it.name for it in tmp_path.iterdir()) == ["file", "like"]
 
@@ -41,7 +41,7 @@ def test_what_a_cut_run_left_is_no_trap(tmp_path):
     path, other = tmp_path / "file", tmp_path / "other"
     other.write_text("other\n")
     (tmp_path / "file.new").symlink_to(other)
-    put_whole(path, "text\n")
+    replace_file(path, "text\n")
     assert (path.read_text(), other.read_text(), path.is_symlink()) == ("text\n", "other\n", False)
 
 
@@ -59,7 +59,7 @@ def test_a_failure_leaves_the_file_of_before(tmp_path, monkeypatch, call):
 
     monkeypatch.setattr(os, call, fails)
     with pytest.raises(OSError, match="No space left"):
-        put_whole(path, "text\n")
+        replace_file(path, "text\n")
     assert path.read_text() == "before\n" and [it.name for it in tmp_path.iterdir()] == ["file"]
 
 
@@ -77,7 +77,7 @@ def test_the_file_and_its_folder_are_synced_in_order(tmp_path, monkeypatch):
 
     monkeypatch.setattr(os, "fsync", synced)
     monkeypatch.setattr(os, "replace", replaced)
-    put_whole(path, "text\n")
+    replace_file(path, "text\n")
     assert done == ["file", "name", "folder"]
 
 
@@ -87,13 +87,13 @@ class BusyError(Exception):
 
 def test_one_run_has_the_lock(tmp_path):
     lock = tmp_path / "lock"
-    with held(lock, BusyError("busy")):
-        with pytest.raises(BusyError), held(lock, BusyError("busy"), 0.1):
+    with hold_lock(lock, BusyError("busy")):
+        with pytest.raises(BusyError), hold_lock(lock, BusyError("busy"), 0.1):
             pass
-    with held(lock, BusyError("busy")):
+    with hold_lock(lock, BusyError("busy")):
         assert mode_of(lock) == 0o600
     (tmp_path / "link").symlink_to(lock)
-    with pytest.raises(OSError), held(tmp_path / "link", BusyError("busy")):
+    with pytest.raises(OSError), hold_lock(tmp_path / "link", BusyError("busy")):
         pass
 
 
@@ -104,9 +104,9 @@ def test_a_lock_is_a_plain_file(tmp_path):
     (tmp_path / "link").symlink_to(tmp_path / "elsewhere")
     for name in ("pipe", "folder", "link"):
         with pytest.raises(OSError):
-            opened_lock(tmp_path / name)
+            opened_shared_lock(tmp_path / name)
     with pytest.raises(FileNotFoundError):
-        opened_lock(tmp_path / "none", is_made=False)
-    os.close(opened_lock(tmp_path / "lock"))
-    os.close(opened_lock(tmp_path / "lock", is_made=False))
+        opened_shared_lock(tmp_path / "none", is_made=False)
+    os.close(opened_shared_lock(tmp_path / "lock"))
+    os.close(opened_shared_lock(tmp_path / "lock", is_made=False))
     assert {it.name for it in tmp_path.iterdir()} == {"pipe", "folder", "link", "lock"}

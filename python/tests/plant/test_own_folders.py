@@ -1,0 +1,66 @@
+"""Folders in which nobody else puts a file or another folder, and bytes that are signed where nobody replaces them."""
+
+import os
+import subprocess
+from pathlib import Path
+
+import pytest
+
+from wanekupo.common import files
+from wanekupo.common.errors import UnsafeFile
+from wanekupo.common.signing import BadSignature, Signer, verify
+
+
+def _folder(above: Path, mode: int) -> Path:
+    """A private folder in one of this mode."""
+    own = above / "shared" / "own"
+    own.mkdir(parents=True)
+    own.chmod(0o700)
+    own.parent.chmod(mode)
+    return own
+
+
+@pytest.mark.parametrize("mode", [0o755, 0o700, 0o1777])
+def test_folder_in_whose_place_nobody_puts_another(tmp_path: Path, mode: int) -> None:
+    files.tested_folder(_folder(tmp_path, mode))
+
+
+def test_folder_in_one_that_all_write(tmp_path: Path) -> None:
+    own = _folder(tmp_path, 0o777)
+    with pytest.raises(UnsafeFile, match=f"others can write {own.parent}, and put another folder in the place of"):
+        files.tested_folder(own)
+
+
+def test_folder_in_one_that_a_group_writes(tmp_path: Path, monkeypatch: pytest.MonkeyPatch) -> None:
+    """A user's own group is himself; one of another name isn't."""
+    own = _folder(tmp_path, 0o775)
+    group, user = "wanekupo.common.files.grp.getgrgid", "wanekupo.common.files.pwd.getpwuid"
+    monkeypatch.setattr(user, lambda _: type("", (), {"pw_gid": 7, "pw_name": "mara"}))
+    monkeypatch.setattr(group, lambda _: type("", (), {"gr_gid": 7, "gr_name": "mara", "gr_mem": ["mara"]}))
+    files.tested_folder(own)
+    for name, members in (("staff", []), ("mara", ["mara", "otto"])):
+        other = type("", (), {"gr_gid": 7, "gr_name": name, "gr_mem": members})
+        monkeypatch.setattr(group, lambda _, it=other: it)
+        with pytest.raises(UnsafeFile, match="others can write"):
+            files.tested_folder(own)
+
+
+def test_folder_of_another_user_above(tmp_path: Path, monkeypatch: pytest.MonkeyPatch) -> None:
+    own = _folder(tmp_path, 0o755)
+    found, stat = os.stat(own.parent), os.stat
+    other = os.stat_result([*found[:4], found.st_uid + 4711, *found[5:10]])
+    monkeypatch.setattr(os, "stat", lambda it, **words: other if Path(it) == own.parent else stat(it, **words))
+    with pytest.raises(UnsafeFile, match="others can write"):
+        files.tested_folder(own)
+
+
+def test_what_is_signed_is_not_what_another_put_there(tmp_path: Path) -> None:
+    words = "req -x509 -newkey ec -pkeyopt ec_paramgen_curve:prime256v1 -nodes -subj /CN=plant -days 1 -keyout key.pem -out cert.pem"
+    subprocess.run(["openssl", *words.split()], cwd=tmp_path, check=True, capture_output=True)
+    signer, file = Signer(cms=tmp_path / "cert.pem", cms_key=str(tmp_path / "key.pem")), tmp_path / "o1.csv"
+    file.write_bytes(b"serial\nFORGED\n")
+    signer.sign(file, b"serial\nA1\n")
+    with pytest.raises(BadSignature):
+        verify(file, cms=tmp_path / "cert.pem")
+    file.write_bytes(b"serial\nA1\n")
+    verify(file, cms=tmp_path / "cert.pem")
