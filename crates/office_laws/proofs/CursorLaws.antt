@@ -227,5 +227,6 @@ module _ {owners : Ownership} {t : Tables} (sound : IsSound owners t) (c name : 
             (found_same t.orders (with_row order_cmp (moved n o) t.orders) orders_same customer
             called) (grows.orders customer called);
         given = grows.given;
+        entries = grows.entries;
       } in
       subst (Grows before) (sym placed_there) kept

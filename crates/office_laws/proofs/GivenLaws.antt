@@ -115,6 +115,7 @@ given_grows before t g new grows = record {
   orders = grows.orders;
   given = λ issuer serial. by issuer serial (given_at issuer serial before)
       (grows.given issuer serial);
+  entries = grows.entries;
 }
   where
     by : (issuer serial : List ℕ) (found : Option (OfCustomer Given))

@@ -19,7 +19,7 @@ use Rattle.office_laws.proofs.Growing.{device_grows}
 use Rattle.office_laws.proofs.Lasting.{Lasts, lasts_named}
 use Rattle.office_laws.proofs.Looking.{gave, puts_of}
 use Rattle.office_laws.proofs.Registration.{found_is_map, registered_kept}
-use Rattle.office_laws.proofs.StepKept.{entry_made, step_made}
+use Rattle.office_laws.proofs.StepKept.{entry_made, numbers_below, step_made}
 
 -- what nothing refuses of a read-back fits the map
 fits_from : (m : Map) (blocks : List (List ℕ)) → NoneHolds (readback_refusals blocks m)
@@ -73,5 +73,5 @@ module _ {owners : Ownership} {t : Tables} (sound : IsSound owners t) (s : Secti
           ledger = new_ledger sound s.name seat step id new kept;
         });
         grows = device_grows t (its s step.device) (λ old there. cc (new, there))
-            (entry_made s seat t step) id;
+            (entry_made s seat t step) id (numbers_below s t step.device.chip);
       })

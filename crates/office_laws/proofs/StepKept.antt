@@ -1,8 +1,9 @@
 -- A step of a device keeps the tables sound, and forgets nothing that was burnt.
 use Rattle.std.proofs.Common.{◌≡◌, ◌+◌, ◌∙◌, ◌++◌, ℕ, List, [], ◌∷◌, Option, Some, None, refl, sym, ap, subst, bytes_eq, option_and_then, option_map}
+use Rattle.std.specs.List.{AllByRecursion}
 use Rattle.std.proofs.lemmas.Bool.{and_parts}
 use Rattle.text_core.specs.Prelude.{first_that_holds}
-use Rattle.text_core.proofs.Kit.{same_text}
+use Rattle.text_core.proofs.Kit.{arith, same_text}
 use Rattle.fusemap_core.specs.Prelude.{Map}
 use Rattle.site_core.specs.Prelude.{IsSection, Ownership, Section}
 use Rattle.office_laws.proofs.Types.{Device, Entry, NewEntry, OfCustomer, Action, DeviceStep}
@@ -13,6 +14,7 @@ use Rattle.office_rules.specs.Prelude.{office_sight, Sight, device_in_sight, map
 use Rattle.office_rules.proofs.Sights.{entry_same, map_same}
 use Rattle.office_laws.specs.Prelude.{DeviceStays, IsSound, FitsFuseMap, IsReferred, SerialIsOfIdentified}
 use Rattle.office_laws.proofs.Actions.{action_keeps}
+use Rattle.office_laws.proofs.Appended.{IsAbove, all_below}
 use Rattle.office_laws.proofs.DeviceLaws.{next_ledger, step_sound}
 use Rattle.office_laws.proofs.Growing.{device_grows, stays_known}
 use Rattle.office_laws.proofs.Lasting.{Lasts, lasts_named}
@@ -20,6 +22,11 @@ use Rattle.office_laws.proofs.Looking.{device_seen, gave, puts_of}
 use Rattle.office_laws.proofs.Readings.{find_holds}
 use Rattle.office_laws.proofs.Registration.{found_is_map}
 use Rattle.office_laws.proofs.Keeping.{Keeps}
+
+-- the number of a device's next entry is above those that its ledger has
+pub numbers_below : (s : Section) (t : Tables) (chip : List ℕ)
+    → AllByRecursion (IsAbove s.name chip (last_number s.name chip t + 1)) t.ledger
+numbers_below s t chip = all_below s.name chip t.ledger (last_number s.name chip t + 1) (omega arith)
 
 module _ (s : Section) (seat : List ℕ) (t : Tables) where
   -- the entry of a step, and the tables with both
@@ -86,7 +93,7 @@ module _ {owners : Ownership} {t : Tables} (sound : IsSound owners t) (s : Secti
             stays_known (map_named s.name old.row.map t) m old.row step.device known keeps.order
             keeps.map keeps.burnt in
             subst (λ (o : OfCustomer Device). DeviceStays (map_named s.name o.row.map t) o.row step.device)
-            same by_map) (entry_made s seat t step) id;
+            same by_map) (entry_made s seat t step) id (numbers_below s t step.device.chip);
       }
 
   -- an action of a device, where nothing refuses it
