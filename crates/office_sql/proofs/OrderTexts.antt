@@ -96,8 +96,8 @@ claims_shown customer db office rows s =
     λ r e. and-true _ ∙ text_is (column r 1) customer e.0 in
     shows_parts as_orders (is_of customer) own_test params passed claim_shown claim_in (λ o. claim_of o.row) (λ r. refl) (λ a b. refl)
     (rows_in db.trees orders) rows (office.rows orders) s
-    ∙ parts_kept as_orders (is_of customer) own_test params passed (λ o. claim_of o.row) (with_order_not_before (rows_in db.trees order_starts)) (λ o. refl) (λ o. refl)
-    (in_order as_orders (rows_in db.trees orders))
+    ∙ parts_kept as_orders (is_of customer) own_test params passed (λ o. claim_of o.row)
+    (with_order_not_before (rows_in db.trees order_starts)) (λ o. refl) (λ o. refl) (in_order as_orders (rows_in db.trees orders))
 
 -- orders have one key where their customers and their names are equal
 pub order_tied : (x y : OfCustomer Order) → is_eq (order_cmp x y) ≡ is_order x.customer x.row.name y
