@@ -1,7 +1,7 @@
 use Rattle.std.proofs.Common.{◌≡◌, ◌+◌}
 use Rattle.memory_keeper.specs.Prelude.{count_of_order}
 use Rattle.memory_keeper.proofs.Counted.{one_added, counted_kept, place, placed_number}
-use Rattle.memory_keeper.proofs.devices.PlaceCounts.add.Goals as goal
+use Rattle.memory_keeper.proofs.devices.TakenPlaces.add.Goals as goal
 
 pub returns-clause-ok : goal.returns-clause-ok
 returns-clause-ok c = λ customer order.

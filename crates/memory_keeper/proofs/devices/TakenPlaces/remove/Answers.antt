@@ -2,7 +2,7 @@ use Rattle.std.proofs.Common.{◌≡◌, ◌-◌, Some, refl, sym}
 use Rattle.std.specs.BTreeMap.{get}
 use Rattle.memory_keeper.specs.Prelude.{count_of_order, text_pair_cmp}
 use Rattle.memory_keeper.proofs.Counted.{one_less, counted_kept}
-use Rattle.memory_keeper.proofs.devices.PlaceCounts.remove.Goals as goal
+use Rattle.memory_keeper.proofs.devices.TakenPlaces.remove.Goals as goal
 
 pub returns-in-Some-clause-less : goal.returns-in-Some-clause-less
 returns-in-Some-clause-less c = λ customer order.

@@ -2,7 +2,7 @@ use Rattle.std.proofs.Common.{◌≡◌, ◌+◌, Some, refl, sym}
 use Rattle.std.specs.BTreeMap.{get}
 use Rattle.memory_keeper.specs.Prelude.{count_of_order, text_pair_cmp}
 use Rattle.memory_keeper.proofs.Counted.{one_more, counted_kept}
-use Rattle.memory_keeper.proofs.devices.PlaceCounts.add_again.Goals as goal
+use Rattle.memory_keeper.proofs.devices.TakenPlaces.add_again.Goals as goal
 
 pub returns-in-Some-clause-more : goal.returns-in-Some-clause-more
 returns-in-Some-clause-more c = λ customer order.
