@@ -3,6 +3,7 @@ use std::alloc::Global;
 use std::test::Fail;
 use test_fixtures::conversations::beginnings::BEGINNINGS;
 use test_fixtures::conversations::devices::DEVICES;
+use test_fixtures::conversations::edges::EDGES;
 use test_fixtures::conversations::identities::IDENTITIES;
 use test_fixtures::conversations::maps::MAPS;
 use test_fixtures::conversations::orders::ORDERS;
@@ -80,6 +81,13 @@ fn identities_and_imports_get_their_replies(rt: HostRuntime) -> Result<(), Fail>
 #[test]
 fn reports_get_their_replies(rt: HostRuntime) -> Result<(), Fail> {
     let found = first_of_each(rt.alloc(), REPORTS)?;
+    assert_eq!(rt; found.as_str(), "");
+    Ok(())
+}
+
+#[test]
+fn edges_get_their_replies(rt: HostRuntime) -> Result<(), Fail> {
+    let found = first_of_each(rt.alloc(), EDGES)?;
     assert_eq!(rt; found.as_str(), "");
     Ok(())
 }

@@ -20,6 +20,8 @@ mod limits;
 #[cfg(test)]
 mod parts;
 #[cfg(test)]
+mod products;
+#[cfg(test)]
 mod seats;
 #[cfg(test)]
 mod sizes;

@@ -17,7 +17,7 @@ use test_support::lists::first_difference_in_list;
 use text_core::{Chip, Name, Serial};
 
 /// A site in which acme has one pool, as large as a pool may be.
-const SITE_WITH_ROOM: &str = r#"[[customer]]
+pub const SITE_WITH_ROOM: &str = r#"[[customer]]
 name = "acme"
 issuer = ["acme-ca"]
 [[customer.pool]]
@@ -128,6 +128,15 @@ a1 GET /v1/devices?after=000000000597
   {"chip":"000000000599","order":"o1","reason":null,"serial":null,"state":"registered"}],"next":null}
 "#;
 
+/// What stands between the devices of the first and the second page, and of the second and the third.
+const SECOND_PAGE: &str = r#"],"next":"000000001498"}
+a1 GET /v1/devices?after=000000001498
+200 {"devices":["#;
+
+const THIRD_PAGE: &str = r#"],"next":"000000001998"}
+a1 GET /v1/devices?after=000000001998
+200 {"devices":["#;
+
 /// What an import of acme's begins with; `#` stands for its number.
 const IMPORT: &str =
     "a1 POST /v1/import {\"nr\":#,\"issuer\":\"acme-ca\",\"csv\":\"serial,key_sha256\\n";
@@ -222,7 +231,8 @@ a1 POST /v1/identity {"nr":5,"chip":"00000000000a","public_key":"616263"}
   "mac":"020000000000","not_after":"99991231235959Z","not_before":null,"serial":"A10000"}
 "#;
 
-/// Behind 20,001 records more, which are of none of its numbers: what the books show, and the next record.
+/// Behind 66,001 records more, which are of none of its numbers: what the books show, and the next
+/// record.
 const NEXT_RECORD: &str = r#"
 a1 GET /v1/report
 csv order,quantity,registered,planned,settled,identified,shipped,quarantined,scrapped,serials_left|
@@ -323,9 +333,11 @@ pub enum Rows {
     Devices,
     /// 499 devices behind the first: a page that is exactly full.
     Page,
+    /// 1,000 devices behind the first: two pages and a device.
+    Pages,
     /// 10,000 entries of a chip, by as many requests.
     Entries,
-    /// 20,001 records with addresses.
+    /// 66,001 records with addresses.
     Records,
 }
 
@@ -406,13 +418,14 @@ fn add_devices<K: Keep>(alloc: Global, keep: &mut K) -> Result<(), Fail> {
     Ok(())
 }
 
-/// Puts 499 devices beside the first, whose chips come behind it.
-fn add_page<K: Keep>(alloc: Global, keep: &mut K) -> Result<(), Fail> {
+/// Puts devices beside the first, whose chips come behind it: one for each number up to `end`,
+/// without it.
+fn add_behind<K: Keep>(alloc: Global, keep: &mut K, first: u64, end: u64) -> Result<(), Fail> {
     let customer = Name::parse("acme").ok_or("no name")?;
     let chip = Chip::parse("00000000000a").ok_or("no chip")?;
-    let first = keep.device(&customer, &chip)?.ok_or("no device")?;
-    for number in 100..599 {
-        add_device(alloc, keep, &first, number)?;
+    let device = keep.device(&customer, &chip)?.ok_or("no device")?;
+    for number in first..end {
+        add_device(alloc, keep, &device, number)?;
     }
     Ok(())
 }
@@ -454,11 +467,11 @@ fn add_record<K: Keep>(
     Ok(keep.commit(&[Write::AddGiven(record)])?)
 }
 
-/// Puts 20,001 records beside the first.
+/// Puts 66,001 records beside the first.
 fn add_records<K: Keep>(alloc: Global, keep: &mut K) -> Result<(), Fail> {
     let issuer = Name::parse("acme-ca").ok_or("no name")?;
     let first = keep.given(&issuer, "A10000")?.ok_or("no record")?;
-    for number in 10_000..30_001 {
+    for number in 10_000..76_001 {
         add_record(alloc, keep, &first, number)?;
     }
     Ok(())
@@ -471,7 +484,8 @@ impl Rows {
             Rows::None => Ok(()),
             Rows::Orders => add_orders(alloc, keep),
             Rows::Devices => add_devices(alloc, keep),
-            Rows::Page => add_page(alloc, keep),
+            Rows::Page => add_behind(alloc, keep, 100, 599),
+            Rows::Pages => add_behind(alloc, keep, 1_000, 2_000),
             Rows::Entries => add_entries(alloc, keep),
             Rows::Records => add_records(alloc, keep),
         }
@@ -516,6 +530,25 @@ fn full_pages(alloc: Global) -> Result<String, AllocError> {
     format!(in alloc;
         "{FIRST_PAGE}{LISTED_FIRST}{listed}],\"next\":null}}\n{ONE_MORE}{FIRST_PAGE}{LISTED_FIRST}{listed}],\"next\":\"000000000598\"}}\n{NEXT_PAGE}"
     )
+}
+
+/// The devices of numbers of four digits, as a page lists them.
+fn listed(alloc: Global, first: u64, end: u64) -> Result<String, AllocError> {
+    let listed = LISTED.replace(alloc, "000000000#", "00000000#")?;
+    let all = numbered(alloc, listed.as_str(), "#", first, end)?;
+    String::from_str(alloc, all.as_str().strip_prefix(",").unwrap_or(""))
+}
+
+/// Three pages of 1,001 devices: the first with 499 behind it, 500, and the last.
+fn three_pages(alloc: Global) -> Result<String, AllocError> {
+    let mut pages = format!(in alloc; "{FIRST_PAGE}{LISTED_FIRST},")?;
+    pages.push_str(listed(alloc, 1000, 1499)?.as_str())?;
+    pages.push_str(SECOND_PAGE)?;
+    pages.push_str(listed(alloc, 1499, 1999)?.as_str())?;
+    pages.push_str(THIRD_PAGE)?;
+    pages.push_str(listed(alloc, 1999, 2000)?.as_str())?;
+    pages.push_str("],\"next\":null}\n")?;
+    Ok(pages)
 }
 
 /// All but the last of 10,000 numbers, imported in parts of up to 500.
@@ -601,6 +634,19 @@ fn a_full_page_tells_of_more_where_there_are_more(rt: HostRuntime) -> Result<(),
 }
 
 #[test]
+fn pages_go_on_behind_the_second(rt: HostRuntime) -> Result<(), Fail> {
+    let rest = three_pages(rt.alloc())?;
+    let limit = Limit {
+        site: SITE,
+        first: FIRST_DEVICE,
+        rows: Rows::Pages,
+        rest: rest.as_str(),
+    };
+    assert_eq!(rt; over_each(rt.alloc(), &limit)?.as_str(), "");
+    Ok(())
+}
+
+#[test]
 fn the_last_of_ten_thousand_numbers_is_found(rt: HostRuntime) -> Result<(), Fail> {
     let first = all_but_one_imported(rt.alloc())?;
     let limit = Limit {
@@ -628,7 +674,7 @@ fn ledgers_go_on_behind_ten_thousand_entries(rt: HostRuntime) -> Result<(), Fail
 
 /// A store of so many records is opened again, and reported.
 #[test]
-fn records_with_addresses_may_be_twenty_thousand(rt: HostRuntime) -> Result<(), Fail> {
+fn records_with_addresses_may_be_sixty_six_thousand(rt: HostRuntime) -> Result<(), Fail> {
     let limit = Limit {
         site: SITE_WITH_ROOM,
         first: FIRST_RECORD,

@@ -52,8 +52,22 @@ a1 POST /v1/order {"nr":1,"name":"o1","issuer":"acme-ca","prefix":"A","width":3,
   "prefix":"A","quantity":2,"width":3}
 "#;
 
-/// The number before the greatest.
-const NEXT_TO_GREATEST: u64 = 9_007_199_254_740_990;
+/// Numbers of a seat's last request, each with what is said behind it: up to 2^20, and to 2^53.
+const LAST_NUMBERS: &[(u64, &str)] = &[(1_048_575, LARGE), (9_007_199_254_740_990, GREATEST)];
+
+/// The number 2^20 and the next.
+const LARGE: &str = r#"
+a1 POST /v1/order {"nr":1048575,"name":"o1","issuer":"acme-ca","prefix":"A","width":3,"first":998,"quantity":2,"macs":0}
+409 {"error":"other_body","no":12}
+a1 POST /v1/order {"nr":1048576,"name":"o1","issuer":"acme-ca","prefix":"A","width":3,"first":998,"quantity":2,"macs":0}
+200 {"first":998,"issuer":"acme-ca","mac":null,"macs":0,"name":"o1","next":"A998","not_before":null,
+  "prefix":"A","quantity":2,"width":3}
+a1 POST /v1/order {"nr":1048576,"name":"o1","issuer":"acme-ca","prefix":"A","width":3,"first":998,"quantity":2,"macs":0}
+200 {"first":998,"issuer":"acme-ca","mac":null,"macs":0,"name":"o1","next":"A998","not_before":null,
+  "prefix":"A","quantity":2,"width":3}
+a1 POST /v1/map {"nr":1048577,"text":"$MAP"}
+200 {"map":"$DIGEST"}
+"#;
 
 /// The greatest number, after which no other is accepted.
 const GREATEST: &str = r#"
@@ -86,20 +100,24 @@ fn digest_after<K: Keep>(alloc: Global, keep: &mut K, conversation: &str) -> Res
     Ok(row.row.digest.to_string(alloc)?)
 }
 
-/// Holds the conversation about the greatest number over tables in which it is the seat's next: what
-/// differs first.
-fn first_after_greatest<K: Keep>(alloc: Global, keep: &mut K) -> Result<String, Fail> {
+/// Holds a conversation over tables in which a seat's last number is another one: what differs first.
+fn first_after<K: Keep>(
+    alloc: Global,
+    keep: &mut K,
+    last: u64,
+    conversation: &str,
+) -> Result<String, Fail> {
     let seat = OfCustomer {
         customer: Name::parse("acme").ok_or("no name")?,
         row: SeatState {
             name: Name::parse("a1").ok_or("no name")?,
-            last: NEXT_TO_GREATEST,
+            last,
             digest: Digest::of(b"none"),
             reply: Text::copy_of(alloc, "{}")?,
         },
     };
     keep.commit(&[Write::PutSeat(seat)])?;
-    first_difference(alloc, keep, GREATEST)
+    first_difference(alloc, keep, conversation)
 }
 
 /// What stands in the rows of seats, and what rows that were put there lead to, each over a keeper
@@ -120,14 +138,20 @@ impl KeeperCase for Rows {
         if !found.is_empty() {
             return Ok(found);
         }
-        let mut keep = K::fresh(alloc)?;
-        first_after_greatest(alloc, &mut keep)
+        for row in LAST_NUMBERS {
+            let mut keep = K::fresh(alloc)?;
+            let found = first_after(alloc, &mut keep, row.0, row.1)?;
+            if !found.is_empty() {
+                return Ok(found);
+            }
+        }
+        Ok(String::new(alloc))
     }
 }
 
 /// Digests of requests as they are kept. And tables that no server makes: those in which `acme` has the
 /// digest of the sample for another map's text, where `acme` is refused and `bolt` gets the usual
-/// reply, and those in which a seat's next number is the greatest.
+/// reply, and those in which a seat's next number is 2^20, or the greatest.
 #[test]
 fn rows_are_kept_and_found_as_they_must(rt: HostRuntime) -> Result<(), Fail> {
     assert_eq!(rt; over_each(rt.alloc(), &Rows)?.as_str(), "");

@@ -1,6 +1,7 @@
-//! What is served of large sites and texts: a map with as many fields as a map may have, a site with as many
-//! customers, and an import of as many rows, as long as a body may be.
-use crate::limits::{Limit, Rows};
+//! What is served of large sites and texts: a map with as many fields as a map may have, a site
+//! with as many customers, and an import of as many rows, as long as a body may be. And of a site
+//! without customers.
+use crate::limits::{Limit, Rows, SITE_WITH_ROOM};
 use std::alloc::{AllocError, Global};
 use std::test::Fail;
 use test_fixtures::numbered::numbered;
@@ -62,6 +63,51 @@ csv customer,orders,quantity,registered,planned,settled,identified,shipped,quara
   $LINES
 "#;
 
+/// A site of a manager alone.
+const SITE_WITHOUT_CUSTOMERS: &str = r#"customer = []
+[manager]
+token = "9f86d081884c7d659a2feaa0c55ad015a3bf4f1b2b0b822cd15d6c15b0f00a08"
+"#;
+
+/// Its report, and that nobody else is known.
+const OF_NO_CUSTOMERS: &str = r#"
+manager GET /v1/site/report
+csv customer,orders,quantity,registered,planned,settled,identified,shipped,quarantined,scrapped,serials_left|
+manager GET /v1/report
+403 {"error":"wrong_caller","no":8}
+"#;
+
+/// An order of 65 devices with four addresses each, of which 64 serial numbers are imported.
+const FAR_NUMBER: &str = r#"
+a1 POST /v1/order {"nr":1,"name":"o1","issuer":"acme-ca","prefix":"A","width":3,"first":100,"quantity":65,"macs":4}
+200 {"first":100,"issuer":"acme-ca","mac":"020000000000","macs":4,"name":"o1","next":"A100",
+  "not_before":null,"prefix":"A","quantity":65,"width":3}
+a1 POST /v1/map {"nr":2,"text":"$MAP"}
+200 {"map":"$DIGEST"}
+a1 POST /v1/import {"nr":3,"issuer":"acme-ca","csv":"serial,key_sha256\n$TIMES~64~A#,0000000000000000000000000000000000000000000000000000000000000#\n~"}
+200 {"added":64,"present":0}
+a1 POST /v1/device {"nr":4,"chip":"00000000000a","order":"o1","map":"$DIGEST","blocks":<>}
+200 {"bits":[],"chip":"00000000000a","keys":{},"map":"$DIGEST","order":"o1",
+  "pending":{"batch1":$NONE,"batch2":$NONE},"reason":null,"serial":null,"state":"registered"}
+a1 POST /v1/plan {"nr":5,"chip":"00000000000a","wishes":[]}
+200 {"batch1":$NONE,"batch2":$NONE,"state":"settled"}
+"#;
+
+/// The 65th number's addresses begin 256 behind the order's.
+const FAR_ADDRESS: &str = r#"
+a1 POST /v1/identity {"nr":6,"chip":"00000000000a","public_key":"00"}
+200 {"chip":"00000000000a","issuer":"acme-ca",
+  "key_sha256":"6e340b9cffb37a989ca544e6bb780a2c78901d3fb33738768511a30617afa01d",
+  "mac":"020000000100","not_after":"99991231235959Z","not_before":null,"serial":"A164"}
+a1 GET /v1/identity?chip=00000000000a
+200 {"chip":"00000000000a","issuer":"acme-ca",
+  "key_sha256":"6e340b9cffb37a989ca544e6bb780a2c78901d3fb33738768511a30617afa01d",
+  "mac":"020000000100","not_after":"99991231235959Z","not_before":null,"serial":"A164"}
+a1 GET /v1/order?name=o1
+200 {"first":100,"issuer":"acme-ca","mac":"020000000000","macs":4,"name":"o1","next":null,
+  "not_before":null,"prefix":"A","quantity":65,"width":3}
+"#;
+
 /// An import of 500 serial numbers of 63 characters, 64,518 bytes of CSV, in a body of some 65,000; then the
 /// same again.
 const LONG_IMPORT: &str = r#"
@@ -111,6 +157,21 @@ fn maps_may_have_128_fields(rt: HostRuntime) -> Result<(), Fail> {
 fn sites_may_have_64_customers(rt: HostRuntime) -> Result<(), Fail> {
     let (site, asked) = site_of_many_customers(rt.alloc())?;
     let found = first_of_both(rt.alloc(), site.as_str(), asked.as_str(), "")?;
+    assert_eq!(rt; found.as_str(), "");
+    Ok(())
+}
+
+#[test]
+fn sites_may_have_no_customers(rt: HostRuntime) -> Result<(), Fail> {
+    let site = SITE_WITHOUT_CUSTOMERS;
+    let found = first_of_both(rt.alloc(), site, OF_NO_CUSTOMERS, OF_NO_CUSTOMERS)?;
+    assert_eq!(rt; found.as_str(), "");
+    Ok(())
+}
+
+#[test]
+fn the_65th_number_has_its_addresses(rt: HostRuntime) -> Result<(), Fail> {
+    let found = first_of_both(rt.alloc(), SITE_WITH_ROOM, FAR_NUMBER, FAR_ADDRESS)?;
     assert_eq!(rt; found.as_str(), "");
     Ok(())
 }

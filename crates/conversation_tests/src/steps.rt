@@ -1,10 +1,10 @@
 //! What few steps leave of a store.
 use std::alloc::Global;
 use std::test::Fail;
-use test_fixtures::conversations::plans::PLANS;
+use test_fixtures::conversations::plans::{A_BIT_AND_ITS_LOCK, PLANS};
 use test_fixtures::conversations::{exchanges, is_unanswered};
 use test_fixtures::samples::SITE;
-use test_support::conversation::difference_over;
+use test_support::conversation::{difference_over, first_difference};
 use test_support::keepers::{Fresh, SqlMemory, adopted};
 
 /// Holds a conversation over a store that may first take one step a statement, and is adopted anew
@@ -28,6 +28,23 @@ fn first_difference_in_few_steps(alloc: Global, conversation: &str) -> Result<St
     Ok(String::new(alloc))
 }
 
+/// A ledger of six entries, whose walk takes more than a step.
+const INTERRUPTED: &str = r#"
+a1 GET /v1/ledger?chip=00000000000a
+503 {"error":"unkept","no":50}
+"#;
+
+/// What is got for a ledger where a statement may take one step: what differs first.
+fn first_difference_in_one_step(alloc: Global) -> Result<String, Fail> {
+    let mut keep = SqlMemory::fresh(alloc)?;
+    let found = first_difference(alloc, &mut keep, A_BIT_AND_ITS_LOCK)?;
+    if !found.is_empty() {
+        return Ok(found);
+    }
+    keep.set_steps(1);
+    first_difference(alloc, &mut keep, INTERRUPTED)
+}
+
 /// What a limit of steps interrupts is answered 503 and changes nothing. The store is adopted anew
 /// after each request.
 #[test]
@@ -36,5 +53,6 @@ fn few_steps_change_nothing_or_serve(rt: HostRuntime) -> Result<(), Fail> {
         let found = first_difference_in_few_steps(rt.alloc(), row.1)?;
         assert_eq!(rt; found.as_str(), "", "{}", row.0);
     }
+    assert_eq!(rt; first_difference_in_one_step(rt.alloc())?.as_str(), "");
     Ok(())
 }

@@ -9,30 +9,60 @@ use std::test::Fail;
 use test_fixtures::conversations::growths::{GROWTHS, Growth};
 use test_fixtures::conversations::runs::{BOOKS, RUN};
 use test_fixtures::conversations::{Exchange, exchanges};
-use test_fixtures::samples::{NEXT_TEXTS, SITE, SITE_WITH_A_CUSTOMER, SITE_WITH_A_POOL};
+use test_fixtures::samples::{GROWING, NEXT_TEXTS, SITE, SITE_WITH_A_CUSTOMER, SITE_WITH_A_POOL};
 use test_support::stores::{tell_of, told_then};
 
 /// The texts of the sites that grew from the sample.
 const GROWN_SITES: &[&str] = &[SITE_WITH_A_POOL, SITE_WITH_A_CUSTOMER];
 
-/// Opens a store, in which something stands, for the text of a row: what differs, the number of the
-/// fault, the text that the store tells of then, or what it shows.
-fn difference_of_row<K: InFiles>(
+/// The texts of the sample site in which one of what may grow did, and those in which two did.
+pub fn grown_texts(alloc: Global) -> Result<Vec<String>, AllocError> {
+    let mut texts = Vec::new(alloc);
+    for (place, one) in GROWING.iter().enumerate() {
+        let grown = SITE.replace(alloc, one.0, one.1)?;
+        for other in GROWING.iter().skip(place.saturating_add(1)) {
+            texts.push(grown.as_str().replace(alloc, other.0, other.1)?)?;
+        }
+        texts.push(grown)?;
+    }
+    Ok(texts)
+}
+
+/// Opens a store, in which something stands, for a text: what differs, the number of the fault, the
+/// text that the store tells of then, or what it shows.
+fn difference_of_text<K: InFiles>(
     alloc: Global,
     store: &Store,
-    row: &(&str, &str, u8),
+    text: &str,
+    wanted: u8,
+    shown: &[Exchange<'_>],
 ) -> Result<String, Fail> {
-    let text = SITE.replace(alloc, row.0, row.1)?;
-    let (fault, left) = opened_and_closed::<K>(alloc, store, text.as_str())?;
-    if fault != row.2 {
-        return Ok(format!(in alloc; "fault {} -> {fault}", row.2)?);
+    let (fault, left) = opened_and_closed::<K>(alloc, store, text)?;
+    if fault != wanted {
+        return Ok(format!(in alloc; "fault {wanted} -> {fault}")?);
     }
-    let told = told_then(fault, text.as_str());
+    let told = told_then(fault, text);
     if !is_told::<K>(alloc, &left, told)? {
         return Ok(format!(in alloc; "another text after fault {fault}")?);
     }
-    let (found, _) = held_over::<K>(alloc, &left, told, exchanges(alloc, BOOKS)?.as_slice())?;
+    let (found, _) = held_over::<K>(alloc, &left, told, shown)?;
     Ok(found)
+}
+
+/// Opens a store of the sample site for each text that grew from it: what differs first, behind the
+/// text.
+pub fn first_difference_grown<K: InFiles>(
+    alloc: Global,
+    store: &Store,
+    shown: &[Exchange<'_>],
+) -> Result<String, Fail> {
+    for text in grown_texts(alloc)? {
+        let found = difference_of_text::<K>(alloc, store, text.as_str(), 0, shown)?;
+        if !found.is_empty() {
+            return Ok(format!(in alloc; "{text}: {found}")?);
+        }
+    }
+    Ok(String::new(alloc))
 }
 
 /// The store of the sample site behind the run.
@@ -45,30 +75,32 @@ fn store_of_run<K: InFiles>(alloc: Global) -> Result<Store, Fail> {
     Ok(store)
 }
 
-/// Opens the store of the sample site behind a run for the text of each row: what differs first, behind what
-/// stands in the text.
+/// Opens the store of the sample site behind a run for the text of each row, and for those that grew:
+/// what differs first, behind what stands in the text.
 fn first_difference_opened<K: InFiles>(
     alloc: Global,
     rows: &[(&str, &str, u8)],
 ) -> Result<String, Fail> {
     let store = store_of_run::<K>(alloc)?;
+    let books = exchanges(alloc, BOOKS)?;
     for row in rows {
-        let found = difference_of_row::<K>(alloc, &store, row)?;
+        let text = SITE.replace(alloc, row.0, row.1)?;
+        let found = difference_of_text::<K>(alloc, &store, text.as_str(), row.2, books.as_slice())?;
         if !found.is_empty() {
             return Ok(format!(in alloc; "{}: {found}", row.1)?);
         }
     }
-    Ok(String::new(alloc))
+    first_difference_grown::<K>(alloc, &store, books.as_slice())
 }
 
-/// Those of exchanges that only show something.
-fn shown_of<'a>(
+/// Those of exchanges that only show something, and show it to a seat.
+pub fn shown_of<'a>(
     alloc: Global,
     exchanges: &[Exchange<'a>],
 ) -> Result<Vec<Exchange<'a>>, AllocError> {
     let mut shown = Vec::new(alloc);
     for exchange in exchanges {
-        if exchange.asked.contains(" GET ") {
+        if exchange.asked.contains(" GET ") && !exchange.asked.starts_with("manager ") {
             shown.push(*exchange)?;
         }
     }

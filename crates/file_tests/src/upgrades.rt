@@ -1,7 +1,8 @@
 //! Stores of earlier schemas in files, whose upgrade is stopped: what it leaves.
 use crate::disks::{
-    FilesCase, InFiles, Store, held_over, opened_and_closed, over_files, undisturbed,
+    FilesCase, InFiles, Store, held_over, opened_and_closed, over_files, rows_in, undisturbed,
 };
+use crate::grown::{first_difference_grown, grown_texts, shown_of};
 use crate::stops::first_lost;
 use std::alloc::Global;
 use std::test::Fail;
@@ -67,6 +68,61 @@ fn first_other_fault<K: InFiles>(
         }
     }
     Ok(String::new(alloc))
+}
+
+/// Opens a store of an earlier schema, which has the digest of its site's text alone, for each text
+/// that grew from it: the first that isn't refused, or of which something is left.
+fn first_growth_taken<K: InFiles>(alloc: Global, store: &Store) -> Result<String, Fail> {
+    let rows = rows_in::<K>(alloc, store)?;
+    for text in grown_texts(alloc)? {
+        let (fault, left) = opened_and_closed::<K>(alloc, store, text.as_str())?;
+        let then = rows_in::<K>(alloc, &left)?;
+        if fault != 1 || then.as_str() != rows.as_str() {
+            return Ok(format!(in alloc; "fault {fault}: {text}")?);
+        }
+    }
+    Ok(String::new(alloc))
+}
+
+/// Opens a store of an earlier schema for its site's text, and then for each that grew from it: what
+/// differs first of what is shown then.
+fn first_difference_behind_upgrade<K: InFiles>(
+    alloc: Global,
+    store: &Store,
+    shown: &str,
+) -> Result<String, Fail> {
+    let (_, upgraded) = opened_and_closed::<K>(alloc, store, SITE)?;
+    let books = exchanges(alloc, shown)?;
+    let shown = shown_of(alloc, books.as_slice())?;
+    first_difference_grown::<K>(alloc, &upgraded, shown.as_slice())
+}
+
+/// What differs first where the site of an earlier store grows: before its upgrade, or behind it.
+fn first_difference_in_growth<K: InFiles>(
+    alloc: Global,
+    earlier: &Earlier,
+) -> Result<String, Fail> {
+    let store = store_of::<K>(alloc, earlier)?;
+    let found = first_growth_taken::<K>(alloc, &store)?;
+    if !found.is_empty() {
+        return Ok(found);
+    }
+    first_difference_behind_upgrade::<K>(alloc, &store, earlier.shown)
+}
+
+/// Stores of earlier schemas whose site grows.
+struct GrownUpgrades;
+
+impl FilesCase for GrownUpgrades {
+    fn first_difference<K: InFiles>(alloc: Global) -> Result<String, Fail> {
+        for earlier in &[&ONE, &TWO] {
+            let found = first_difference_in_growth::<K>(alloc, *earlier)?;
+            if !found.is_empty() {
+                return Ok(found);
+            }
+        }
+        Ok(String::new(alloc))
+    }
 }
 
 /// Each store of an earlier schema that goes on.
@@ -155,6 +211,12 @@ impl FilesCase for StoppedUpgradesOfEarly {
 #[test]
 fn stores_of_earlier_schemas_go_on(rt: HostRuntime) -> Result<(), Fail> {
     assert_eq!(rt; over_files::<Lives>(rt.alloc())?.as_str(), "");
+    Ok(())
+}
+
+#[test]
+fn sites_of_earlier_schemas_grow_behind_their_upgrade(rt: HostRuntime) -> Result<(), Fail> {
+    assert_eq!(rt; over_files::<GrownUpgrades>(rt.alloc())?.as_str(), "");
     Ok(())
 }
 

@@ -1,13 +1,8 @@
 // Words of blocks that lie in place.
 ghost use Rattle.std.specs.Prelude.{◌≡◌, ◌<◌, ◌≤◌, [], ◌∷◌, ◌++◌, length};
 
+use fusemap_core::{BLOCK_LIMIT, WORD_LIMIT};
 use std::marker::Model;
-
-/// The most words of a block.
-pub(crate) const WORD_LIMIT: usize = 8;
-
-/// The most blocks.
-pub(crate) const BLOCK_LIMIT: usize = 4;
 
 /// The words of a block, at most 8, in place. The array has zeros after them.
 #[derive(Clone, Copy)]
@@ -34,6 +29,7 @@ impl Model for Block {
 }
 
 impl Block {
+    /// The block of these words.
     pub(crate) fn copy_of(words: &[u32]) -> Block
         requires { length words.now ≤ WORD_LIMIT }
         ensures { result ≡ words.now }
@@ -44,6 +40,7 @@ impl Block {
         Block { words: array, len }
     }
 
+    /// Its words, in their order.
     pub(crate) fn as_slice(&self) -> &[u32]
         ensures { result.now ≡ self.now }
     {
@@ -79,6 +76,7 @@ impl Model for Blocks {
 }
 
 impl Blocks {
+    /// No blocks.
     pub(crate) fn new() -> Blocks
         ensures { result ≡ [] }
     {
@@ -89,6 +87,7 @@ impl Blocks {
         }
     }
 
+    /// Adds a block behind the others.
     pub(crate) fn push(&mut self, block: Block)
         requires { length self.old < BLOCK_LIMIT }
         ensures { self.new ≡ self.old ++ block ∷ [] }
@@ -97,6 +96,7 @@ impl Blocks {
         self.len += 1;
     }
 
+    /// The blocks, block 0 first.
     pub(crate) fn as_slice(&self) -> &[Block]
         ensures { result.now ≡ self.now }
     {

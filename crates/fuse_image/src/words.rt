@@ -4,7 +4,8 @@ ghost use Rattle.std.specs.List.{list_all};
 ghost use Rattle.sha2.specs.Sha256.{sha256};
 ghost use Rattle.fuse_image.specs.Blocks.{are_blocks, is_block, blocks_of, bytes_of_block};
 
-use crate::blocks::{BLOCK_LIMIT, Block, Blocks, WORD_LIMIT};
+use crate::blocks::{Block, Blocks};
+use fusemap_core::{BLOCK_LIMIT, WORD_LIMIT};
 use sha2::Sha256;
 use std::marker::Model;
 use text_core::Digest;

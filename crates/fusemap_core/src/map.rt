@@ -15,7 +15,7 @@ use text_core::Name;
 pub const BLOCK_LIMIT: usize = 4;
 
 /// The most words of a block. A word has 32 bits.
-pub const WORD_LIMIT: u64 = 8;
+pub const WORD_LIMIT: usize = 8;
 
 /// The most fields of a map.
 pub const FIELD_LIMIT: usize = 128;

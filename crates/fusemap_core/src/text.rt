@@ -90,7 +90,7 @@ fn read_draft(alloc: Global, document: &Value) -> Result<MapDraft, MapFault>
 fn read_words(value: &Value) -> Option<u8>
     ensures { result ≡ words_in (view value.now) }
 {
-    let words = whole_member(value, "words", 1, WORD_LIMIT)?;
+    let words = whole_member(value, "words", 1, WORD_LIMIT as u64)?;
     Some(words as u8)
 }
 

@@ -3,6 +3,9 @@ use Rattle.std.specs.Prelude.{◌≡◌, ℕ, ◌+◌, ◌*◌, ◌<◌, ◌≤�
 use Rattle.http_frames.specs.Frames.{call_limit}
 use Rattle.http_frames.specs.declared.transfer.Drain.{Ghosts as DrainGhosts}
 use Rattle.http_frames.specs.declared.transfer.Source.{Ghosts as SourceGhosts}
+use Rattle.http_frames.specs.Buffers.{BufferValue}
+use Rattle.http_frames.specs.Sends.{sent_faults}
+use Rattle.http_frames.specs.declared.send.Sent.{Sent}
 use Rattle.http_frames.specs.declared.serving.Served.{Served}
 use Rattle.http_frames.specs.declared.serving.Served.TheVariants.{ReadFault, WriteFault, TurnLimit, NoMemory}
 
@@ -31,3 +34,14 @@ pub record StaysWithinCalls {R W : Type 0} (r : SourceGhosts R) (w : DrainGhosts
   pub failed_writes : w.failures writer_new ≡ w.failures writer_old + write_faults (Some served)
   pub no_memory : served ≡ NoMemory
       → (r.calls reader_new ≡ r.calls reader_old) × (w.calls writer_new ≡ w.calls writer_old)
+
+-- bytes that became this made no more calls of the writer than a stream may, all of them where the limit ended it. The
+-- answer tells which of them failed, and what was read of the next request stays
+pub record SendsWithinCalls {W : Type 0} (w : DrainGhosts W) (writer_old writer_new : W) (old new : BufferValue)
+    (sent : Sent) : Type 0 where
+  pub same_window : new ≡ record old { calls = new.calls }
+  pub calls : w.calls writer_new + old.calls ≡ w.calls writer_old + new.calls
+  pub more : old.calls ≤ new.calls
+  pub within : old.calls ≤ call_limit → new.calls ≤ call_limit
+  pub limit : sent ≡ Sent.TurnLimit → new.calls ≡ call_limit
+  pub failures : w.failures writer_new ≡ w.failures writer_old + sent_faults sent

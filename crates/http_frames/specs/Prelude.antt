@@ -9,7 +9,7 @@ pub use Rattle.http_frames.specs.Frames.{call_limit, ends_after, field_limit, Ha
 pub use Rattle.http_frames.specs.Frames.{is_head_method, IsCutInBody, IsCutInHead, IsCutOff, IsRefused, IsRefusedWhole, IsUndecided, LacksHead, Request, room}
 pub use Rattle.http_frames.specs.Looks.{IsFrameAt, IsHeadAt, IsHeadFound, IsLook}
 pub use Rattle.http_frames.specs.Transfers.{AddsFront, failures_of, MovesAtMost, ReadsBytes, Takes, write_failures, WritesBytes}
-pub use Rattle.http_frames.specs.Calls.{HasCallsLeft, read_faults, StaysWithinCalls, write_faults}
+pub use Rattle.http_frames.specs.Calls.{HasCallsLeft, read_faults, SendsWithinCalls, StaysWithinCalls, write_faults}
 pub use Rattle.http_frames.specs.Cycles.{IsOneExchange, ServesBytes, ServesExchanges}
 pub use Rattle.http_frames.specs.Determined.{cut_of, is_by_bytes, IsCutWhole, IsEitherWay, requests_of}
 pub use Rattle.http_frames.specs.Sends.{Sending, Sends, SendsPart, sent_faults}

@@ -1,9 +1,9 @@
 //! Writes replies, and counts the calls of the writer.
 
-ghost use Rattle.std.specs.Prelude.{◌≡◌, ◌≢◌, ◌+◌, ◌-◌, ◌<◌, ◌≤◌, [], false, length};
+ghost use Rattle.std.specs.Prelude.{◌≡◌, ◌≢◌, ◌+◌, ◌<◌, [], false, length};
 ghost use Rattle.http_frames.specs.Prelude.{unread};
 ghost use Rattle.http_replies.specs.Prelude.{answer_of, reply_text};
-ghost use Rattle.http_frames.specs.Prelude.{HasCallsLeft, Sending, sent_faults};
+ghost use Rattle.http_frames.specs.Prelude.{HasCallsLeft, Sending, SendsWithinCalls};
 
 use crate::buffer::{Buffer, CALL_LIMIT};
 use crate::transfer::{Drain, Transfer};
@@ -24,13 +24,8 @@ pub enum Sent {
 pub fn write_all<W: Drain>(writer: &mut W, bytes: &[u8], buffer: &mut Buffer) -> Sent
     requires { HasCallsLeft (W.calls writer.old) buffer.old.calls }
     ensures sent { Sending (W.written writer.old) (W.written writer.new) bytes.now result }
-    ensures same_window { buffer.new ≡ record buffer.old { calls = buffer.new.calls } }
-    ensures calls { W.calls writer.new + buffer.old.calls ≡ W.calls writer.old + buffer.new.calls }
-    ensures more { buffer.old.calls ≤ buffer.new.calls }
-    ensures within { buffer.old.calls ≤ CALL_LIMIT → buffer.new.calls ≤ CALL_LIMIT }
+    ensures counted { SendsWithinCalls W.Drain writer.old writer.new buffer.old buffer.new result }
     ensures some { 0 < length bytes.now → result ≡ Sent.All → buffer.old.calls < buffer.new.calls }
-    ensures limit { result ≡ Sent.TurnLimit → buffer.new.calls ≡ CALL_LIMIT }
-    ensures failures { W.failures writer.new ≡ W.failures writer.old + sent_faults result }
 {
     let mut rest = bytes;
     while !rest.is_empty() {
@@ -58,13 +53,8 @@ fn write_parts<W: Drain>(
     requires { HasCallsLeft (W.calls writer.old) buffer.old.calls }
     ensures sent { Sending (W.written writer.old) (W.written writer.new)
         (reply_text (answer_of reply.now) flags.is_head flags.is_last) result }
-    ensures same_window { buffer.new ≡ record buffer.old { calls = buffer.new.calls } }
-    ensures calls { W.calls writer.new + buffer.old.calls ≡ W.calls writer.old + buffer.new.calls }
-    ensures more { buffer.old.calls ≤ buffer.new.calls }
-    ensures within { buffer.old.calls ≤ CALL_LIMIT → buffer.new.calls ≤ CALL_LIMIT }
+    ensures counted { SendsWithinCalls W.Drain writer.old writer.new buffer.old buffer.new result }
     ensures some { result ≡ Sent.All → buffer.old.calls < buffer.new.calls }
-    ensures limit { result ≡ Sent.TurnLimit → buffer.new.calls ≡ CALL_LIMIT }
-    ensures failures { W.failures writer.new ≡ W.failures writer.old + sent_faults result }
 {
     let len = reply_head(reply, flags, room);
     match write_all(writer, &room[..len], buffer) {
@@ -84,11 +74,7 @@ fn write_parts<W: Drain>(
 fn end_reply<W: Drain>(writer: &mut W, buffer: &mut Buffer) -> Sent
     requires { HasCallsLeft (W.calls writer.old) buffer.old.calls }
     ensures written { W.written writer.new ≡ W.written writer.old }
-    ensures same_window { buffer.new ≡ record buffer.old { calls = buffer.new.calls } }
-    ensures calls { W.calls writer.new + buffer.old.calls ≡ W.calls writer.old + buffer.new.calls }
-    ensures within { buffer.old.calls ≤ CALL_LIMIT → buffer.new.calls ≤ CALL_LIMIT }
-    ensures limit { result ≡ Sent.TurnLimit → buffer.new.calls ≡ CALL_LIMIT }
-    ensures failures { W.failures writer.new ≡ W.failures writer.old + sent_faults result }
+    ensures counted { SendsWithinCalls W.Drain writer.old writer.new buffer.old buffer.new result }
 
     // Behind a reply behind which nothing was read the writer isn't asked; else it is, once.
     ensures unasked { unread buffer.old ≡ []
@@ -126,13 +112,8 @@ pub fn write_reply<W: Drain>(
     requires { HasCallsLeft (W.calls writer.old) buffer.old.calls }
     ensures sent { Sending (W.written writer.old) (W.written writer.new)
         (reply_text (answer_of reply.now) flags.is_head flags.is_last) result }
-    ensures same_window { buffer.new ≡ record buffer.old { calls = buffer.new.calls } }
-    ensures calls { W.calls writer.new + buffer.old.calls ≡ W.calls writer.old + buffer.new.calls }
-    ensures more { buffer.old.calls ≤ buffer.new.calls }
-    ensures within { buffer.old.calls ≤ CALL_LIMIT → buffer.new.calls ≤ CALL_LIMIT }
+    ensures counted { SendsWithinCalls W.Drain writer.old writer.new buffer.old buffer.new result }
     ensures some { result ≡ Sent.All → buffer.old.calls < buffer.new.calls }
-    ensures limit { result ≡ Sent.TurnLimit → buffer.new.calls ≡ CALL_LIMIT }
-    ensures failures { W.failures writer.new ≡ W.failures writer.old + sent_faults result }
 
     // The next request isn't served before the writer was asked whether it takes more.
     ensures asked { result ≡ Sent.All → flags.is_last ≡ false → 0 < length (unread buffer.old)

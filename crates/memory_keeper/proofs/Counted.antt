@@ -7,7 +7,7 @@ use Rattle.office_tables.specs.Prelude.{state_row, takes_place, device_cmp, is_d
 use Rattle.office_tables.specs.declared.rows.OfCustomer.{OfCustomer}
 use Rattle.office_tables.specs.declared.rows.Device.{Device}
 use Rattle.memory_keeper.specs.Prelude.{count_of_order, is_counted, text_pair_cmp, place_of_device, KeepsCounts, with_other, without}
-use Rattle.memory_keeper.specs.declared.devices.PlaceCounts.{PlaceCounts}
+use Rattle.memory_keeper.specs.declared.devices.TakenPlaces.{TakenPlaces}
 use Rattle.office_tables.proofs.Placing.{all_map}
 use Rattle.office_tables.proofs.Places.{at_order, both_equal, first_and_others, places}
 pub use Rattle.office_tables.proofs.Places.{same_both_ways}
@@ -85,11 +85,11 @@ at_its_order d customer order stays =
     (with_true (bytes_eq customer d.customer) (bytes_eq order d.row.order))
 
 -- a number is written at the order of a device
-abbrev pub Writes-count : PlaceCounts → PlaceCounts → OfCustomer Device → ℕ → Type 0
+abbrev pub Writes-count : TakenPlaces → TakenPlaces → OfCustomer Device → ℕ → Type 0
 Writes-count p n d count =
     (q : List ℕ × List ℕ) → get text_pair_cmp n.counts q ≡ cond (is_at (text_pair_cmp (d.customer, d.row.order)) q) (Some count) (get text_pair_cmp p.counts q)
 
-module _ (p n : PlaceCounts) (d : OfCustomer Device) (stays : (state_row d.row.state).is_given_up ≡ false) (customer order : List ℕ) where
+module _ (p n : TakenPlaces) (d : OfCustomer Device) (stays : (state_row d.row.state).is_given_up ≡ false) (customer order : List ℕ) where
   -- what was written at the order of a device, and what stands at the others
   written : (count : ℕ) → Writes-count p n d count → count_of_order customer order n
       ≡ cond (is_of customer d && takes_place order d.row) count (count_of_order customer order p)
@@ -150,14 +150,14 @@ place_if true true false = refl
 place_if true false up = refl
 place_if false at up = refl
 
-at_one : (p : PlaceCounts) (d : OfCustomer Device) (customer order : List ℕ) → (is_of customer d && bytes_eq order d.row.order) ≡ true
+at_one : (p : TakenPlaces) (d : OfCustomer Device) (customer order : List ℕ) → (is_of customer d && bytes_eq order d.row.order) ≡ true
     → count_of_order customer order p ≡ count_of_order d.customer d.row.order p
 at_one p d customer order is =
     let parts = and_parts (is_of customer d) (bytes_eq order d.row.order) is in
     rw ((bytes_eq-Decides customer d.customer).0 parts.0, (bytes_eq-Decides order d.row.order).0 parts.1) refl
 
 -- one device more, whether or not it takes a place
-pub one_added : (p n : PlaceCounts) (d : OfCustomer Device) (customer order : List ℕ) → Writes-count p n d (count_of_order d.customer d.row.order p + place d)
+pub one_added : (p n : TakenPlaces) (d : OfCustomer Device) (customer order : List ℕ) → Writes-count p n d (count_of_order d.customer d.row.order p + place d)
     → count_of_order customer order n ≡ count_of_order customer order p + place_of_device customer order d
 one_added p n d customer order writes =
     rw (writes (customer, order), at_order d customer order, place_if (is_of customer d) (bytes_eq order d.row.order) (state_row d.row.state).is_given_up)
@@ -168,13 +168,13 @@ one_added p n d customer order writes =
       | false ↦ λ is. omega arith
     ] refl)
 
-pub counted_kept : (p n : PlaceCounts) (d : OfCustomer Device) (count : ℕ) → Writes-count p n d count → KeepsCounts p n
+pub counted_kept : (p n : TakenPlaces) (d : OfCustomer Device) (count : ℕ) → Writes-count p n d count → KeepsCounts p n
 counted_kept p n d count writes customer order was =
     rw (writes (customer, order)) (elim (is_at (text_pair_cmp (d.customer, d.row.order)) (customer, order)) as (λ b.
     is_some (cond b (Some count) (get text_pair_cmp p.counts (customer, order))) ≡ true) [ true ↦ refl | false ↦ was ])
 
 -- each device's order has a number as before
-pub all_kept : (p n : PlaceCounts) → KeepsCounts p n → (rows : List (OfCustomer Device)) → AllByRecursion (λ d.
+pub all_kept : (p n : TakenPlaces) → KeepsCounts p n → (rows : List (OfCustomer Device)) → AllByRecursion (λ d.
     is_counted d.customer d.row.order p ≡ true) rows → AllByRecursion (λ d. is_counted d.customer d.row.order n ≡ true) rows
 all_kept p n keeps rows all =
     all_map (λ d. is_counted d.customer d.row.order p ≡ true) (λ d. is_counted d.customer d.row.order n ≡ true) (λ d. keeps d.customer d.row.order) rows all

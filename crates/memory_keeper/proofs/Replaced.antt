@@ -7,7 +7,7 @@ use Rattle.office_tables.specs.declared.rows.Device.{Device}
 use Rattle.office_tables.specs.Prelude.{device_cmp, is_device}
 use Rattle.office_tables.proofs.Places.{own_device}
 use Rattle.memory_keeper.specs.Prelude.{count_of_order, is_counted, place_of_device, AreCounted, KeepsCounts, unplaced, with_device_row, with_other}
-use Rattle.memory_keeper.specs.declared.devices.PlaceCounts.{PlaceCounts}
+use Rattle.memory_keeper.specs.declared.devices.TakenPlaces.{TakenPlaces}
 use Rattle.memory_keeper.proofs.Counted.{all_kept, all_other, find_other, found_has, places_few, places_other, places_without}
 use Rattle.memory_keeper.proofs.Keys.{with_other_device}
 
@@ -44,7 +44,7 @@ module _ (row old : OfCustomer Device) (rows : List (OfCustomer Device)) (found 
       let also : bytes_eq row.row.order old.row.order ≡ true = (bytes_eq-Decides row.row.order old.row.order).1 (sym order) in
       rw (there, also) (sym (with_other_device old.customer old.row.chip old (with_other (is_device row.customer row.row.chip) row rows)) ∙ back)
 
-  module _ (p p1 : PlaceCounts) (counted : AreCounted rows p) (kept : KeepsCounts p p1) where
+  module _ (p p1 : TakenPlaces) (counted : AreCounted rows p) (kept : KeepsCounts p p1) where
     -- a number stands for the order
     pub there_again : is_counted row.customer row.row.order p1 ≡ true
     there_again =
@@ -61,7 +61,7 @@ module _ (row old : OfCustomer Device) (rows : List (OfCustomer Device)) (found 
         omega (arith, l, right, low, few)
 
     -- the numbers are right again
-    pub counted_again : (p2 : PlaceCounts) → ((c o : List ℕ) → count_of_order c o p1 ≡ count_of_order c o p - place_of_device c o old)
+    pub counted_again : (p2 : TakenPlaces) → ((c o : List ℕ) → count_of_order c o p1 ≡ count_of_order c o p - place_of_device c o old)
         → ((c o : List ℕ) → count_of_order c o p2 ≡ count_of_order c o p1 + place_of_device c o row) → KeepsCounts p1 p2
         → AreCounted (with_other (is_device row.customer row.row.chip) row rows) p2
     counted_again p2 less more kept2 = record {

@@ -15,11 +15,11 @@ use text_core::{Chip, Name};
 /// How many devices take a place of each order, by customer and order. Where there is no number,
 /// none does. A number stays, also where it is 0, so that it rises again without memory.
 #[derive(Drop)]
-struct PlaceCounts {
+struct TakenPlaces {
     counts: BTreeMap<(Name, Name), u64>,
 }
 
-impl PlaceCounts {
+impl TakenPlaces {
     /// How many devices take a place of a customer's order.
     fn count(&self, customer: &Name, order: &Name) -> u64
         ensures { result ≡ count_of_order customer.now order.now self.now }
@@ -82,7 +82,7 @@ impl PlaceCounts {
 #[derive(Drop)]
 pub(crate) struct Devices {
     rows: Table<DeviceRow>,
-    places: PlaceCounts,
+    places: TakenPlaces,
 }
 
 impl Model for Devices {
@@ -105,7 +105,7 @@ impl Devices {
     {
         Devices {
             rows: Table::new(alloc),
-            places: PlaceCounts {
+            places: TakenPlaces {
                 counts: BTreeMap::new(alloc),
             },
         }

@@ -97,6 +97,7 @@ fn refusal_text(alloc: Global, reason: Refusal) -> Result<Body, AllocError>
     }))
 }
 
+/// A text in JSON, `null` where there is none. Fails where memory runs out.
 pub(crate) fn text_value(alloc: Global, text: Option<&str>) -> Result<Value, AllocError>
     ensures { IfOk result (λ v. view v ≡ text_data (option_map (λ t. t.now) text.entry)) }
 {
@@ -106,6 +107,7 @@ pub(crate) fn text_value(alloc: Global, text: Option<&str>) -> Result<Value, All
     }
 }
 
+/// An address in JSON as twelve hexadecimal digits, `null` where there is none. Fails where memory runs out.
 pub(crate) fn mac_value(alloc: Global, mac: Option<Mac>) -> Result<Value, AllocError>
     ensures { IfOk result (λ v. view v ≡ text_data (option_map mac_text mac)) }
 {
@@ -115,6 +117,7 @@ pub(crate) fn mac_value(alloc: Global, mac: Option<Mac>) -> Result<Value, AllocE
     }
 }
 
+/// A beginning of validity in JSON, `null` where there is none. Fails where memory runs out.
 pub(crate) fn not_before_value(
     alloc: Global,
     not_before: Option<NotBefore>,

@@ -7,6 +7,6 @@ pub use Rattle.office_judges.specs.Judging.{IsCarriedOut, IsJudged, IsUnlessRefu
 pub use Rattle.office_judges.specs.Map.{Counts, has_text}
 pub use Rattle.office_judges.specs.Paging.{GathersPage, IsPage, visited_behind}
 pub use Rattle.office_judges.specs.Registration.{GathersEntries, registration_refusals_by_map}
-pub use Rattle.office_judges.specs.Scanning.{asked_range, claimed_addresses, claims_numbers_of, has_numbers_of, IsScanned, range_or_refusal}
+pub use Rattle.office_judges.specs.Scanning.{asked_range, IsScanned, range_or_refusal}
 pub use Rattle.office_judges.specs.Scanning.{refusals_alone, refusals_beside, Scans}
 pub use Rattle.office_judges.specs.Stepping.{found_at, IsAccepted, writes_of}

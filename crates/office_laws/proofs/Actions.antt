@@ -29,6 +29,18 @@ read_unnumbered blocks s may = grind arith
 ships_idle : (s : DeviceState) → is_one_of (rule_of Ship).from s ≡ true → Neither ≡ (state_row s).pending
 ships_idle s may = grind arith
 
+-- what is planned, read back or shipped hasn't left its order
+plans_in_order : (wishes : List Wish) (s : DeviceState) → is_one_of (rule_of (Plan wishes)).from s ≡ true
+    → (state_row s).is_given_up ≡ false
+plans_in_order wishes s may = grind arith
+
+reads_in_order : (blocks : List (List ℕ)) (s : DeviceState) → is_one_of (rule_of (ReadBack blocks)).from s ≡ true
+    → (state_row s).is_given_up ≡ false
+reads_in_order blocks s may = grind arith
+
+ships_in_order : (s : DeviceState) → is_one_of (rule_of Ship).from s ≡ true → (state_row s).is_given_up ≡ false
+ships_in_order s may = grind arith
+
 module _ (m : Map) (is : IsMap m) (old : OfCustomer Device) (numbered : SerialIsOfIdentified old) where
   abbrev IsFree : Action → Type 0
   IsFree a = first_that_holds (action_refusals a m old.row) ≡ None
@@ -57,3 +69,14 @@ module _ (m : Map) (is : IsMap m) (old : OfCustomer Device) (numbered : SerialIs
       (unnumbered (ReadBack blocks) (read_unnumbered blocks) free)
   action_keeps Ship asked free = idle_keeps m is old.row _ _ refl (ships_idle old.row.state (goes_on Ship free))
   action_keeps Scrap asked free = emptied_keeps m is old.row _ _ refl refl
+
+  -- what has left its order doesn't come back
+  pub stays_given_up : (a : Action) → IsAction a → IsFree a → (state_row old.row.state).is_given_up ≡ true
+      → (state_row ((rule_of a).does m old.row).0.device.state).is_given_up ≡ true
+  stays_given_up (Plan wishes) asked free up =
+      let none = plans_in_order wishes old.row.state (goes_on (Plan wishes) free) in cc (none, up)
+  stays_given_up (ReadBack blocks) asked free up =
+      let none = reads_in_order blocks old.row.state (goes_on (ReadBack blocks) free) in cc (none, up)
+  stays_given_up Ship asked free up =
+      let none = ships_in_order old.row.state (goes_on Ship free) in cc (none, up)
+  stays_given_up Scrap asked free up = refl

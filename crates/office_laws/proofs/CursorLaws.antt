@@ -1,11 +1,11 @@
 -- An order's new cursor keeps the tables sound, and the order as it is without it.
 use Rattle.std.proofs.Common.{◌≡◌, ◌≤◌, ◌+◌, ◌∷◌}
 use Rattle.text_core.proofs.Kit.{ℕ, Bool, true, false, cond, List, [], map, Option, Some, None, Equal, Greater, Less, refl, sym, ap, ◌∙◌, subst, filter, find}
-use Rattle.text_core.proofs.Kit.{is_some, IsSomeAnd, AllByRecursion, option_map, ordering_reverse, tied_itself}
+use Rattle.text_core.proofs.Kit.{arith, is_some, IfSome, IsSomeAnd, AllByRecursion, option_map, ordering_reverse, tied_itself}
 use Rattle.site_core.specs.Prelude.{Ownership}
 use Rattle.office_laws.proofs.Types.{Given, Order, OfCustomer, Device}
 use Rattle.office_tables.specs.Prelude.{Tables, is_device, is_of, is_order, order_at, order_cmp, rows_of, with_row, with_cursor, with_cursor_of, with_order}
-use Rattle.office_tables.specs.Prelude.{IsAscending}
+use Rattle.office_tables.specs.Prelude.{IsAscending, places_taken}
 use Rattle.office_tables.proofs.TotalOrders.{order_total}
 use Rattle.office_rules.proofs.Refusing.{is_some_map}
 use Rattle.office_laws.specs.Prelude.{Grows, AreDisjoint, IsInPool, IsOrder, IsSound, IsIssuedBelow, IsOfDevice, IsOfOrder, IsRecordOf}
@@ -59,6 +59,18 @@ order_moved (Some o) (Some x) None same stays = cc
 order_moved (Some o) (Some x) (Some y) same stays =
     let rows : row_at_first y ≡ row_at_first x = cc in
     ap (λ (r : OfCustomer Order). r.row) rows ∙ stays
+
+-- an order is for as many devices where its cursor alone moves
+filled_again : (taken : ℕ) (was new : Option (OfCustomer Order))
+    → option_map row_at_first new ≡ option_map row_at_first was
+    → IfSome was (λ o. taken ≤ o.row.range.quantity) → IfSome new (λ o. taken ≤ o.row.range.quantity)
+filled_again taken was None same within = tt
+filled_again taken None (Some y) same within = cc
+filled_again taken (Some x) (Some y) same within =
+    let rows : row_at_first y ≡ row_at_first x = cc in
+    let quantity : y.row.range.quantity ≡ x.row.range.quantity =
+    ap (λ (r : OfCustomer Order). r.row.range.quantity) rows in
+    omega (arith, quantity, within)
 
 -- what holds of each row without its cursor
 all_at_first : (P : OfCustomer Order → Type 0) (rows : List (OfCustomer Order))
@@ -227,5 +239,12 @@ module _ {owners : Ownership} {t : Tables} (sound : IsSound owners t) (c name : 
             (found_same t.orders (with_row order_cmp (moved n o) t.orders) orders_same customer
             called) (grows.orders customer called);
         given = grows.given;
+        entries = grows.entries;
+        places = λ within customer called. filled_again
+            (places_taken called (rows_of customer t.devices)) (order_at customer called t)
+            (order_at customer called (with_order (moved n o) t))
+            (found_same t.orders (with_row order_cmp (moved n o) t.orders) orders_same customer
+            called) (grows.places within customer called);
+        ends = grows.ends;
       } in
       subst (Grows before) (sym placed_there) kept

@@ -21,6 +21,11 @@ pub identifies_unnumbered : (state : DeviceState) → is_one_of identified_from 
     → (state_row state).may_have_serial ≡ false
 identifies_unnumbered state may = grind arith
 
+-- and it hasn't left its order
+pub identifies_in_order : (state : DeviceState) → is_one_of identified_from state ≡ true
+    → (state_row state).is_given_up ≡ false
+identifies_in_order state may = grind arith
+
 module _ (m : Map) (is : IsMap m) (d : Device) where
   -- nothing is pending of it in a later state
   stays_idle : (state : DeviceState) → (state_row state).pending ≡ (state_row d.state).pending

@@ -3,7 +3,7 @@ use Rattle.std.proofs.Common.{◌≡◌, ◌==◌, ◌∷◌}
 use Rattle.text_core.proofs.Kit.{ℕ, arith, true, false, List, [], Option, Some, None, refl, sym, ◌∙◌, subst, bytes_eq, find, IfSome}
 use Rattle.text_core.proofs.Kit.{ap, is_some, AllByRecursion, and_parts, and_from, nat_tests, same_text, text_itself}
 use Rattle.site_core.specs.Prelude.{Ownership}
-use Rattle.id_ranges.specs.Prelude.{serial_text}
+use Rattle.id_ranges.specs.Prelude.{no_end, serial_text}
 use Rattle.office_laws.proofs.Types.{OfCustomer, Given, Order}
 use Rattle.office_tables.specs.Prelude.{Tables, IsAddressFree, given_at, given_by_key, given_cmp, has_address, is_address, is_bound, is_serial_of, with_row}
 use Rattle.office_tables.specs.Prelude.{with_given}
@@ -108,13 +108,18 @@ module _ {owners : Ownership} {t : Tables} (sound : IsSound owners t) (g : OfCus
 
 -- a record under a serial number that nobody has, after what kept all
 pub given_grows : (before t : Tables) (g : OfCustomer Given)
-    → given_at g.row.issuer g.row.serial t ≡ None → Grows before t → Grows before (with_given g t)
-given_grows before t g new grows = record {
+    → given_at g.row.issuer g.row.serial t ≡ None → g.row.not_after ≡ no_end → Grows before t
+    → Grows before (with_given g t)
+given_grows before t g new no_end_of grows = record {
   devices = grows.devices;
   maps = grows.maps;
   orders = grows.orders;
   given = λ issuer serial. by issuer serial (given_at issuer serial before)
       (grows.given issuer serial);
+  entries = grows.entries;
+  places = grows.places;
+  ends = λ none. all_placed (λ (g : OfCustomer Given). g.row.not_after ≡ no_end) given_cmp g t.given
+      no_end_of (grows.ends none);
 }
   where
     by : (issuer serial : List ℕ) (found : Option (OfCustomer Given))

@@ -15,7 +15,7 @@ use Rattle.office_rules.specs.Prelude.{identified_from, Effect, step_of_identity
 use Rattle.office_rules.specs.Prelude.{is_taken, its, map_named, map_text, next_of, office_sight}
 use Rattle.office_laws.specs.Prelude.{IsSound, IsIssuedBelow, SerialIsOfIdentified, IsRecordOf}
 use Rattle.office_laws.proofs.CursorLaws.{cursor_grows, cursor_sound}
-use Rattle.office_laws.proofs.End.{identifies_unnumbered, identity_keeps}
+use Rattle.office_laws.proofs.End.{identifies_in_order, identifies_unnumbered, identity_keeps}
 use Rattle.office_laws.proofs.GivenLaws.{given_found, given_grows, given_sound}
 use Rattle.office_laws.proofs.Growing.{grows_itself}
 use Rattle.office_laws.proofs.Identity.{identity_found, identity_free, next_least, numbered_effect}
@@ -101,7 +101,7 @@ module _ {owners : Ownership} {t : Tables} (sound : IsSound owners t) (s : Secti
               still_given (given_at o.row.issuer text t)
               (find (is_serial_of o.row.issuer text) (with_row given_cmp g t.given))
               (given_below n low before)
-              ((given_grows t t g not_given (grows_itself t)).given o.row.issuer text)
+              ((given_grows t t g not_given refl (grows_itself t)).given o.row.issuer text)
           | inr past ↦
               let same : n ≡ next.0 = omega (arith, past, high) in
               let found : find (is_serial_of o.row.issuer next.1) (with_row given_cmp g t.given)
@@ -132,7 +132,7 @@ module _ {owners : Ownership} {t : Tables} (sound : IsSound owners t) (s : Secti
           sound = cursor_sound sound_given s.name o.row.name o (next.0 + 1) order_stands
               (omega (arith, least.has.0)) (omega (arith, least.has.1)) below;
           grows = cursor_grows sound_given s.name o.row.name o (next.0 + 1) order_stands t
-              (given_grows t (stepped s seat t step id) g not_given one.grows);
+              (given_grows t (stepped s seat t step id) g not_given refl one.grows);
         }
 
     keeps : Keeps m old.row step
@@ -147,7 +147,8 @@ module _ {owners : Ownership} {t : Tables} (sound : IsSound owners t) (s : Secti
         let change = step_made s seat t step first step_is in
         let id = change.0 in
         let same : first ≡ stepped s seat t step id = change.2 in
-        let one = step_kept sound s section seat is_seat n.chip old m step id there known keeps change.1 in
+        let one = step_kept sound s section seat is_seat n.chip old m step id there known keeps
+        (λ up. let none = identifies_in_order old.row.state may in cc (none, up)) change.1 in
         let free : IsAddressFree g.row.mac t.given =
         subst (IsAddressFree g.row.mac) (ap (λ (x : Tables). x.given) same) free in
         lasts_named (last ∙ (number_is ∙ ap (λ x. with_cursor cursor (with_given g x)) same))

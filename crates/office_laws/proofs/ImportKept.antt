@@ -81,7 +81,7 @@ module _ (owners : Ownership) (s : Section) (issuer : List ℕ) (before : Tables
                   (given_with s.name issuer r t new unbound)
                   (all_last rs (with_given g t)
                   (given_sound sound g mine new unbound tt (refl, refl))
-                  (given_grows before t g new grows)))
+                  (given_grows before t g new refl grows)))
             ] refl
       ] refl
 

@@ -11,6 +11,7 @@ mod DevicePages
 mod DeviceRows
 pub mod End
 mod Existing
+mod Filling
 pub mod Fresh
 pub mod GivenLaws
 pub mod Giving

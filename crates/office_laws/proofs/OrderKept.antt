@@ -64,5 +64,5 @@ module _ {owners : Ownership} {t : Tables} (sound : IsSound owners t) (apart : P
             (wanted_in_pool owners s section t n))
             (subst (λ (o : Order). AllByRecursion (λ other. AreDisjoint o other.row) t.orders)
             same (wanted_apart owners apart s section t n sound.orders.in_pools)) new refl;
-        grows = order_grows t (its s w) new;
+        grows = order_grows t (its s w) new sound.references;
       })

@@ -1,25 +1,33 @@
 -- A step of a device keeps the tables sound, and forgets nothing that was burnt.
-use Rattle.std.proofs.Common.{◌≡◌, ◌+◌, ◌∙◌, ◌++◌, ℕ, List, [], ◌∷◌, Option, Some, None, refl, sym, ap, subst, bytes_eq, option_and_then, option_map}
+use Rattle.std.proofs.Common.{◌≡◌, ◌+◌, ◌∙◌, ◌++◌, true, ℕ, List, [], ◌∷◌, Option, Some, None, refl, sym, ap, subst, bytes_eq, option_and_then, option_map}
+use Rattle.std.specs.List.{AllByRecursion}
 use Rattle.std.proofs.lemmas.Bool.{and_parts}
 use Rattle.text_core.specs.Prelude.{first_that_holds}
-use Rattle.text_core.proofs.Kit.{same_text}
+use Rattle.text_core.proofs.Kit.{arith, same_text}
 use Rattle.fusemap_core.specs.Prelude.{Map}
 use Rattle.site_core.specs.Prelude.{IsSection, Ownership, Section}
 use Rattle.office_laws.proofs.Types.{Device, Entry, NewEntry, OfCustomer, Action, DeviceStep}
-use Rattle.office_tables.specs.Prelude.{Tables, device_at, entry_under, entry_with, is_device, last_number, with_device, with_new_entry}
+use Rattle.office_tables.specs.Prelude.{Tables, device_at, entry_under, entry_with, is_device, last_number, state_row, with_device, with_new_entry}
 use Rattle.office_commands.specs.Prelude.{IsAction}
 use Rattle.office_rules.specs.Prelude.{action_refusals, rule_of, Effect, entry_of, step_effect, step_put, MakesPut, MakesPuts, its, map_named, map_text}
 use Rattle.office_rules.specs.Prelude.{office_sight, Sight, device_in_sight, map_in_sight, step_refusals}
 use Rattle.office_rules.proofs.Sights.{entry_same, map_same}
 use Rattle.office_laws.specs.Prelude.{DeviceStays, IsSound, FitsFuseMap, IsReferred, SerialIsOfIdentified}
-use Rattle.office_laws.proofs.Actions.{action_keeps}
+use Rattle.office_laws.proofs.Actions.{action_keeps, stays_given_up}
+use Rattle.office_laws.proofs.Appended.{IsAbove, all_below}
 use Rattle.office_laws.proofs.DeviceLaws.{next_ledger, step_sound}
+use Rattle.office_laws.proofs.Filling.{filled_by_step}
 use Rattle.office_laws.proofs.Growing.{device_grows, stays_known}
 use Rattle.office_laws.proofs.Lasting.{Lasts, lasts_named}
 use Rattle.office_laws.proofs.Looking.{device_seen, gave, puts_of}
 use Rattle.office_laws.proofs.Readings.{find_holds}
 use Rattle.office_laws.proofs.Registration.{found_is_map}
 use Rattle.office_laws.proofs.Keeping.{Keeps}
+
+-- the number of a device's next entry is above those that its ledger has
+pub numbers_below : (s : Section) (t : Tables) (chip : List ℕ)
+    → AllByRecursion (IsAbove s.name chip (last_number s.name chip t + 1)) t.ledger
+numbers_below s t chip = all_below s.name chip t.ledger (last_number s.name chip t + 1) (omega arith)
 
 module _ (s : Section) (seat : List ℕ) (t : Tables) where
   -- the entry of a step, and the tables with both
@@ -48,8 +56,10 @@ module _ {owners : Ownership} {t : Tables} (sound : IsSound owners t) (s : Secti
   -- a step of a device that is there
   pub step_kept : (chip : List ℕ) (old : OfCustomer Device) (m : Map) (step : DeviceStep) (id : ℕ)
       → device_at s.name chip t ≡ Some old → map_named s.name old.row.map t ≡ Some m
-      → Keeps m old.row step → entry_with id t ≡ None → Lasts owners t (stepped s seat t step id)
-  step_kept chip old m step id there known keeps fresh =
+      → Keeps m old.row step
+      → ((state_row old.row.state).is_given_up ≡ true → (state_row step.device.state).is_given_up ≡ true)
+      → entry_with id t ≡ None → Lasts owners t (stepped s seat t step id)
+  step_kept chip old m step id there known keeps stays fresh =
       let found = find_holds (IsReferred t.orders t.links) (is_device s.name chip) t.devices old
       sound.references there in
       let parts = and_parts (bytes_eq s.name old.customer) (bytes_eq chip old.row.chip) found.1 in
@@ -86,7 +96,9 @@ module _ {owners : Ownership} {t : Tables} (sound : IsSound owners t) (s : Secti
             stays_known (map_named s.name old.row.map t) m old.row step.device known keeps.order
             keeps.map keeps.burnt in
             subst (λ (o : OfCustomer Device). DeviceStays (map_named s.name o.row.map t) o.row step.device)
-            same by_map) (entry_made s seat t step) id;
+            same by_map) (entry_made s seat t step) id (numbers_below s t step.device.chip)
+            (filled_by_step t sound.devices.devices_ascending (its s step.device) old there_still owner
+            keeps.order stays);
       }
 
   -- an action of a device, where nothing refuses it
@@ -115,10 +127,11 @@ module _ {owners : Ownership} {t : Tables} (sound : IsSound owners t) (s : Secti
           (device_seen s t seat chip old m.0 there known) free in
           let numbered = find_holds SerialIsOfIdentified (is_device s.name chip) t.devices old
           sound.devices.numbered there in
-          let keeps = action_keeps m.0 (found_is_map (map_text s.name old.row.map t) m.0 known) old
-          numbered.0 a asked refused in
+          let is_map = found_is_map (map_text s.name old.row.map t) m.0 known in
+          let keeps = action_keeps m.0 is_map old numbered.0 a asked refused in
+          let stays = stays_given_up m.0 is_map old numbered.0 a asked refused in
           let step : DeviceStep = ((rule_of a).does m.0 old.row).0 in
           let puts = puts_of s t mid m.2 puts in
           let change = step_made s seat t step puts.0 puts.1 in
           lasts_named (puts.2 ∙ change.2)
-          (step_kept chip old m.0 step change.0 there known keeps change.1)
+          (step_kept chip old m.0 step change.0 there known keeps stays change.1)

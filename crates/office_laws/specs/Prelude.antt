@@ -9,7 +9,7 @@ pub use Rattle.office_laws.specs.Fresh.{order_of_record}
 pub use Rattle.office_laws.specs.Gifts.{AreGifts, AreNotImported, identity_of_command}
 pub use Rattle.office_laws.specs.Gifts.{identity_wanted, is_new_identity, IsGift, IssuesFresh}
 pub use Rattle.office_laws.specs.Gifts.{IssuesOnce}
-pub use Rattle.office_laws.specs.Grows.{DeviceStays, Grows}
+pub use Rattle.office_laws.specs.Grows.{AreWithinQuantities, DeviceStays, Grows}
 pub use Rattle.office_laws.specs.Growth.{AreSeats, CanAsk, IsSeat}
 pub use Rattle.office_laws.specs.LawfulRuns.{EndAlike, exchange_of_step, IsCut, SeatRun, SeatStep}
 pub use Rattle.office_laws.specs.LawfulRuns.{ShowAlike, StartAlike, StepsAlike}

@@ -10,8 +10,9 @@ use Rattle.office_laws.specs.Gifts.{IssuesOnce}
 use Rattle.office_laws.specs.Once.{ActsOnce}
 
 -- The tables are sound. Each customer's replies and rows are those of the customer's own machine,
--- run on the customer's own calls alone. Nothing that was burnt is forgotten, and what is given
--- stays. No identity gives what another gave, and a request that comes again acts once.
+-- run on the customer's own calls alone. Nothing that was burnt is forgotten, what is given stays,
+-- and no order gets more devices than it is for. No identity gives what another gave, and a request
+-- that comes again acts once.
 pub record Promises (site : Ownership) (xs : List Exchange) (t t2 : Tables) : Type 0 where
   pub sound : IsSound site t2
   pub isolated : (customer : List ℕ) → IsIsolated customer xs t t2

@@ -11,10 +11,11 @@
 //!   it. The step leaves each other customer's view, and keeps the tables sound. Nothing goes that
 //!   must stay (`Grows`). Each device is still there, in its order and with its fuse map, and each
 //!   position and key digest that was known to be burnt is known still. Each order is still there,
-//!   and but for its cursor as it was, and each record of a serial number stands unchanged. An
-//!   identity that isn't a repeat and is answered 200 shows a record of its key, which stands then
-//!   (`fresh`). The record's serial number was given to nobody in its issuer, and none of its
-//!   addresses is that of another record (`IssuesFresh`).
+//!   and but for its cursor as it was. Each record of a serial number stands unchanged, and so does
+//!   each entry of a ledger. No order gets more devices than it is for, and no record an end of its
+//!   validity, where none had any. An identity that isn't a repeat and is answered 200 shows a
+//!   record of its key, which stands then (`fresh`). The record's serial number was given to nobody
+//!   in its issuer, and none of its addresses is that of another record (`IssuesFresh`).
 //! - `a_batch_matches_where_it_is_seen`: a read-back of a device of sound tables, whose words fit
 //!   its map, matches exactly where the chip shows what it would with the whole batch burnt that is
 //!   burnt next (`verdict`). The reply to one that isn't a repeat and is answered 200 tells a match

@@ -16,8 +16,8 @@ ghost use Rattle.office_laws.specs.Prelude.{Session, StartAlike};
 /// - `sound`: the tables stay sound.
 /// - `isolated`: each customer's replies and rows are those of the customer's own machine, run on
 ///   the customer's own calls alone.
-/// - `grows`: nothing that was burnt is forgotten, an order stays but for its cursor, and what is
-///   given stays.
+/// - `grows`: nothing that was burnt is forgotten, an order stays but for its cursor, what is given
+///   and each entry of a ledger stays, and no order gets more devices than it is for.
 pub fn runs_are_the_customers_own()
     ensures sound { (r : SeatRun) → IsSound r.last r.new }
     ensures isolated { (r : SeatRun) (customer : List ℕ)

@@ -89,15 +89,15 @@ claims_read = record { names = _; is = refl; plain = (refl, refl); unlisted = re
 -- what is read of the rows that it shows
 pub claims_shown : (customer : List ℕ) (db : Database) → IsOffice db → (rows : List Row)
     → Scanned own_test claim_shown (by_key (1 ∷ 2 ∷ [])) (Words customer ∷ []) (rows_in db.trees orders) rows
-    → map claim_in rows ≡ map claim_of (filter (is_of customer) (tables_in db.trees).orders)
+    → map claim_in rows ≡ map (λ o. claim_of o.row) (filter (is_of customer) (tables_in db.trees).orders)
 claims_shown customer db office rows s =
     let params : Row = Words customer ∷ [] in
     let passed : (r : Row) → IsOrderRow r → passes own_test params r ≡ is_of customer (order_in_row r) =
     λ r e. and-true _ ∙ text_is (column r 1) customer e.0 in
-    shows_parts as_orders (is_of customer) own_test params passed claim_shown claim_in claim_of (λ r. refl) (λ a b. refl)
+    shows_parts as_orders (is_of customer) own_test params passed claim_shown claim_in (λ o. claim_of o.row) (λ r. refl) (λ a b. refl)
     (rows_in db.trees orders) rows (office.rows orders) s
-    ∙ parts_kept as_orders (is_of customer) own_test params passed claim_of (with_order_not_before (rows_in db.trees order_starts)) (λ o. refl) (λ o. refl)
-    (in_order as_orders (rows_in db.trees orders))
+    ∙ parts_kept as_orders (is_of customer) own_test params passed (λ o. claim_of o.row)
+    (with_order_not_before (rows_in db.trees order_starts)) (λ o. refl) (λ o. refl) (in_order as_orders (rows_in db.trees orders))
 
 -- orders have one key where their customers and their names are equal
 pub order_tied : (x y : OfCustomer Order) → is_eq (order_cmp x y) ≡ is_order x.customer x.row.name y

@@ -7,7 +7,7 @@ use id_ranges::Mac;
 use sqlite::Error;
 use std::alloc::Global;
 
-// The address as `Mac` prints it, which is read back as it was, since its value is below 2^48.
+/// The address as `Mac` prints it, which is read back as it was, since its value is below 2^48.
 #[tactic(auto, using(id_ranges::proofs::MacTexts::mac_read_back))]
 pub(crate) fn mac_text(alloc: Global, mac: Mac) -> Result<String, Error>
     ensures is { IfOk result (λ text. string_bytes text ≡ spec.mac_text mac) }
@@ -16,6 +16,7 @@ pub(crate) fn mac_text(alloc: Global, mac: Mac) -> Result<String, Error>
     Ok(Mac::new(mac.value()).to_string(alloc)?)
 }
 
+/// The text of an address as a column has it, none where there is none. Fails where memory runs out.
 pub(crate) fn address_text(alloc: Global, mac: Option<Mac>) -> Result<Option<String>, Error>
     ensures is { IfOk result (λ text. option_map (λ t. string_bytes t) text
         ≡ option_map spec.mac_text mac) }

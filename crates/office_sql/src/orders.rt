@@ -187,7 +187,7 @@ pub fn visit_claims<S: Alter, K: Sink<OrderClaim>>(
 ) -> Result<(), Error>
     requires { HasOffice (state S.Store conn.old) }
     ensures { SqlReads S.Store conn.old conn.new result (λ t _.
-        Visits K.takes sink.old (map claim_of (filter (is_of customer.now) t.orders)) sink.new) }
+        Visits K.takes sink.old (map (λ o. claim_of o.row) (filter (is_of customer.now) t.orders)) sink.new) }
 {
     visit_rows::<S, OrderClaim, K>(conn, SELECT_CLAIMS, params![customer.as_str()], sink)
 }

@@ -14,6 +14,7 @@ use text_core::{Chip, Digest, Name, Serial, ShortBytes, Text, Time};
 /// The fault of a column that isn't of its form.
 pub const DAMAGED: Error = Error::SqliteFailure(ErrorCode::DatabaseCorrupt);
 
+/// A text. `DAMAGED`, as of each function here, where the column has none of that form.
 pub(crate) fn text_at(row: &Row, at: usize) -> Result<&str, Error>
     ensures { IfOk result (λ text. text.now ≡ bytes (column row.now at)) }
 {
@@ -23,6 +24,7 @@ pub(crate) fn text_at(row: &Row, at: usize) -> Result<&str, Error>
     }
 }
 
+/// A text, or none where the column is NULL.
 pub(crate) fn text_if_at(row: &Row, at: usize) -> Result<Option<&str>, Error>
     ensures { IfOk result (λ text. option_map (λ t. t.now) text ≡ text_if (column row.now at)) }
 {
@@ -49,6 +51,7 @@ pub fn whole_at(row: &Row, at: usize) -> Result<u64, Error>
     row.get(at)
 }
 
+/// A text that is copied out of the row. Fails where memory runs out.
 pub(crate) fn owned_text_at(alloc: Global, row: &Row, at: usize) -> Result<Text, Error>
     ensures { IfOk result (λ text. text ≡ bytes (column row.now at)) }
 {
@@ -56,24 +59,28 @@ pub(crate) fn owned_text_at(alloc: Global, row: &Row, at: usize) -> Result<Text,
     Text::copy_of(alloc, text).map_err(|_| Error::SqliteFailure(ErrorCode::OutOfMemory))
 }
 
+/// A name.
 pub(crate) fn name_at(row: &Row, at: usize) -> Result<Name, Error>
     ensures { IfOk result (λ name. name ≡ bytes (column row.now at)) }
 {
     Name::parse(text_at(row, at)?).ok_or(DAMAGED)
 }
 
+/// The identification of a chip.
 pub(crate) fn chip_at(row: &Row, at: usize) -> Result<Chip, Error>
     ensures { IfOk result (λ chip. chip ≡ bytes (column row.now at)) }
 {
     Chip::parse(text_at(row, at)?).ok_or(DAMAGED)
 }
 
+/// A serial number.
 pub(crate) fn serial_at(row: &Row, at: usize) -> Result<Serial, Error>
     ensures { IfOk result (λ serial. serial ≡ bytes (column row.now at)) }
 {
     Serial::parse(text_at(row, at)?).ok_or(DAMAGED)
 }
 
+/// A moment, as records have it.
 pub(crate) fn time_at(row: &Row, at: usize) -> Result<Time, Error>
     ensures { IfOk result (λ time. time ≡ bytes (column row.now at)) }
 {
@@ -93,18 +100,21 @@ pub fn digest_at(row: &Row, at: usize) -> Result<Digest, Error>
     Ok(Digest::from_bytes(bytes_at(row, at)?))
 }
 
+/// The digest of a key.
 pub(crate) fn key_at(row: &Row, at: usize) -> Result<KeyDigest, Error>
     ensures { IfOk result (λ key. key ≡ bytes (column row.now at)) }
 {
     Ok(KeyDigest::from_bytes(bytes_at(row, at)?))
 }
 
+/// At most `N` bytes.
 pub(crate) fn column_at<const N: usize>(row: &Row, at: usize) -> Result<ShortBytes<N>, Error>
     ensures { IfOk result (λ list. list ≡ bytes (column row.now at)) }
 {
     ShortBytes::from_bytes(blob_at(row, at)?).ok_or(DAMAGED)
 }
 
+/// The identification of a chip, or none where the column is NULL.
 pub(crate) fn chip_if_at(row: &Row, at: usize) -> Result<Option<Chip>, Error>
     ensures { IfOk result (λ chip. chip ≡ text_if (column row.now at)) }
 {
@@ -114,6 +124,7 @@ pub(crate) fn chip_if_at(row: &Row, at: usize) -> Result<Option<Chip>, Error>
     }
 }
 
+/// A serial number, or none where the column is NULL.
 pub(crate) fn serial_if_at(row: &Row, at: usize) -> Result<Option<Serial>, Error>
     ensures { IfOk result (λ serial. serial ≡ text_if (column row.now at)) }
 {
@@ -123,6 +134,7 @@ pub(crate) fn serial_if_at(row: &Row, at: usize) -> Result<Option<Serial>, Error
     }
 }
 
+/// An address, or none where the column is NULL.
 pub(crate) fn mac_if_at(row: &Row, at: usize) -> Result<Option<Mac>, Error>
     ensures { IfOk result (λ mac. mac ≡ mac_if (column row.now at)) }
 {
@@ -132,6 +144,7 @@ pub(crate) fn mac_if_at(row: &Row, at: usize) -> Result<Option<Mac>, Error>
     }
 }
 
+/// A beginning of validity, or none where the column is NULL.
 pub(crate) fn not_before_if_at(row: &Row, at: usize) -> Result<Option<NotBefore>, Error>
     ensures { IfOk result (λ not_before. not_before ≡ text_if (column row.now at)) }
 {

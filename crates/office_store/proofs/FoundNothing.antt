@@ -1,25 +1,26 @@
 -- A database without tables has nothing, one of a version with the number 1 no validity rows, and one without rows what its version has without them.
-use Rattle.std.proofs.Common.{◌≡◌, ℕ, ◌≢◌, ◌==◌, Bool, true, false, true≢false, List, [], map, refl, ap, subst, sym, ◌∙◌, inl, inr, Ordering, arith}
+use Rattle.std.proofs.Common.{◌≡◌, ◌<◌, ℕ, ◌≢◌, ◌==◌, Bool, true, false, true≢false, List, [], map, refl, ap, subst, sym, ◌∙◌, inl, inr, Ordering, arith}
 use Rattle.std.specs.List.{list_any}
 use Rattle.office_sql.proofs.Kit.{Row, Trees, IsShaped, IsOrdered, Shape, catalog_tree, version_tree, IsListed, IsSound, named_tree, sort_by, Index, Schema}
-use Rattle.office_sql.proofs.Kit.{Database, IsDatabase, Table, Has, some_from}
+use Rattle.office_sql.proofs.Kit.{Database, Table, Has, some_from}
 use Rattle.sqlite_trees.specs.declared.store.Shape.TheVariants as shape
 use Rattle.office_tables.specs.Prelude.{no_rows, seat_cmp, order_cmp, map_cmp, link_cmp, device_cmp, given_cmp, entry_cmp}
 use Rattle.office_sql.proofs.Names.{tree_low}
 use Rattle.office_sql.specs.Prelude.{OfficeTable, meta, seats, maps, links, orders, devices, given, ledger, order_starts, given_starts, site_texts, no_schema}
-use Rattle.office_sql.specs.Prelude.{rows_in, tree_of, seat_in_row, map_in_row, link_in_row, order_in_row, device_in_row, given_in_row, entry_in_row}
-use Rattle.office_sql.specs.Prelude.{with_order_not_before, with_given_not_before, AreOfficeRows, AreRows, HaveOneValidityRow, IsOffice, office_schema}
-use Rattle.office_sql.specs.Prelude.{is_validity_of_given, is_validity_of_order, tables_in}
+use Rattle.office_sql.specs.Prelude.{place_of, rows_in, tree_of, seat_in_row, map_in_row, link_in_row, order_in_row, device_in_row, given_in_row, entry_in_row}
+use Rattle.office_sql.specs.Prelude.{with_order_not_before, with_given_not_before, AreOfficeRows, AreRows, HaveOneValidityRow}
+use Rattle.office_sql.specs.Prelude.{is_validity_of_given, is_validity_of_order}
 use Rattle.office_store.proofs.Types.{Version, V1a, V1b, V1, V2, V3}
 use Rattle.office_store.specs.Prelude.{HasNothing}
-use Rattle.store_inspection.specs.Prelude.{HasOneValidityRowEach, AreValidityRowsFound, HasNoValidityRow, meta_in, number_of_version, schema_of}
+use Rattle.office_store.proofs.Counts.{at_first, first_eight, tables_at}
+use Rattle.store_inspection.specs.Prelude.{HasOneValidityRowEach, AreValidityRowsFound, HasNoValidityRow, meta_in, number_of_version, rows_at, schema_of}
 
 no_row : {A : Type 0} (Typed : Row → Type 0) (cmp : A → A → Ordering) (value : Row → A) (rows : List Row) → rows ≡ [] → AreRows Typed cmp value rows
 no_row Typed cmp value rows none = subst (AreRows Typed cmp value) (sym none) (record { rising = tt; numbered = tt; typed = tt; keyed = tt })
 
--- tables without a row, but for those by which a store tells of itself
+-- the first version's tables without a row, but for that by which a store tells of itself
 abbrev pub HasNoRow : Trees → Type 0
-HasNoRow db = (table : OfficeTable) → table ≢ meta → table ≢ site_texts → rows_in db table ≡ []
+HasNoRow db = (table : OfficeTable) → place_of table < 8 → table ≢ meta → rows_in db table ≡ []
 
 -- trees without a row have the office's rows
 pub no_office_rows : (db : Trees) → HasNoRow db → AreOfficeRows db
@@ -27,23 +28,26 @@ no_office_rows db none meta = tt
 no_office_rows db none order_starts = tt
 no_office_rows db none given_starts = tt
 no_office_rows db none site_texts = tt
-no_office_rows db none table = no_row _ _ _ _ (none table (λ e. cc) (λ e. cc))
+no_office_rows db none table = no_row _ _ _ _ (none table (omega arith) (λ e. cc))
 
--- trees without a row are the tables of an office without a row
-pub no_rows_in : (db : Trees) → HasNoRow db → tables_in db ≡ no_rows
-no_rows_in db none i = record {
-  seats = sort_by seat_cmp (map seat_in_row (none seats (λ e. cc) (λ e. cc) i));
-  orders = map (with_order_not_before (rows_in db order_starts)) (sort_by order_cmp (map order_in_row (none orders (λ e. cc) (λ e. cc) i)));
-  devices = sort_by device_cmp (map device_in_row (none devices (λ e. cc) (λ e. cc) i));
-  given = map (with_given_not_before (rows_in db given_starts)) (sort_by given_cmp (map given_in_row (none given (λ e. cc) (λ e. cc) i)));
-  maps = sort_by map_cmp (map map_in_row (none maps (λ e. cc) (λ e. cc) i));
-  links = sort_by link_cmp (map link_in_row (none links (λ e. cc) (λ e. cc) i));
-  ledger = sort_by entry_cmp (map entry_in_row (none ledger (λ e. cc) (λ e. cc) i));
+-- they are the tables of an office without a row, also of a version
+pub no_rows_at : (version : Version) (db : Trees) → HasNoRow db → tables_at version db ≡ no_rows
+no_rows_at version db none i = record {
+  seats = sort_by seat_cmp (map seat_in_row (gone seats (omega arith) (λ e. cc) i));
+  orders = map (with_order_not_before (rows_at version db order_starts)) (sort_by order_cmp (map order_in_row (gone orders (omega arith) (λ e. cc) i)));
+  devices = sort_by device_cmp (map device_in_row (gone devices (omega arith) (λ e. cc) i));
+  given = map (with_given_not_before (rows_at version db given_starts)) (sort_by given_cmp (map given_in_row (gone given (omega arith) (λ e. cc) i)));
+  maps = sort_by map_cmp (map map_in_row (gone maps (omega arith) (λ e. cc) i));
+  links = sort_by link_cmp (map link_in_row (gone links (omega arith) (λ e. cc) i));
+  ledger = sort_by entry_cmp (map entry_in_row (gone ledger (omega arith) (λ e. cc) i));
 }
+  where
+    gone : (table : OfficeTable) → place_of table < 8 → table ≢ meta → rows_at version db table ≡ []
+    gone table low other = at_first version db table (omega (arith, low, first_eight version)) ∙ none table low other
 
 -- trees in which no table has a row have nothing, what the store tells of itself among it
 pub has_nothing : (db : Trees) → ((table : OfficeTable) → rows_in db table ≡ []) → HasNothing db
-has_nothing db none = record { tables = no_rows_in db (λ table _ _. none table); silent = ap (map meta_in) (none meta) }
+has_nothing db none = record { tables = no_rows_at V3 db (λ table _ _. none table); silent = ap (map meta_in) (none meta) }
 
 -- trees without rows have no validity rows that lack
 pub no_validity_rows : {A : Type 0} (is_for : A → Row → Bool) (value : Row → A) (rows validities : List Row)
@@ -59,16 +63,6 @@ no_validity_rows is_for value rows validities no_row none =
       one = tt;
       for_one = tt;
     }))
-
--- an office whose tables have no row, but for those by which it tells of itself
-pub empty_office : (db : Database) → db.schema ≡ office_schema → IsDatabase db → HasNoRow db.trees → IsOffice db
-empty_office db schema sound none = record {
-  schema = schema;
-  sound = sound;
-  rows = no_office_rows db.trees none;
-  order_validity = no_validity_rows is_validity_of_order order_in_row _ _ (none orders (λ e. cc) (λ e. cc)) (none order_starts (λ e. cc) (λ e. cc));
-  given_validity = no_validity_rows is_validity_of_given given_in_row _ _ (none given (λ e. cc) (λ e. cc)) (none given_starts (λ e. cc) (λ e. cc));
-}
 
 -- in tables without a row beginnings of validity are as each version has them
 pub none_found : (version : Version) (db : Database) → ((table : OfficeTable) → rows_in db.trees table ≡ []) → AreValidityRowsFound version db

@@ -1,3 +1,4 @@
+mod Running
 mod Creates
 mod Changing
 mod FoundOffice
@@ -8,14 +9,11 @@ mod FoundVersion
 mod AddressKept
 mod CreateSteps
 mod CreateTables
-mod CreateRow
 mod Counts
 mod ValidityFilled
 mod Told
-mod Steps
-mod Raising
-mod Upgrades
-mod UpgradeMeta
+mod Raised
+mod Brought
 mod Refusals
 mod Preparing
 mod Telling

@@ -6,13 +6,16 @@ use Rattle.office_sql.proofs.Kit.{Database, Held, state, State, HasCleanDisk, Is
 use Rattle.sqlite.specs.Store.{Ghosts}
 use Rattle.office_tables.specs.Prelude.{Tables}
 use Rattle.office_sql.specs.Prelude.{IsUndone, no_schema, IsOffice, office_over, tables_in}
+use Rattle.office_store.specs.declared.bring.Found.{Found}
+use Rattle.office_store.specs.declared.bring.Found.TheVariants.{Nothing, Earlier, Today}
 use Rattle.office_store.proofs.Types.{Absent, Make, Refuse, OpenFault, Failed, Version, V1, V3}
-use Rattle.office_store.specs.Prelude.{AreWithoutNotBefore, CanPrepareTables, CanTake, Examines, IsApartAt, IsFoundAt, IsGrowable, IsOtherSchema, IsRefusedFor}
-use Rattle.office_store.specs.Prelude.{IsPreparedFor, IsTakenFor, LeavesAtMost, PreparesTables, StaysWithoutNotBefore, TakesGrowth, TakesOwn, HasGrown, IsGrown}
-use Rattle.office_store.specs.Prelude.{IsBegun, IsCreated, HasSchema, IsNoStore, IsStore, IsTaken, LacksStore, IsGrownFrom, IsUntouched, IsUpgrade, IsUpgraded}
+use Rattle.office_store.specs.Prelude.{AreWithoutNotBefore, Brings, CanBring, CanTake, Examines, IsApartAt, IsFoundAt, IsGrowable, IsOtherSchema, IsRefusedFor}
+use Rattle.office_store.specs.Prelude.{IsPreparedFor, IsPreparedFrom, IsTakenFor, LeavesAtMost, PreparesTables, StaysWithoutNotBefore, TakesGrowth, TakesOwn}
+use Rattle.office_store.specs.Prelude.{IsBrought, HasSchema, IsNoStore, IsStore, IsTaken, LacksStore, IsGrownFrom, IsUntouched}
 use Rattle.store_inspection.specs.Prelude.{HasApartAddresses, IsFound, Tests, HoldsSite, HasMeta, HoldsSiteText, schema_of}
 use Rattle.office_sql.proofs.Asked.{was_clean}
 use Rattle.office_store.proofs.FoundValidity.{office_of, without_not_before_of}
+use Rattle.office_store.proofs.Brought.{office_brought}
 use Rattle.office_store.proofs.AddressKept.{apart_grown, apart_if_none, apart_upgraded}
 use Rattle.office_store.proofs.Telling.{not_silent, not_v3, site_once}
 use Rattle.store_inspection.proofs.TextShows.{one_text}
@@ -80,191 +83,118 @@ taken_none : (absent : Absent) (db : Database) → db.schema ≡ no_schema → I
 taken_none Make db bare none has = inl none
 taken_none Refuse db bare none has = absurd (has (refl, bare))
 
--- what making tables may leave: the tables of a store that had none
-leaves_made : (site : TextOfSite) (old new : State) → CanPrepareTables old → old.now.schema ≡ no_schema
-    → Survives old new (λ trees. IsTrue old.is_open × IsBegun site.text (office_over trees))
-    → Survives old new (IsPreparedFor site old)
-leaves_made site old new can bare survives = survives_weaker _ _ _ _ (λ clean db begun.
-    let calm = was_clean _ _ _ survives clean in
-    inl (subst (λ (d : Database). IsNoStore d.trees) (can.shows_committed calm) (can.bare calm bare), begun.1)) survives
+-- a store of the third version is taken with the tables that it has
+taken_again : (site : TextOfSite) (before now : Trees) → CanTake site.site before → HoldsSite site.text now → HasApartAddresses now
+    → tables_in now ≡ tables_in before → IsTakenFor site before now
+taken_again site before now take tells apart tables = record {
+  tells = tells;
+  grown = takes site.site before take;
+  own = never_earlier site.text take.0 before take.1;
+  apart = apart;
+  tables = tables;
+  without_not_before = never_first take.0 before (tables_in now) take.1;
+}
 
--- what an upgrade may leave: the tables of the store, upgraded
-leaves_upgraded : (site : TextOfSite) (version : Version) (old new : State) → version ≢ V3
-    → IsFoundAt version old → (HasCleanDisk old → HasMeta version (sha256 site.text) old.now.trees)
-    → Survives old new (λ trees. IsTrue old.is_open × IsUpgrade version site.text old.now.trees (office_over trees))
-    → Survives old new (IsPreparedFor site old)
-leaves_upgraded site version old new earlier found told survives = survives_weaker _ _ _ _ (λ clean db made.
-    let calm = was_clean _ _ _ survives clean in
-    let same = ap (λ (d : Database). d.trees) (found.shows_committed calm) in
-    inr (inl (
-      version,
-      earlier,
-      subst (HasSchema (schema_of version)) same (lists_schema version old.now (found.found calm)),
-      subst (HasMeta version (sha256 site.text))
-          same (told calm),
-      subst (λ t.
-          IsUpgrade version site.text t (office_over db)) same made.1,
-    ))) survives
+-- what is known of a database that can be brought to a text: its schema is the office's or none, it was a store or there is none yet,
+-- and what it is brought to is taken, and what the one transaction makes
+record IsKnown (found : Found) (site : TextOfSite) (x : Database) : Type 0 where
+  ours : ¬ IsOtherSchema x.schema
+  was : (absent : Absent) → ¬ LacksStore absent x → IsTaken absent x.trees
+  takes : (z : Database) → Brings found site.text x.trees z → IsTakenFor site x.trees z.trees
+  leaves : (db : Trees) → Brings found site.text x.trees (office_over db) → IsPreparedFrom site x.trees db
 
--- what a growth may leave: the tables of the store, with the new text
-leaves_grown : (site : TextOfSite) (old new : State) → IsFoundAt V3 old → (HasCleanDisk old → IsGrowable site.site old.now)
-    → (HasCleanDisk old → ¬ HoldsSiteText site.text old.now.trees)
-    → Survives old new (λ trees. IsTrue old.is_open × IsGrown site.text old.now.trees (office_over trees))
-    → Survives old new (IsPreparedFor site old)
-leaves_grown site old new found can other survives = survives_weaker _ _ _ _ (λ clean db made.
-    let calm = was_clean _ _ _ survives clean in
-    let same = ap (λ (d : Database). d.trees) (found.shows_committed calm) in
-    inr (inr (
-      subst (HasSchema (schema_of V3)) same (lists_schema V3 old.now (found.found calm)),
-      subst (CanTake site.site) same (can calm).1,
-      subst (λ t. ¬ HoldsSiteText site.text t) same (other calm),
-      subst (λ t. IsGrown site.text t (office_over db)) same made.1,
-    ))) survives
+known : (found : Found) (site : TextOfSite) (x : Database) → CanBring found site x → IsKnown found site x
+known Nothing site x can = record {
+  ours = λ other. other.0 can.0;
+  was = λ absent has. taken_none absent x can.0 can.1 has;
+  takes = λ z begun.
+      let none = can.1.nothing in
+      let fresh = begun.fresh in
+      record {
+        tells = fresh.tells;
+        grown = λ older tells. absurd (not_silent V3 (sha256 older) x.trees none.silent tells.named);
+        own = λ version other earlier told. absurd (not_silent version other x.trees none.silent told);
+        apart = apart_if_none z.trees fresh.tables;
+        tables = fresh.tables ∙ sym none.tables;
+        without_not_before = λ other told. subst AreWithoutNotBefore (sym fresh.tables) (tt, tt);
+      };
+  leaves = λ db begun. inl (can.1, begun);
+}
+known (Earlier version) site x can =
+    let earlier = can.0 in
+    let found = can.1.0.0 in
+    let told = can.1.1 in
+    record {
+      ours = λ other. other.1 version found.schema;
+      was = λ absent has. taken_store absent x.trees (store_of version (sha256 site.text) x found told);
+      takes = λ z upgrade. record {
+        tells = record { holds = upgrade.holds; named = upgrade.told (sha256 site.text) told };
+        grown = λ older tells. absurd (not_v3 version (sha256 site.text) (sha256 older) x.trees earlier told tells.named);
+        own = λ version2 other earlier2 is. site_once version2 version other (sha256 site.text) x.trees is told;
+        apart = apart_upgraded version site.text x.trees z upgrade can.1.0.1;
+        tables = upgrade.tables;
+        without_not_before = λ other is. subst AreWithoutNotBefore (sym upgrade.tables)
+            (without_not_before_of version (sha256 site.text) x found earlier told other is);
+      };
+      leaves = λ db upgrade. inr (inl (version, earlier, lists_schema version x found, told, upgrade));
+    }
+known Today site x can =
+    let found = can.0.0 in
+    let take = can.1.1 in
+    record {
+      ours = λ other. other.1 V3 found.schema;
+      was = λ absent has. taken_store absent x.trees (store_of V3 (sha256 take.0) x found take.1.named);
+      takes = λ z grown. taken_again site x.trees z.trees take grown.tells (apart_grown site.text x.trees z grown can.0.1) grown.tables;
+      leaves = λ db grown. inr (inr (lists_schema V3 x found, take, can.2, grown));
+    }
 
 module _ {S : Type 0} (g : Ghosts S) (site : TextOfSite) (old new : Held S) (calm : IsTrue (state g new).is_open → HasCleanDisk (state g new)) where
-  module _ (can : CanPrepareTables (state g old)) (bare : (state g old).now.schema ≡ no_schema) (mode : new.in_transaction ≡ false)
-      (survives : Survives (state g old) (state g new) (λ trees. IsTrue (state g old).is_open × IsBegun site.text (office_over trees))) where
-    nothing : HasCleanDisk (state g new) → IsNoStore (state g old).now.trees
-    nothing clean = can.bare (was_clean _ _ _ survives clean) bare
+  module _ (found : Found) (mode : new.in_transaction ≡ false) (shows_committed : HasCleanDisk (state g old) → (state g old).now ≡ (state g old).committed)
+      (can : HasCleanDisk (state g old) → CanBring found site (state g old).now)
+      (survives : Survives (state g old) (state g new) (λ trees. IsTrue (state g old).is_open
+      × Brings found site.text (state g old).now.trees (office_over trees))) where
+    before : HasCleanDisk (state g new) → HasCleanDisk (state g old)
+    before = was_clean (state g old) (state g new) _ survives
 
-    -- the tables were made
-    pub made : (HasCleanDisk (state g new) → IsCreated site.text (state g old) (state g new)) → PreparesTables g site old new (Ok tt)
-    made created = record {
+    it : HasCleanDisk (state g new) → IsKnown found site (state g old).now
+    it clean = known found site (state g old).now (can (before clean))
+
+    left : Survives (state g old) (state g new) (IsPreparedFor site (state g old))
+    left = survives_weaker _ _ _ _ (λ clean db made.
+        subst (λ (d : Database). IsPreparedFrom site d.trees db) (shows_committed (before clean)) ((it clean).leaves db made.1)) survives
+
+    -- the database was brought to the text
+    pub brought : (HasCleanDisk (state g new) → IsBrought found site.text (state g old) (state g new)) → PreparesTables g site old new (Ok tt)
+    brought done = record {
       mode = mode;
       ready = λ clean. (
-        (created clean).is_open,
+        (done clean).is_open,
         record {
           mode = mode;
-          office = λ up.
-              (created clean).begun.office;
-          shows_committed = λ up. sym (created clean).committed;
+          office = λ up. office_brought found site.text (state g old).now (state g new).now (done clean).brought;
+          shows_committed = λ up. sym (done clean).committed;
         },
       );
-      was = λ clean absent has. taken_none absent (state g old).now bare (nothing clean) has;
-      takes = λ clean.
-          let none = (nothing clean).nothing in
-          let fresh = (created clean).begun.fresh in
-          record {
-            tells = fresh.tells;
-            grown = λ older tells. absurd (not_silent V3 (sha256 older) (state g old).now.trees none.silent tells.named);
-            own = λ version other earlier told. absurd (not_silent version other (state g old).now.trees none.silent told);
-            apart = apart_if_none (state g new).now.trees fresh.tables;
-            tables = fresh.tables ∙ sym none.tables;
-            without_not_before = λ other told. subst AreWithoutNotBefore (sym fresh.tables) (tt, tt);
-          };
+      was = λ clean. (it clean).was;
+      takes = λ clean. (it clean).takes (state g new).now (done clean).brought;
       refused = tt;
       unchanged = λ clean. tt;
       untouched = tt;
-      crash = leaves_made site (state g old) (state g new) can bare survives;
+      crash = left;
     }
 
-    -- the tables weren't made
-    pub unmade : (HasCleanDisk (state g new) → IsUndone (state g old) (state g new)) → PreparesTables g site old new (Err Failed)
-    unmade undone = unprepared g site old new Failed mode
+    -- it wasn't
+    pub not_brought : (HasCleanDisk (state g new) → IsUndone (state g old) (state g new)) → PreparesTables g site old new (Err Failed)
+    not_brought undone = unprepared g site old new Failed mode
         (failed site (state g new) (λ up other.
         let clean = calm up in
-        other.0 (ap (λ (d : Database). d.schema) ((undone clean).now up ∙ sym (can.shows_committed (was_clean _ _ _ survives clean))) ∙ bare)))
-        (λ clean. undone_keeps (state g old) (state g new) (undone clean)) (λ other. absurd (other refl))
-        (leaves_made site (state g old) (state g new) can bare survives)
-
-  -- a store that was found, and what became of it was undone
-  undone_failed : (version : Version) → IsFoundAt version (state g old)
-      → (HasCleanDisk (state g new) → HasCleanDisk (state g old))
-      → (HasCleanDisk (state g new) → IsUndone (state g old) (state g new))
-      → IsRefusedFor site (state g new) Failed
-  undone_failed version found before undone = failed site (state g new) (λ up other.
-      let clean = calm up in
-      other.1 version (ap (λ (d : Database). d.schema) ((undone clean).now up
-      ∙ sym (found.shows_committed (before clean))) ∙ (found.found (before clean)).schema))
-
-  module _ (version : Version) (earlier : version ≢ V3) (found : IsFoundAt version (state g old)) (apart : IsApartAt (state g old))
-      (told : HasCleanDisk (state g old) → HasMeta version (sha256 site.text) (state g old).now.trees) (mode : new.in_transaction ≡ false)
-      (survives : Survives (state g old) (state g new) (λ trees. IsTrue (state g old).is_open
-      × IsUpgrade version site.text (state g old).now.trees (office_over trees))) where
-    earlier_store : HasCleanDisk (state g old) → IsStore (state g old).now.trees
-    earlier_store clean = store_of version (sha256 site.text) (state g old).now (found.found clean) (told clean)
-
-    before_upgrade : HasCleanDisk (state g new) → HasCleanDisk (state g old)
-    before_upgrade = was_clean (state g old) (state g new) _ survives
-
-    -- the store was upgraded
-    pub upgraded : (HasCleanDisk (state g new) → IsUpgraded version site.text (state g old) (state g new)) → PreparesTables g site old new (Ok tt)
-    upgraded it = record {
-      mode = mode;
-      ready = λ clean. ((it clean).is_open, record { mode = mode; office = λ up. (it clean).upgrade.office; shows_committed = λ up. sym (it clean).committed });
-      was = λ clean absent has. taken_store absent (state g old).now.trees (earlier_store (before_upgrade clean));
-      takes = λ clean.
-          let before = before_upgrade clean in
-          let upgrade = (it clean).upgrade in
-          record {
-            tells = record { holds = upgrade.holds; named = upgrade.told (sha256 site.text) (told before) };
-            grown = λ older tells.
-                absurd (not_v3 version (sha256 site.text) (sha256 older) (state g old).now.trees earlier (told before) tells.named);
-            own = λ version2 other earlier2 is. site_once version2 version other (sha256 site.text) (state g old).now.trees is (told before);
-            apart = apart_upgraded version site.text (state g old).now.trees (state g new).now upgrade (apart before);
-            tables = upgrade.tables;
-            without_not_before = λ other is. subst AreWithoutNotBefore (sym upgrade.tables)
-                (without_not_before_of version (sha256 site.text) (state g old).now (found.found before) earlier (told before) other is);
-          };
-      refused = tt;
-      unchanged = λ clean. tt;
-      untouched = tt;
-      crash = leaves_upgraded site version (state g old) (state g new) earlier found told survives;
-    }
-
-    -- the store wasn't upgraded
-    pub not_upgraded : (HasCleanDisk (state g new) → IsUndone (state g old) (state g new)) → PreparesTables g site old new (Err Failed)
-    not_upgraded undone = unprepared g site old new Failed mode (undone_failed version found before_upgrade undone)
-        (λ clean.
-        undone_keeps (state g old) (state g new) (undone clean))
-        (λ other. absurd (other refl))
-        (leaves_upgraded site version (state g old) (state g new) earlier found told survives)
-
-  -- a store of the third version is taken with the tables that it has
-  taken_again : (before now : Trees) → CanTake site.site before → HoldsSite site.text now → HasApartAddresses now
-      → tables_in now ≡ tables_in before → IsTakenFor site before now
-  taken_again before now take tells apart tables = record {
-    tells = tells;
-    grown = takes site.site before take;
-    own = never_earlier site.text take.0 before take.1;
-    apart = apart;
-    tables = tables;
-    without_not_before = never_first take.0 before (tables_in now) take.1;
-  }
+        (it clean).ours (subst IsOtherSchema (ap (λ (d : Database). d.schema) ((undone clean).now up ∙ sym (shows_committed (before clean)))) other)))
+        (λ clean. undone_keeps (state g old) (state g new) (undone clean)) (λ other. absurd (other refl)) left
 
   module _ (found : IsFoundAt V3 (state g old)) (apart : IsApartAt (state g old)) (can : HasCleanDisk (state g old)
       → IsGrowable site.site (state g old).now) (mode : new.in_transaction ≡ false) where
     v3_store : HasCleanDisk (state g old) → IsStore (state g old).now.trees
     v3_store clean = let take = (can clean).1 in store_of V3 (sha256 take.0) (state g old).now (found.found clean) take.1.named
-
-    module _ (other : HasCleanDisk (state g old) → ¬ HoldsSiteText site.text (state g old).now.trees)
-        (survives : Survives (state g old) (state g new) (λ trees. IsTrue (state g old).is_open
-        × IsGrown site.text (state g old).now.trees (office_over trees))) where
-      before_growth : HasCleanDisk (state g new) → HasCleanDisk (state g old)
-      before_growth = was_clean (state g old) (state g new) _ survives
-
-      -- the text was put in the place of another
-      pub grew : (HasCleanDisk (state g new) → HasGrown site.text (state g old) (state g new)) → PreparesTables g site old new (Ok tt)
-      grew it = record {
-        mode = mode;
-        ready = λ clean. ((it clean).is_open, record { mode = mode; office = λ up. (it clean).grown.office; shows_committed = λ up. sym (it clean).committed });
-        was = λ clean absent has. taken_store absent (state g old).now.trees (v3_store (before_growth clean));
-        takes = λ clean.
-            let before = before_growth clean in
-            let grown = (it clean).grown in
-            taken_again (state g old).now.trees (state g new).now.trees (can before).1 grown.tells
-            (apart_grown site.text (state g old).now.trees (state g new).now grown (apart before)) grown.tables;
-        refused = tt;
-        unchanged = λ clean. tt;
-        untouched = tt;
-        crash = leaves_grown site (state g old) (state g new) found can other survives;
-      }
-
-      -- it wasn't
-      pub not_grown : (HasCleanDisk (state g new) → IsUndone (state g old) (state g new)) → PreparesTables g site old new (Err Failed)
-      not_grown undone = unprepared g site old new Failed mode (undone_failed V3 found before_growth undone)
-          (λ clean. undone_keeps (state g old) (state g new) (undone clean)) (λ other. absurd (other refl))
-          (leaves_grown site (state g old) (state g new) found can other survives)
 
     -- whether the text is there was asked
     module _ (r : Result Bool Error) (tests : Tests g old new r (λ db same. IsTrue same ↔ HoldsSiteText site.text db)) where
@@ -294,7 +224,7 @@ module _ {S : Type 0} (g : Ghosts S) (site : TextOfSite) (old new : Held S) (cal
               let take = (can (before clean)).1 in
               let tells = subst (λ t. HoldsSite t now) (one_text take.0 site.text now take.1.holds ((tests.answer clean).0 is)) take.1 in
               subst (λ (d : Database). IsTakenFor site now d.trees) (sym (tests.same clean).0.now_is)
-              (taken_again now now take tells (apart (before clean)) refl);
+              (taken_again site now now take tells (apart (before clean)) refl);
           refused = tt;
           unchanged = λ clean. tt;
           untouched = tt;

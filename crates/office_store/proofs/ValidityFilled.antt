@@ -16,7 +16,7 @@ use Rattle.office_sql.proofs.OrderTexts.{as_orders, order_tied, orders_validity}
 use Rattle.office_sql.proofs.GivenTexts.{as_given, given_tied, records_validity}
 use Rattle.office_sql.proofs.Stepping.{cast_null}
 use Rattle.office_sql.proofs.TableOf.{TableOf, HasValidity, AreRowsAs}
-use Rattle.office_store.specs.declared.upgrade.TheConstants.{INSERT_NULL_INTO_ORDER_START, INSERT_NULL_INTO_GIVEN_START}
+use Rattle.office_store.specs.declared.steps.TheConstants.{INSERT_NULL_INTO_ORDER_START, INSERT_NULL_INTO_GIVEN_START}
 use Rattle.store_inspection.specs.Prelude.{KeepsFirstBut, count_of, schema_of}
 use Rattle.store_inspection.specs.declared.version.Version.TheVariants.{V2}
 use Rattle.office_store.proofs.Counts.{first_but}

@@ -9,6 +9,7 @@ pub mod Closing
 pub mod Refusing
 pub mod Steps
 pub mod Upgrading
+pub mod Bringing
 pub mod Remaking
 pub mod Kept
 pub mod Keeping

@@ -1,23 +1,21 @@
 // How a connection becomes a keeper.
-ghost use Rattle.std.specs.Prelude.{◌≡◌, ◌≢◌, ◌↔◌, ℕ, length, List, Some, IsTrue, IfOk, IfErr, OnOk, IsUtf8};
+ghost use Rattle.std.specs.Prelude.{◌≡◌, ◌≢◌, ◌↔◌, ℕ, length, List, Some, false, IsTrue, IfOk, IfErr, OnOk, IsUtf8};
 ghost use Rattle.sqlite.specs.State.{HasCleanDisk};
 ghost use Rattle.sqlite.specs.Held.{state};
-ghost use Rattle.office_store.specs.Prelude.{CanPrepareTables, CanTake, Examines, HandedKeeps, HandedLeaves, IsFoundAt, IsGrowable, IsApartAt};
+ghost use Rattle.office_store.specs.Prelude.{CanBring, CanPrepareTables, CanTake, Examines, HandedKeeps, HandedLeaves, IsFoundAt, IsGrowable, IsApartAt};
 ghost use Rattle.office_store.specs.Prelude.{IsFoundApart, IsHandedFor, IsOpenedFor, IsShownText, LeavesAtMost, PreparesTables};
 ghost use Rattle.office_store.specs.Prelude.{new_meta, result_of_test, IsGrownFrom, IsOtherSchema, IsTestedFor};
-ghost use Rattle.store_inspection.specs.Prelude.{meta_of_version, HasMeta, HoldsSiteText, schema_of};
+ghost use Rattle.store_inspection.specs.Prelude.{meta_of_version, HasMeta, schema_of};
 ghost use Rattle.office_store.specs.declared.fault.OpenFault.TheVariants.{OtherSite as TheSite, OtherTables as TheTables};
 ghost use Rattle.store_inspection.specs.declared.version.Version.TheVariants.{V3};
 ghost use Rattle.sha2.specs.Sha256.{sha256};
 ghost use Rattle.site_core.specs.Prelude.{TextOfSite};
 
 use crate::SqlKeep;
-use crate::create::make_tables;
+use crate::bring::{Found, bring};
 use crate::fault::OpenFault;
-use crate::grow::grow_text;
 use crate::opening::{Absent, prepare_or_hand_back};
 use crate::reread::reread;
-use crate::upgrade::upgrade_tables;
 use site_core::{Site, SiteFault, SiteText, read_site};
 use sqlite::{Alter, Connection, Error, Row};
 use std::alloc::Global;
@@ -146,20 +144,21 @@ fn test_growth<S: Alter>(
     }
 }
 
-/// Holds the text of a site that grew.
-fn grow<S: Alter>(conn: &mut Connection<S>, site: &SiteText) -> Result<(), OpenFault>
-    requires found { IsFoundAt V3 (state S.Store conn.old) }
-    requires apart { IsApartAt (state S.Store conn.old) }
+/// Brings a database to the third version and the text of the site.
+fn settle<S: Alter>(
+    conn: &mut Connection<S>,
+    site: &SiteText,
+    found: Found,
+) -> Result<(), OpenFault>
+    requires mode { conn.old.in_transaction ≡ false }
+    requires shows_committed { HasCleanDisk (state S.Store conn.old)
+        → (state S.Store conn.old).now ≡ (state S.Store conn.old).committed }
     requires can { HasCleanDisk (state S.Store conn.old)
-        → IsGrowable site.now.site (state S.Store conn.old).now }
-    requires other { HasCleanDisk (state S.Store conn.old)
-        → ¬ HoldsSiteText site.now.text (state S.Store conn.old).now.trees }
+        → CanBring found site.now (state S.Store conn.old).now }
     ensures { PreparesTables S.Store site.now conn.old conn.new result }
 {
-    match grow_text(conn, site) {
-        Ok(()) => Ok(()),
-        Err(_) => Err(OpenFault::Failed),
-    }
+    bring(conn, site, found)?;
+    Ok(())
 }
 
 /// Tests a store that has the tables of an earlier version: its rows, and whose site it is of.
@@ -211,8 +210,7 @@ fn find_earlier<S: Alter>(
     ensures { PreparesTables S.Store site.now conn.old conn.new result }
 {
     test_earlier(conn, site, version)?;
-    upgrade_tables(conn, site.text(), version)?;
-    Ok(())
+    settle(conn, site, Found::Earlier(version))
 }
 
 /// Tests a store of the third version: its rows, its beginnings of validity, and that the site is
@@ -242,7 +240,7 @@ fn hold_text<S: Alter>(conn: &mut Connection<S>, site: &SiteText) -> Result<(), 
 {
     match has_site_text(conn, site.text()) {
         Ok(true) => Ok(()),
-        Ok(false) => grow(conn, site),
+        Ok(false) => settle(conn, site, Found::Today),
         Err(_) => Err(OpenFault::Failed),
     }
 }
@@ -292,8 +290,7 @@ pub(crate) fn prepare_tables<S: Alter>(
         → result ≡ Err OpenFault.OtherTables }
 {
     if is_empty_schema(conn.schema()) {
-        make_tables(conn, site)?;
-        return Ok(());
+        return settle(conn, site, Found::Nothing);
     }
     match version_of(conn.schema()) {
         Some(version) => find(alloc, conn, site, version),

@@ -97,11 +97,10 @@
 #![tactic(auto)]
 
 mod adopting;
+mod bring;
 mod closing;
-mod create;
 mod ending;
 mod fault;
-mod grow;
 mod keep;
 mod maps;
 mod opening;
@@ -110,7 +109,7 @@ mod remake;
 mod remembered;
 mod reread;
 mod starts;
-mod upgrade;
+mod steps;
 mod written;
 
 pub use adopting::{Handed, adopt};

@@ -19,7 +19,8 @@ use toml::Value;
 
 /// The first member of a document that isn't as it has to be: a customer's, else the manager's.
 pub(crate) fn member_breach(document: &Value) -> SiteBreach
-    ensures { result ≡ members_breach (option_and_then items_in (get (codes "customer") (view document.now))) }
+    ensures { result ≡ members_breach
+        (option_and_then items_in (get (codes "customer") (view document.now))) }
 {
     let Some(customers) = items_member(document, "customer") else {
         return SiteBreach {

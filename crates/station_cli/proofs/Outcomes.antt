@@ -14,7 +14,7 @@ use Rattle.site_faults.specs.Prelude.{site_told, too_long}
 use Rattle.site_faults.specs.declared.told.ToldFault.{ToldFault}
 use Rattle.site_core.specs.declared.fault.SiteFault.{SiteFault}
 use Rattle.station_cli.specs.Prelude.{checked_in, ChecksTo, ComesTo, EndsAs, EndsStream, IsAnswered, IsBeforeStream, IsOfCheck, IsOfFile, IsOfJob}
-use Rattle.station_cli.specs.Prelude.{IsCheckedFrom, IsOfSite, IsTold, IsToldFault, IsUnread, site_line}
+use Rattle.station_cli.specs.Prelude.{IsCheckedFrom, IsOfSite, IsTold, IsToldFault, IsToldOf, IsUnread, site_line}
 use Rattle.station_cli.specs.Prelude.{map_failure, map_line, map_of_file, Traffic}
 use Rattle.station_cli.specs.Prelude.{or_failure, result_of_ending, site_failure, site_in, status_of, text_of_file}
 use Rattle.station_cli.specs.declared.failure.Failure.{Failure}
@@ -310,6 +310,38 @@ growth_fails items name old_name site old file old_file result named old_named u
     (subst (λ (o : List ℕ). IfErr result (IsOfCheck name.now (Some o))) old_named
     (growth_fails_so items name old_name file old_file result unread unread_old read))
 
+-- what a site that is checked alone is told by
+pub check_told : {B : Type 0} (items : B → List ℕ) (name : Bor (List ℕ)) (site : List ℕ) (file : Result B Error)
+    (result : Result (Result SiteValue ToldFault) Failure) → name.now ≡ site
+    → IfErr file (λ error. IsErrAnd result (IsUnread name error)) → IfOk file (λ bytes. ChecksTo (checked_in name (items bytes)) result)
+    → IfOk result (IsToldOf site None)
+check_told items name site (Ok bytes) (Ok told) named unread read = (name, items bytes, named, read)
+check_told items name site (Err error) (Ok told) named unread read = absurd unread
+check_told items name site file (Err failure) named unread read = tt
+
+-- what a site that is checked from an old one is told by
+pub growth_told : {B : Type 0} (items : B → List ℕ) (name old_name : Bor (List ℕ)) (site old : List ℕ) (file old_file : Result B Error)
+    (result : Result (Result SiteValue ToldFault) Failure) → name.now ≡ site → old_name.now ≡ old
+    → IfErr file (λ error. IsErrAnd result (IsUnread name error)) → IfOk file (λ _. IfErr old_file (λ error. IsErrAnd result (IsUnread old_name error)))
+    → IfOk file (λ bytes. IfOk old_file (λ old_bytes. (result ≡ Ok (Err ToldFault.NoMemory)) ⊎ (result ≡ Err NoMemory)
+    ⊎ IsCheckedFrom (site_in old_name (items old_bytes)) (checked_in name (items bytes)) result))
+    → IfOk result (IsToldOf site (Some old))
+growth_told items name old_name site old (Ok bytes) (Ok old_bytes) (Ok told) named old_named unread unread_old read = (
+  name,
+  items bytes,
+  old_name,
+  items old_bytes,
+  named,
+  old_named,
+  elim read [
+    | inl e ↦ let is : told ≡ Err ToldFault.NoMemory = cc in inl is
+    | inr some ↦ elim some [ inl e ↦ absurd (cc e) | inr from ↦ inr from ]
+  ],
+)
+growth_told items name old_name site old (Ok bytes) (Err error) (Ok told) named old_named unread unread_old read = absurd unread_old
+growth_told items name old_name site old (Err error) old_file (Ok told) named old_named unread unread_old read = absurd unread
+growth_told items name old_name site old file old_file (Err failure) named old_named unread unread_old read = tt
+
 -- what holds of the value that a result is
 pub value_holds : {A F : Type 0} (result : Result A F) (x : A) (P : A → Type 0) → result ≡ Ok x → P x → IfOk result P
 value_holds result x P is holds = subst (λ r. IfOk r P) (sym is) holds
@@ -325,20 +357,20 @@ line_ended (Err failure) status Written old new written is kept told =
 
 -- a site that was checked, and what was told of it
 pub checked_ends : (site : List ℕ) (before : Option (List ℕ)) (traffic : Traffic) (checked : Result SiteValue ToldFault) (status : ℕ)
-    (old new : Option (List ℕ))
+    (old new : Option (List ℕ)) → IsToldOf site before checked
     → IfOk checked (λ value. ((status ≡ 0) × Appends traffic.output_old traffic.output_new (site_line value ++ 10 ∷ []) × Keeps old new)
     ⊎ ((status ≡ 1) × (IsTold WriteFailed old new ⊎ IsTold NoMemory old new)))
     → IfErr checked (λ fault. (status ≡ 1) × (IsToldFault fault old new ⊎ IsTold NoMemory old new))
     → EndsAs (CheckSite site before) traffic status old new
-checked_ends site before traffic (Ok value) status old new found fault = elim found [
-  | inl done ↦ inl (done.0, (value, done.1), done.2)
+checked_ends site before traffic (Ok value) status old new of_file found fault = elim found [
+  | inl done ↦ inl (done.0, (value, of_file, done.1), done.2)
   | inr failed ↦ elim failed.1 [
     | inl told ↦ inr (inl (failed.0, WriteFailed, inr refl, told))
     | inr told ↦ inr (inl (failed.0, NoMemory, inl (memory_of_check site before), told))
   ]
 ]
-checked_ends site before traffic (Err objected) status old new found fault = elim fault.1 [
-  | inl told ↦ inr (inr (fault.0, objected, tt, told))
+checked_ends site before traffic (Err objected) status old new of_file found fault = elim fault.1 [
+  | inl told ↦ inr (inr (fault.0, objected, of_file, told))
   | inr told ↦ inr (inl (fault.0, NoMemory, inl (memory_of_check site before), told))
 ]
 

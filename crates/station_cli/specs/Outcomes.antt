@@ -12,7 +12,7 @@ use Rattle.site_faults.specs.declared.told.ToldFault.{ToldFault}
 use Rattle.station_cli.specs.Listening.{IsOfPort, listening_line}
 use Rattle.station_cli.specs.MapFile.{map_failure, map_line}
 use Rattle.station_cli.specs.Replaying.{IsOfStore}
-use Rattle.station_cli.specs.SiteCheck.{site_line}
+use Rattle.station_cli.specs.SiteCheck.{IsToldOf, site_line}
 use Rattle.station_cli.specs.SiteFile.{site_failure}
 use Rattle.station_cli.specs.Statuses.{fault_line, line_of, result_of_ending}
 use Rattle.station_cli.specs.declared.failure.Failure.{Failure}
@@ -72,7 +72,8 @@ abbrev pub IsDone : Job → Traffic → Type 0
 IsDone (Serve site store port connections) traffic = Appends traffic.output_old traffic.output_new (listening_line port ++ 10 ∷ [])
 IsDone (Replay site store) traffic = EndsStream traffic (Ok tt)
 IsDone (CheckMap name) traffic = (map : Map) × Appends traffic.output_old traffic.output_new (map_line map ++ 10 ∷ [])
-IsDone (CheckSite name old) traffic = (site : SiteValue) × Appends traffic.output_old traffic.output_new (site_line site ++ 10 ∷ [])
+IsDone (CheckSite name old) traffic =
+    (site : SiteValue) × IsToldOf name old (Ok site) × Appends traffic.output_old traffic.output_new (site_line site ++ 10 ∷ [])
 
 -- a job came to this with these bytes: it is done, or it failed as it may
 abbrev pub ComesTo : Job → Traffic → Result Unit Failure → Type 0
@@ -97,10 +98,17 @@ IsCheck (Serve site store port connections) = ⊥
 IsCheck (Replay site store) = ⊥
 IsCheck (CheckMap map) = ⊥
 
+-- the job checks a site, and some bytes of the files that it names have this fault
+abbrev pub IsOfFault : Job → ToldFault → Type 0
+IsOfFault (CheckSite site old) fault = IsToldOf site old (Err fault)
+IsOfFault (Serve site store port connections) fault = ⊥
+IsOfFault (Replay site store) fault = ⊥
+IsOfFault (CheckMap map) fault = ⊥
+
 -- a job is done, with status 0, and nothing is told; or it ends with status 1, and one of its failures is told, or why the
 -- site that it checks isn't accepted
 abbrev pub EndsAs : Job → Traffic → ℕ → Option (List ℕ) → Option (List ℕ) → Type 0
 EndsAs job traffic status old new =
     ((status ≡ 0) × IsDone job traffic × Keeps old new)
     ⊎ ((status ≡ 1) × (failure : Failure) × IsOfJob job traffic failure × IsTold failure old new)
-    ⊎ ((status ≡ 1) × (fault : ToldFault) × IsCheck job × IsToldFault fault old new)
+    ⊎ ((status ≡ 1) × (fault : ToldFault) × IsOfFault job fault × IsToldFault fault old new)

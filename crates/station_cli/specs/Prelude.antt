@@ -10,10 +10,10 @@ pub use Rattle.station_cli.specs.Listening.{IsOfPort, LeadsOn, listening_line}
 pub use Rattle.station_cli.specs.MapFile.{map_failure, map_line, map_of_file}
 pub use Rattle.station_cli.specs.Moved.{moved_or_failed}
 pub use Rattle.station_cli.specs.Outcomes.{AppendsFront, ComesTo, EndsAs, EndsStream, IsAnswered, IsBeforeStream, IsDone, IsOfFile, IsOfJob}
-pub use Rattle.station_cli.specs.Outcomes.{IsCheck, IsOfCheck, IsOfMap, IsOfSite, IsTold, IsToldFault, Traffic}
+pub use Rattle.station_cli.specs.Outcomes.{IsCheck, IsOfCheck, IsOfFault, IsOfMap, IsOfSite, IsTold, IsToldFault, Traffic}
 pub use Rattle.station_cli.specs.Patience.{AreOfProgram, GivesWay, IsNextRead, IsOutOfTime, IsOver, IsTooLong, IsTurnOver, MayLook, passed}
 pub use Rattle.station_cli.specs.Replaying.{IsOfStore, Replays}
-pub use Rattle.station_cli.specs.SiteCheck.{checked_in, ChecksTo, IsCheckedFrom, site_line}
+pub use Rattle.station_cli.specs.SiteCheck.{checked_in, ChecksTo, IsCheckedFrom, IsToldOf, site_line}
 pub use Rattle.station_cli.specs.SiteFile.{IsSiteOfFile, site_failure, site_in, text_of_site}
 pub use Rattle.station_cli.specs.Statuses.{fault_line, HasStatus, IsReported, line_of, result_of_ending, status_of}
 pub use Rattle.station_cli.specs.Storing.{IsOpening, IsServedOver, Leaves, LeavesIfRead}

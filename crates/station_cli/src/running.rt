@@ -4,8 +4,8 @@ ghost use Rattle.std.specs.Io.KnownBytes.{Appends, Keeps};
 ghost use Rattle.http_frames.specs.Prelude.{HasCallsLeft, StaysWithinCalls};
 ghost use Rattle.office_tables.specs.Prelude.{no_rows};
 ghost use Rattle.station_cli.specs.Prelude.{ComesTo, EndsAs, IsAnswered, IsBeforeStream, IsCheck};
-ghost use Rattle.station_cli.specs.Prelude.{IsOfCheck, IsTold, IsToldFault, IsUnread, map_line, map_of_file};
-ghost use Rattle.station_cli.specs.Prelude.{Replays, result_of_ending, site_in, site_line, status_of};
+ghost use Rattle.station_cli.specs.Prelude.{IsOfCheck, IsTold, IsToldFault, IsToldOf, IsUnread};
+ghost use Rattle.station_cli.specs.Prelude.{map_line, map_of_file, Replays, result_of_ending, site_in, site_line, status_of};
 ghost use Rattle.station_cli.specs.declared.job.Job.TheVariants.{CheckSite};
 ghost use Rattle.text_core.specs.Prelude.{result_and_then};
 
@@ -309,7 +309,8 @@ fn checked_site<'a>(
     site: &'a Text,
     old: &'a Option<Text>,
 ) -> Result<Result<Site, ToldFault>, Failure<'a>>
-    ensures { IfErr result (IsOfCheck site.now old.now) }
+    ensures told { IfOk result (IsToldOf site.now old.now) }
+    ensures failed { IfErr result (IsOfCheck site.now old.now) }
 {
     let name = site.as_str();
     let file = read_site_file(rt, alloc, name);

@@ -7,7 +7,7 @@ pub use Rattle.station_requests.specs.Device.{after_parameter, after_of_text}
 pub use Rattle.station_requests.specs.Device.{block_digest, block_in, chip_parameter, device_members, with_block_digests, word_of_data, word_of_text}
 unfoldable pub use Rattle.station_requests.specs.Device.{blocks_member, new_device_of, register_device_of}
 pub use Rattle.station_requests.specs.Digest.{LacksFloat, named_members, request_digest, with_found}
-pub use Rattle.station_requests.specs.Fault.{ReadsAs, refusal_of_fault}
+pub use Rattle.station_requests.specs.Fault.{ReadsAs}
 pub use Rattle.station_requests.specs.Identity.{identity_members, key_of_text}
 unfoldable pub use Rattle.station_requests.specs.Identity.{identify_of, new_identity_of}
 pub use Rattle.station_requests.specs.Import.{import_members}

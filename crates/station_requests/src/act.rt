@@ -6,8 +6,8 @@ ghost use Rattle.station_requests.specs.Prelude.{act_of, end_of, LacksFloat, Rea
 
 use crate::change::request_for;
 use crate::digest::named_members;
-use crate::fault::MemberFault::{self, BadMember};
 use members::in_json::chip_member;
+use office_commands::Refusal::{self, BadMember};
 use office_commands::{Action, Change, Request};
 use serde_json::Value;
 use std::alloc::Global;
@@ -24,7 +24,7 @@ pub fn act_request(
     path: &str,
     members: &Value,
     action: Action,
-) -> Result<Request, MemberFault>
+) -> Result<Request, Refusal>
     requires { LacksFloat (view value.now) (codes "chip")
         → LacksFloat (view value.now) (codes "nr") → has_float (view members.now) ≡ false }
     ensures { ReadsAs result (act_of path.now (view members.now) action (view value.now)) }
@@ -40,7 +40,7 @@ pub fn end_request(
     value: &Value,
     path: &str,
     action: Action,
-) -> Result<Request, MemberFault>
+) -> Result<Request, Refusal>
     ensures { ReadsAs result (end_of path.now action (view value.now)) }
 {
     let members = named_members(alloc, value, &ACT_MEMBERS)?;

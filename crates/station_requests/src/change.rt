@@ -6,8 +6,8 @@ ghost use Rattle.station_requests.specs.Change as changes;
 ghost use Rattle.station_requests.specs.Prelude.{LacksFloat, ReadsAs};
 
 use crate::digest::request_digest;
-use crate::fault::MemberFault::{self, BadMember};
 use members::in_json::whole_member;
+use office_commands::Refusal::{self, BadMember};
 use office_commands::{Change, Command, Request, RequestNumber};
 use serde_json::Value;
 use std::alloc::Global;
@@ -29,7 +29,7 @@ pub fn request_for(
     path: &str,
     members: &Value,
     change: Change,
-) -> Result<Request, MemberFault>
+) -> Result<Request, Refusal>
     requires { LacksFloat (view value.now) (codes "nr") → has_float (view members.now) ≡ false }
     ensures { ReadsAs result
         (changes.request_for path.now (view members.now) change (view value.now)) }

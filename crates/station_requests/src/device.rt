@@ -8,12 +8,12 @@ ghost use Rattle.station_requests.specs.Prelude.{after_parameter, ReadsAs, after
 
 use crate::change::request_for;
 use crate::digest::found_members;
-use crate::fault::MemberFault::{self, BadMember};
 use crate::query::text_parameter;
 use fuse_image::BlockWords;
 use hex::FromHex;
 use members::in_json::{chip_member, digest_member, name_member};
 use members::read_all;
+use office_commands::Refusal::{self, BadMember};
 use office_commands::{Change, NewDevice, Request};
 use serde_json::Value;
 use std::alloc::{AllocError, Global};
@@ -48,7 +48,7 @@ fn read_word(value: &Value) -> Option<u32>
 
 /// The words of a block, if the JSON value is an array of words.
 #[tactic(auto, using(members::proofs::Lists::json_list))]
-fn read_block(alloc: Global, value: &Value) -> Result<Vec<u32>, MemberFault>
+fn read_block(alloc: Global, value: &Value) -> Result<Vec<u32>, Refusal>
     ensures { ReadsAs (result_map (λ words. words.items) result) (block_in (view value.now)) }
 {
     let values = value.as_array().ok_or(BadMember)?;
@@ -56,7 +56,7 @@ fn read_block(alloc: Global, value: &Value) -> Result<Vec<u32>, MemberFault>
 }
 
 /// The words of blocks, if each JSON value is an array of words.
-fn read_blocks(alloc: Global, values: &[Value]) -> Result<Vec<Vec<u32>>, MemberFault>
+fn read_blocks(alloc: Global, values: &[Value]) -> Result<Vec<Vec<u32>>, Refusal>
     ensures { ReadsAs (result_map (λ blocks. map (λ words. words.items) blocks.items) result)
         (all_of block_in (map view values.now)) }
 {
@@ -70,7 +70,7 @@ fn read_blocks(alloc: Global, values: &[Value]) -> Result<Vec<Vec<u32>>, MemberF
 
 /// A member that is an array of 1 to 4 blocks of 1 to 8 words.
 #[tactic(auto, using(members::proofs::Lists::json_list), unfolding(crate::specs::Device::blocks_member))]
-pub fn blocks_member(alloc: Global, value: &Value, name: &str) -> Result<BlockWords, MemberFault>
+pub fn blocks_member(alloc: Global, value: &Value, name: &str) -> Result<BlockWords, Refusal>
     ensures { ReadsAs result (blocks_member name.now (view value.now)) }
 {
     let member = value.get(name).ok_or(BadMember)?;
@@ -110,7 +110,7 @@ pub fn with_block_digests(
 
 /// The device that a body asks for, if its members are of their forms.
 #[tactic(auto, unfolding(crate::specs::Device::new_device_of))]
-fn new_device(alloc: Global, value: &Value) -> Result<NewDevice, MemberFault>
+fn new_device(alloc: Global, value: &Value) -> Result<NewDevice, Refusal>
     ensures { ReadsAs result (new_device_of (view value.now)) }
 {
     let chip = chip_member(value, "chip").ok_or(BadMember)?;
@@ -127,7 +127,7 @@ fn new_device(alloc: Global, value: &Value) -> Result<NewDevice, MemberFault>
 
 /// The request that the body of `POST /v1/device` asks for, if its members are of their forms.
 #[tactic(auto, unfolding(crate::specs::Device::register_device_of))]
-pub fn register_device_request(alloc: Global, value: &Value) -> Result<Request, MemberFault>
+pub fn register_device_request(alloc: Global, value: &Value) -> Result<Request, Refusal>
     ensures { ReadsAs result (register_device_of (view value.now)) }
 {
     let device = new_device(alloc, value)?;

@@ -4,10 +4,10 @@ ghost use Rattle.station_requests.specs.Prelude.{identify_of, key_of_text, new_i
 
 use crate::change::request_for;
 use crate::digest::named_members;
-use crate::fault::MemberFault::{self, BadMember};
 use hex::FromHexError;
 use id_ranges::KeyDigest;
 use members::in_json::{chip_member, text_member};
+use office_commands::Refusal::{self, BadMember};
 use office_commands::{Change, NewIdentity, Request};
 use serde_json::Value;
 use std::alloc::Global;
@@ -25,7 +25,7 @@ const LEAST_KEY_DIGITS: usize = 2;
 const MOST_KEY_DIGITS: usize = 2048;
 
 /// The digest of the public key that a text has as hexadecimal digits of either case, if it has one.
-fn read_key(alloc: Global, text: &str) -> Result<KeyDigest, MemberFault>
+fn read_key(alloc: Global, text: &str) -> Result<KeyDigest, Refusal>
     ensures { ReadsAs result (key_of_text text.now) }
 {
     if text.len() < LEAST_KEY_DIGITS || MOST_KEY_DIGITS < text.len() {
@@ -33,14 +33,14 @@ fn read_key(alloc: Global, text: &str) -> Result<KeyDigest, MemberFault>
     }
     match hex::decode(alloc, text) {
         Ok(bytes) => Ok(KeyDigest::of(bytes.as_slice())),
-        Err(FromHexError::OutOfMemory) => Err(MemberFault::OutOfMemory),
+        Err(FromHexError::OutOfMemory) => Err(Refusal::Unkept),
         Err(_) => Err(BadMember),
     }
 }
 
 /// The identity that a body asks for, if its members are of their forms.
 #[tactic(auto, unfolding(crate::specs::Identity::new_identity_of))]
-fn new_identity(alloc: Global, value: &Value) -> Result<NewIdentity, MemberFault>
+fn new_identity(alloc: Global, value: &Value) -> Result<NewIdentity, Refusal>
     ensures { ReadsAs result (new_identity_of (view value.now)) }
 {
     let chip = chip_member(value, "chip").ok_or(BadMember)?;
@@ -51,7 +51,7 @@ fn new_identity(alloc: Global, value: &Value) -> Result<NewIdentity, MemberFault
 
 /// The request that the body of `POST /v1/identity` asks for, if its members are of their forms.
 #[tactic(auto, unfolding(crate::specs::Identity::identify_of))]
-pub fn identity_request(alloc: Global, value: &Value) -> Result<Request, MemberFault>
+pub fn identity_request(alloc: Global, value: &Value) -> Result<Request, Refusal>
     ensures { ReadsAs result (identify_of (view value.now)) }
 {
     let identity = new_identity(alloc, value)?;

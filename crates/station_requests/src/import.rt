@@ -4,9 +4,9 @@ ghost use Rattle.station_requests.specs.Prelude.{import_of, new_import_of, Reads
 
 use crate::change::request_for;
 use crate::digest::named_members;
-use crate::fault::MemberFault::{self, BadMember};
 use id_ranges::read_rows;
 use members::in_json::{name_member, text_member};
+use office_commands::Refusal::{self, BadMember};
 use office_commands::{Change, NewImport, Request};
 use serde_json::Value;
 use std::alloc::Global;
@@ -19,7 +19,7 @@ const IMPORT_MEMBERS: [&str; 3] = ["csv", "issuer", "nr"];
 
 /// The import that a body asks for, if its members are of their forms.
 #[tactic(auto, unfolding(crate::specs::Import::new_import_of))]
-fn new_import(alloc: Global, value: &Value) -> Result<NewImport, MemberFault>
+fn new_import(alloc: Global, value: &Value) -> Result<NewImport, Refusal>
     ensures { ReadsAs result (new_import_of (view value.now)) }
 {
     let issuer = name_member(value, "issuer").ok_or(BadMember)?;
@@ -30,7 +30,7 @@ fn new_import(alloc: Global, value: &Value) -> Result<NewImport, MemberFault>
 
 /// The request that the body of `POST /v1/import` asks for, if its members are of their forms.
 #[tactic(auto, unfolding(crate::specs::Import::import_of))]
-pub fn import_request(alloc: Global, value: &Value) -> Result<Request, MemberFault>
+pub fn import_request(alloc: Global, value: &Value) -> Result<Request, Refusal>
     ensures { ReadsAs result (import_of (view value.now)) }
 {
     let import = new_import(alloc, value)?;

@@ -10,7 +10,6 @@ mod act;
 mod change;
 mod device;
 mod digest;
-mod fault;
 mod identity;
 mod import;
 mod map;

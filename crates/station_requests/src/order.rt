@@ -5,9 +5,9 @@ ghost use Rattle.station_requests.specs.Prelude.{make_order_of, new_order_of, na
 
 use crate::change::request_for;
 use crate::digest::named_members;
-use crate::fault::MemberFault::{self, BadMember};
 use crate::query::text_parameter;
 use members::in_json::{name_member, text_if_member, text_member, whole_member};
+use office_commands::Refusal::{self, BadMember};
 use office_commands::{AskedOrder, Change, NewOrder, Request};
 use serde_json::Value;
 use std::alloc::{AllocError, Global};
@@ -41,7 +41,7 @@ fn copied(alloc: Global, text: Option<&str>) -> Result<Option<Text>, AllocError>
 
 /// The order that a body asks for, if its members are of their forms.
 #[tactic(auto, unfolding(crate::specs::Order::new_order_of))]
-fn new_order(alloc: Global, value: &Value) -> Result<AskedOrder, MemberFault>
+fn new_order(alloc: Global, value: &Value) -> Result<AskedOrder, Refusal>
     ensures { ReadsAs result (new_order_of (view value.now)) }
 {
     let name = name_member(value, "name").ok_or(BadMember)?;
@@ -66,7 +66,7 @@ fn new_order(alloc: Global, value: &Value) -> Result<AskedOrder, MemberFault>
 
 /// The request that the body of `POST /v1/order` asks for, if its members are of their forms.
 #[tactic(auto, unfolding(crate::specs::Order::make_order_of))]
-pub fn make_order_request(alloc: Global, value: &Value) -> Result<Request, MemberFault>
+pub fn make_order_request(alloc: Global, value: &Value) -> Result<Request, Refusal>
     ensures { ReadsAs result (make_order_of (view value.now)) }
 {
     let order = new_order(alloc, value)?;

@@ -11,7 +11,6 @@ use crate::device::{
     DEVICE_PATH, DEVICES_PATH, LEDGER_PATH, after_parameter, chip_parameter,
     register_device_request,
 };
-use crate::fault::MemberFault::{self, BadMember};
 use crate::identity::{IDENTITY_PATH, identity_request};
 use crate::import::{IMPORT_PATH, import_request};
 use crate::map::{MAP_PATH, import_map_request};
@@ -25,6 +24,7 @@ use http_frames::fields::split_target;
 use http_frames::frame::Frame;
 use members::DocumentFault;
 use members::in_json::read_json;
+use office_commands::Refusal::BadMember;
 use office_commands::{Action, Command, Refusal, Request, RequestNumber, Show};
 use serde_json::Value;
 use site_core::Caller;
@@ -126,7 +126,7 @@ fn read_value(alloc: Global, method: &[u8], body: &[u8]) -> Result<Value, Refusa
 }
 
 /// The request to show something. It has no use for a number and a digest.
-fn shows(show: Show) -> Result<Request, MemberFault>
+fn shows(show: Show) -> Result<Request, Refusal>
     ensures { result ≡ Ok (shows show) }
 {
     Ok(Request {
@@ -142,7 +142,7 @@ fn find_request(
     operation: Operation,
     query: &[u8],
     value: &Value,
-) -> Result<Request, MemberFault>
+) -> Result<Request, Refusal>
     ensures { ReadsAs result (request_of operation query.now (view value.now)) }
 {
     match operation {

@@ -7,10 +7,10 @@ ghost use Rattle.station_requests.specs.Prelude.{kind_of_text, named_plan, named
 
 use crate::act::{ACT_MEMBERS, act_request};
 use crate::digest::{found_members, named_members};
-use crate::fault::MemberFault::{self, BadMember};
 use fuse_plan::{Number, Want, Wish};
 use members::in_json::{digest_member, list_member, name_member, text_member, whole_member};
 use members::read_all;
+use office_commands::Refusal::{self, BadMember};
 use office_commands::{Action, Request, Wishes};
 use serde_json::Value;
 use std::alloc::Global;
@@ -94,7 +94,7 @@ fn read_wish(value: &Value) -> Option<Wish>
 }
 
 /// The wishes of a plan, if each is one and there are at most 64.
-fn read_wishes(alloc: Global, value: &Value) -> Result<Vec<Wish>, MemberFault>
+fn read_wishes(alloc: Global, value: &Value) -> Result<Vec<Wish>, Refusal>
     ensures { ReadsAs (result_map (λ wishes. wishes.items) result) (wishes_of (view value.now)) }
 {
     let values = list_member(value, "wishes", 0, WISH_LIMIT).ok_or(BadMember)?;
@@ -102,7 +102,7 @@ fn read_wishes(alloc: Global, value: &Value) -> Result<Vec<Wish>, MemberFault>
 }
 
 /// What a repeated wish is known by, as an object: the named members of its kind.
-fn named_wish(alloc: Global, value: &Value) -> Result<Value, MemberFault>
+fn named_wish(alloc: Global, value: &Value) -> Result<Value, Refusal>
     ensures { ReadsAs (result_map view result) (named_wish (view value.now)) }
 {
     let members = match kind_of(value).ok_or(BadMember)? {
@@ -115,7 +115,7 @@ fn named_wish(alloc: Global, value: &Value) -> Result<Value, MemberFault>
 }
 
 /// What repeated wishes are known by, one after another.
-fn named_wishes(alloc: Global, values: &[Value]) -> Result<Vec<Value>, MemberFault>
+fn named_wishes(alloc: Global, values: &[Value]) -> Result<Vec<Value>, Refusal>
     ensures { ReadsAs (result_map (λ wishes. map view wishes.items) result)
         (all_of named_wish (map view values.now)) }
 {
@@ -129,7 +129,7 @@ fn named_wishes(alloc: Global, values: &[Value]) -> Result<Vec<Value>, MemberFau
 
 /// What a repeated plan is known by, as an object: its members, and its wishes by theirs.
 #[tactic(auto, unfolding(crate::specs::Plan::named_plan))]
-fn named_plan(alloc: Global, value: &Value) -> Result<Value, MemberFault>
+fn named_plan(alloc: Global, value: &Value) -> Result<Value, Refusal>
     ensures { ReadsAs (result_map view result) (named_plan (view value.now)) }
 {
     let values = list_member(value, "wishes", 0, WISH_LIMIT).ok_or(BadMember)?;
@@ -141,7 +141,7 @@ fn named_plan(alloc: Global, value: &Value) -> Result<Value, MemberFault>
 
 /// The request that the body of `POST /v1/plan` asks for, if its members are of their forms.
 #[tactic(auto, unfolding(crate::specs::Plan::plan_device_of))]
-pub fn plan_device_request(alloc: Global, value: &Value) -> Result<Request, MemberFault>
+pub fn plan_device_request(alloc: Global, value: &Value) -> Result<Request, Refusal>
     ensures { ReadsAs result (plan_device_of (view value.now)) }
 {
     let wishes = read_wishes(alloc, value)?;

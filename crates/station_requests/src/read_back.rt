@@ -4,8 +4,7 @@ ghost use Rattle.station_requests.specs.Prelude.{read_back_of, ReadsAs};
 
 use crate::act::{ACT_MEMBERS, act_request};
 use crate::device::{blocks_member, with_block_digests};
-use crate::fault::MemberFault;
-use office_commands::{Action, Request};
+use office_commands::{Action, Refusal, Request};
 use serde_json::Value;
 use std::alloc::Global;
 
@@ -14,7 +13,7 @@ pub const READ_BACK_PATH: &str = "/v1/readback";
 
 /// The request that the body of `POST /v1/readback` asks for, if its members are of their forms.
 #[tactic(auto, unfolding(crate::specs::ReadBack::read_back_of))]
-pub fn read_back_request(alloc: Global, value: &Value) -> Result<Request, MemberFault>
+pub fn read_back_request(alloc: Global, value: &Value) -> Result<Request, Refusal>
     ensures { ReadsAs result (read_back_of (view value.now)) }
 {
     let blocks = blocks_member(alloc, value, "blocks")?;

@@ -9,6 +9,7 @@
 //! A conversation may begin with a line `@ NAME`: the requests and replies of a prelude come first.
 pub mod beginnings;
 pub mod devices;
+pub mod edges;
 pub mod growths;
 pub mod identities;
 pub mod maps;
@@ -61,6 +62,7 @@ const PHRASES: &[(&str, &str)] = &[
     ("404", "Not Found"),
     ("409", "Conflict"),
     ("422", "Unprocessable Entity"),
+    ("503", "Service Unavailable"),
 ];
 
 /// What a table has beside a name.
@@ -271,10 +273,14 @@ pub fn told(
     format!(in alloc; "{mark}{prelude}{gap}line {line}: {asked}: {wanted}{GOT}{got}")
 }
 
-/// Whether what was told is that a request got 503 or no reply.
+/// The reply with 503, which is always this one.
+const UNKEPT: &str =
+    "HTTP/1.1 503 Service Unavailable\r\nContent-Type: application/json\r\nContent-Length: 26\r\n\r\n{\"error\":\"unkept\",\"no\":50}";
+
+/// Whether what was told is that a request got 503, as it must stand, or no reply.
 pub fn is_unanswered(found: &str) -> bool {
     match found.split_once(GOT) {
-        Some((_, got)) => got.is_empty() || got.starts_with("HTTP/1.1 503 "),
+        Some((_, got)) => got.is_empty() || got == UNKEPT,
         None => false,
     }
 }

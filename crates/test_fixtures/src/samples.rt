@@ -146,24 +146,37 @@ token = "9f86d081884c7d659a2feaa0c55ad015a3bf4f1b2b0b822cd15d6c15b0f00a08"
 /// The text of a site that isn't the sample.
 pub const OTHER_SITE: &str = "customer = []\n";
 
+/// What may grow of the sample site: a part of it, and what stands in its place then.
+pub const GROWING: &[(&str, &str)] = &[
+    // A comment.
+    ("name = \"bolt\"", "name = \"bolt\" # the second"),
+    // An issuer of the second customer, and a seat, in front of those that it has.
+    ("[\"bolt-ca\"]", "[\"bolt-cb\", \"bolt-ca\"]"),
+    (
+        "[[customer.seat]]\nname = \"b1\"",
+        "[[customer.seat]]\nname = \"b2\"\ntoken = \"486ea46224d1bb4fb680f34f7c9ad96a8f24ec88be73ea8e5a6c65260e9cb8a7\"\n[[customer.seat]]\nname = \"b1\"",
+    ),
+    // A pool behind those of the first customer, and the first one of the second.
+    (
+        "first = \"020000000020\"\ncount = 4\n",
+        "first = \"020000000020\"\ncount = 4\n[[customer.pool]]\nfirst = \"020000000030\"\ncount = 4\n",
+    ),
+    (
+        "issuer = [\"bolt",
+        "pool = [{ first = \"020000000040\", count = 4 }]\nissuer = [\"bolt",
+    ),
+    // A customer.
+    (
+        "[manager]",
+        "[[customer]]\nname = \"crux\"\nissuer = [\"crux-ca\"]\n[manager]",
+    ),
+];
+
 /// A part of the sample site, what stands in its place when its store is next opened, and the number of the
 /// fault, 0 where there is none.
 pub const NEXT_TEXTS: &[(&str, &str, u8)] = &[
     // The sample's own text.
     ("acme", "acme", 0),
-    // A comment, an issuer, a pool, a seat and a customer more.
-    ("[manager]", "# a comment\n[manager]", 0),
-    ("[\"bolt-ca\"]", "[\"bolt-cb\", \"bolt-ca\"]", 0),
-    (
-        "[[customer.seat]]\nname = \"b1\"",
-        "[[customer.pool]]\nfirst = \"020000000040\"\ncount = 4\n[[customer.seat]]\nname = \"b1\"",
-        0,
-    ),
-    (
-        "[manager]",
-        "[[customer]]\nname = \"crux\"\nissuer = []\n[manager]",
-        0,
-    ),
     // Acme's pools in the other order.
     (
         "first = \"020000000010\"\ncount = 4\n[[customer.pool]]\nfirst = \"020000000020\"",

@@ -105,6 +105,12 @@ pub const CHANGED_TWO: &[(&str, &str, u8)] = &[
     ("", SITE, 0),
     ("", OTHER_SITE, 1),
     ("", SITE_WITH_A_POOL, 1),
+    // Nothing but the site.
+    (
+        "DELETE FROM ledger; DELETE FROM given_start; DELETE FROM given; DELETE FROM device; DELETE FROM order_start; DELETE FROM orders; DELETE FROM link; DELETE FROM map; DELETE FROM seat",
+        SITE,
+        0,
+    ),
     ("UPDATE meta SET schema = 1", SITE, 2),
     ("UPDATE meta SET schema = 3", SITE, 2),
     ("UPDATE meta SET schema = 3", OTHER_SITE, 2),

@@ -37,6 +37,7 @@ impl<const N: usize> Model for ShortText<N> {
 }
 
 impl<const N: usize> ShortText<N> {
+    /// The text of these bytes.
     pub(crate) fn copy_of(text: &str) -> ShortText<N>
         requires { length text.now ≤ N }
         ensures { result ≡ text.now }
@@ -47,12 +48,14 @@ impl<const N: usize> ShortText<N> {
         ShortText { bytes, len }
     }
 
+    /// Its bytes.
     pub(crate) fn as_bytes(&self) -> &[u8]
         ensures { result.now ≡ self.now }
     {
         &self.bytes[..self.len]
     }
 
+    /// The text itself.
     pub(crate) fn as_str(&self) -> &str
         ensures { result.now ≡ self.now }
     {

@@ -8,7 +8,7 @@
 //! - `$TIMES~n~text~`: the text so often, each time with another number in place of `#`, from 100 on;
 //! - `$FF` in a request: the byte 255, which is in no text;
 //! - `<0.6=00000040 3.7=80000000>`: the blocks of a read-back, zeros but for these words, each after its
-//!   block and its place in it.
+//!   block and its place in it; block 0 has eight words where its last is among them, and else seven.
 use crate::numbered::numbered;
 use crate::samples::MAP;
 use std::alloc::{AllocError, Global};
@@ -113,7 +113,8 @@ fn with_blocks(alloc: Global, text: &str) -> Result<String, Fail> {
     };
     let (words, after) = rest.split_once(">").ok_or("no end of the blocks")?;
     let mut blocks = String::new(alloc);
-    for (index, length) in [("0", 7u64), ("1", 8), ("2", 8), ("3", 8)] {
+    let first = if words.contains("0.7=") { 8u64 } else { 7 };
+    for (index, length) in [("0", first), ("1", 8), ("2", 8), ("3", 8)] {
         let mark = if blocks.is_empty() { "[" } else { "," };
         let block = block(alloc, index, length, words)?;
         blocks.push_str(mark)?;

@@ -58,7 +58,7 @@ pub returns-in-Request-clause-served_one : goal.returns-in-Request-clause-served
 returns-in-Request-clause-served_one g c =
     let window = c.read_request.new.buffer.window in
     let framed = c.in-Request.ensures.framed in
-    let next = ap unread c.write_reply-in-Request.ensures.same_window ∙ ap (λ n. drop n window) framed.2 in
+    let next = ap unread c.write_reply-in-Request.ensures.counted.same_window ∙ ap (λ n. drop n window) framed.2 in
     let reply = c.answer-reply.result in
     let text = reply_same (answer_of reply) (answer_of reply) _ _ _ _ refl framed.1.is_head framed.1.is_last in
     let sends =

@@ -16,6 +16,6 @@ returns g c =
     visits g.S.Store claims_read _ (Text customer ∷ []) (search rules)
     c.args.conn.now c.visit_rows.new.conn
     g.K.Sink.takes claim_in c.visit_rows.result c.args.sink.now c.visit_rows.new.sink
-    (λ t. map claim_of (filter (is_of customer) t.orders)) c.requires
+    (λ t. map (λ o. claim_of o.row) (filter (is_of customer) t.orders)) c.requires
     (λ rows office s. claims_shown customer (state g.S.Store c.args.conn.now).now office rows s)
     c.visit_rows.ensures.visited c.visit_rows.ensures.same c.visit_rows.ensures.rests c.visit_rows.ensures.mode c.visit_rows.ensures.crash

@@ -12,7 +12,7 @@ returns-in-Ok g c = λ bytes.
       output_new = g.W.Write.contents c.tell_checked.new.output;
     } in
     checked_ends c.args.site.now c.args.old.now traffic c.in-Ok.checked c.tell_checked.result (g.E.Write.contents c.args.err.now)
-    (g.E.Write.contents c.tell_checked.new.err) told.site told.fault
+    (g.E.Write.contents c.tell_checked.new.err) c.in-Ok.ensures.told told.site told.fault
 
 pub returns-in-Err : goal.returns-in-Err
 returns-in-Err g c = λ bytes.
@@ -23,4 +23,4 @@ returns-in-Err g c = λ bytes.
       output_new = g.W.Write.contents c.args.output.now;
     } in
     failed_ends c.args.site.now c.args.old.now traffic c.in-Err.failure c.finish.result (g.E.Write.contents c.args.err.now)
-    (g.E.Write.contents c.finish.new.err) c.finish.ensures.status c.in-Err.ensures c.finish.ensures.told
+    (g.E.Write.contents c.finish.new.err) c.finish.ensures.status c.in-Err.ensures.failed c.finish.ensures.told
