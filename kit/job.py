@@ -12,7 +12,7 @@ from typing import Any, Mapping, Optional, Sequence
 
 from kit.chip import MAP, Chip
 
-# The vectors of docs/reference/api.md#test-vectors that a life has: the numbers of its requests, and their digests.
+# The vectors of docs/integrate/api.md#test-vectors that a life has: the numbers of its requests, and their digests.
 VECTOR_MAC, VECTOR_KEY = "240ac4000001", bytes(range(32))
 VECTOR_ORDER = {"name": "o1", "issuer": "acme-ca", "prefix": "A", "width": 3, "first": 998, "quantity": 2, "macs": 0}
 VECTOR_TEXT = 'a"b\\c/d\r\n\te\x01µ'

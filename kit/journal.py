@@ -1,4 +1,4 @@
-"""The station's own log, read while the station runs and at the end (docs/reference/api.md#the-log)."""
+"""The station's own log, read while the station runs and at the end (docs/integrate/api.md#the-log)."""
 
 from __future__ import annotations
 

@@ -1,4 +1,4 @@
-"""What the protocol of a seat says of requests and of a station's log (docs/reference/api.md).
+"""What the protocol of a seat says of requests and of a station's log (docs/integrate/api.md).
 
 The digests and the lines are held to the vectors of that page by tests/test_conformance.py. Standard library alone.
 """

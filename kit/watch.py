@@ -1,4 +1,4 @@
-"""The seat as the proxy sees it: the table of states of docs/reference/api.md#the-protocol-of-a-seat, looked at from
+"""The seat as the proxy sees it: the table of states of docs/integrate/api.md#the-protocol-of-a-seat, looked at from
 outside. Each request that comes is held to what became of the one before."""
 
 from __future__ import annotations

@@ -1,5 +1,5 @@
 """Holds docs/openapi.yaml, and its twin by OpenAPI 3.0.3 (tools/openapi30), to the built program: every request and
-every reply of docs/tutorial/first-chip.md, of the tests' conversations and of random requests over a running server.
+every reply of docs/first-chip.md, of the tests' conversations and of random requests over a running server.
 
 A request is one that the description has exactly where the server answers neither 7 (no such path or method) nor 9 nor
 10 (the body or the parameter has another form); a reply has to be of the form that the description has for its path,
@@ -86,7 +86,7 @@ def test_the_description_itself(description, faults):
 
 @pytest.mark.needs("reader", "bash", "curl", "jq", "xxd", "sqlite3", "sha256sum")
 def test_the_first_chip(description, program):
-    """The requests of docs/tutorial/first-chip.md, as curl sends them."""
+    """The requests of docs/first-chip.md, as curl sends them."""
     shell = Shell(program, ports_in_row(4), SECONDS)
     try:
         folder = Path(shell.folder.name)
@@ -96,7 +96,7 @@ def test_the_first_chip(description, program):
         record.touch()
         record.chmod(0o666)
         shell.reply([f"export RECORD={record}"])
-        for block in BLOCK.findall((ROOT / "docs/tutorial/first-chip.md").read_text(encoding="utf-8")):
+        for block in BLOCK.findall((ROOT / "docs/first-chip.md").read_text(encoding="utf-8")):
             for step in steps_of(block):
                 shell.reply(step.lines)
         records = record.read_text(encoding="utf-8").splitlines()

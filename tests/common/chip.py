@@ -1,4 +1,4 @@
-"""The life of a chip as in docs/tutorial/first-chip.md, and the books after each of its requests.
+"""The life of a chip as in docs/first-chip.md, and the books after each of its requests.
 
 One seat imports a map, makes an order with a hardware address for each serial number, registers a chip, plans,
 reads back twice, gives it an identity and ships it. The replies and the books are those of a run that nobody
@@ -21,7 +21,7 @@ from common.program import Failed
 DATA = ROOT / "crates" / "station" / "data"
 SITE = DATA / "site.toml"
 MAP = DATA / "map.toml"
-PAGE = ROOT / "docs/tutorial/first-chip.md"
+PAGE = ROOT / "docs/first-chip.md"
 
 # A chip by its factory MAC, and block 0 as the factory leaves it: the MAC with its CRC, a revision, a calibration.
 CHIP = "240ac4000001"

@@ -265,5 +265,5 @@ class Place:
 
 
 def refusal(name, no):
-    """A refusal's body, as docs/reference/api.md has it."""
+    """A refusal's body, as docs/integrate/api.md has it."""
     return json.dumps({"error": name, "no": no}, separators=(",", ":"))

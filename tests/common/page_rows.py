@@ -1,11 +1,11 @@
-"""The rows of docs/reference/tests.md that say what a long test found, and of which commit."""
+"""The rows of docs/proof/tests.md that say what a long test found, and of which commit."""
 
 import re
 import subprocess
 
 from common.needs import ROOT
 
-PAGE = ROOT / "docs/reference/tests.md"
+PAGE = ROOT / "docs/proof/tests.md"
 
 
 def commit() -> str:

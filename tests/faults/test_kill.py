@@ -9,7 +9,7 @@ new file, which nobody disturbs: each reply, each order, device and ledger, and 
 have to be equal. What a station asks for depends on the seed and on its own replies alone.
 
 The requests are those of the seed; the moments are the seed's and the machine's. With --write the row of
-docs/reference/tests.md says what was found.
+docs/proof/tests.md says what was found.
 """
 
 import hashlib

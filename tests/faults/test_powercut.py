@@ -1,7 +1,7 @@
 """Cuts the power between any two calls that a run makes on its store's files, and compares what the program makes of
 what is left with an undisturbed run.
 
-The run is the life of a chip of docs/tutorial/first-chip.md over a new store, `replay --db`. strace records its calls
+The run is the life of a chip of docs/first-chip.md over a new store, `replay --db`. strace records its calls
 on the store's file, on the file as which it is made (`STORE-new`) and on the log beside it, with their bytes, and each
 reply that is written. A cut is between two of these calls, each place in its turn, and leaves of each file for itself:
 
@@ -13,7 +13,7 @@ reply that is written. A cut is between two of these calls, each place in its tu
 - a file that was made, and whose folder wasn't synced since, may be there or not, and one that was renamed may have
   either name.
 
-This is what the program supposes of a disk (docs/reference/trust.md); of names it supposes no more than that a file
+This is what the program supposes of a disk (docs/proof/trust.md); of names it supposes no more than that a file
 which it made or renamed has its name once it has synced the folder. It renames one file, that of a new store, and
 removes none: a call on the files that isn't known here is an error.
 

@@ -13,7 +13,7 @@ loader's own. What is refused:
     full store      opening one with the rows of the whole life
     identity, ..    an identity after the requests before it, over memory, and over a store that has them: over memory
                     from its own first call on, over the store with the opening before it
-    life, ..        the whole life of docs/tutorial/first-chip.md in one stream, over memory and over a new store
+    life, ..        the whole life of docs/first-chip.md in one stream, over memory and over a new store
     killed store    opening a store whose program was killed behind the whole life, so that it stands in the log
     schema 1, 2     opening one with these rows of an earlier schema, which is upgraded
     grown site      opening the full store with a site that has one customer more, which it takes
@@ -39,7 +39,7 @@ has to show the books of an undisturbed one; a map or a site that was refused is
 ends with `station: store fault 3`, and leaves no file of the store's name until the renaming is done, and behind it an
 empty database; nothing has the name `STORE-new` behind the next start.
 
-With --write and -k 'not 97' the row of docs/reference/tests.md says what was found.
+With --write and -k 'not 97' the row of docs/proof/tests.md says what was found.
 """
 
 import collections

@@ -199,7 +199,7 @@ print([f"{page}: {it}" for page, it in links if not (page.parent / it).exists()]
 EOF
 same 'links that lead nowhere' "$(in_root python3 /tmp/links.py)" '[] True'
 same 'the map of the tutorial' "$(in_root station check-map /usr/share/doc/wanekupo/examples/map.toml)" 'ok esp32-sample 4 7'
-grep -q 'serve --site /usr/share/doc/wanekupo/examples/site.toml ' "$root/usr/share/doc/wanekupo-client/docs/tutorial/first-chip.md"
+grep -q 'serve --site /usr/share/doc/wanekupo/examples/site.toml ' "$root/usr/share/doc/wanekupo-client/docs/first-chip.md"
 
 step 'a bench, by a recipe and the hook of the example'
 client make-order o2 acme-ca B --width 3 --first 1 --quantity 1 --yes > "$room/ordered"

@@ -24,7 +24,7 @@ SEATS = [seat for seats in CUSTOMERS.values() for seat in seats]
 
 
 def signed(line):
-    """A line with the digest of what it asks, as docs/reference/api.md has it."""
+    """A line with the digest of what it asks, as docs/integrate/api.md has it."""
     if "asked" in line:
         text = json.dumps(line["asked"], sort_keys=True, separators=(",", ":"), ensure_ascii=False)
         line["digest"] = hashlib.sha256(f"{line['path']}\n{text}".encode()).hexdigest()

@@ -6,7 +6,7 @@ a backup, and works again. Then its disk is gone at a random moment of the load:
 files are removed. The journals come off the stations by `wanekupo ship-journal`, station-restore puts the backup back
 and brings back what the journals have; on every other day it is killed itself, at two random calls, and begun again.
 Each station is told to go on with the number that is expected, treats the chips that it has as the page says
-(docs/how-to/back-up-and-restore.md), and works on in the restored store.
+(docs/operate/backup-and-restore.md), and works on in the restored store.
 
 At the end of each day the journals of all days are read by json alone: each serial number of an issuer and each address
 stands for one chip, each chip has one of them, and the store has each of them with its key. What a station asks for,

@@ -2,7 +2,7 @@
 changes under a running nginx. Each test has a folder, a program and an nginx of its own.
 
 Between nginx and the program stands a recorder, which keeps the head of each request that comes through: so it is seen
-that none of a stranger's does, and that no outer token does. Expected replies are those of docs/reference/api.md.
+that none of a stranger's does, and that no outer token does. Expected replies are those of docs/integrate/api.md.
 """
 
 import fcntl
@@ -283,7 +283,7 @@ def test_forms(place):
     expect("of these came through", place.recorder.heads[asked:], [])
     for name, scheme in [("small letters", b"bearer "), ("capitals", b"BEARER "), ("two spaces", b"Bearer  ")]:
         got = place.raw(b"GET /v1/order?name=none HTTP/1.1\r\nHost: h\r\nAuthorization: " + scheme + good + b"\r\n\r\n")
-        expect(f"{name}, as docs/reference/api.md has it", got[9:12], b"404")
+        expect(f"{name}, as docs/integrate/api.md has it", got[9:12], b"404")
     look = place.outer["look"].encode()
     with place.connection() as connection:
         statuses = []

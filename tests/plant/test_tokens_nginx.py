@@ -258,7 +258,7 @@ def test_rates(place):
     expect("of these came through", len(place.recorder.heads) <= 2, True)
 
 
-# Requests that nginx itself refuses, behind their first line's method, and what docs/reference/api.md calls that.
+# Requests that nginx itself refuses, behind their first line's method, and what docs/integrate/api.md calls that.
 FIELDS = "Host: h\r\nAuthorization: Bearer TOKEN\r\n"
 ODD = [
     ("no HTTP", "\0\1\2 \r\n\r\n", 400, "bad_head", 1),

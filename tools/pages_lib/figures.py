@@ -42,7 +42,7 @@ PLACES = [
     ("CONTRIBUTING.md", "in the gate, and `office_store` {}.", "edits_of_store"),
     ("CONTRIBUTING.md", "No chain of crates is longer than these {},", "longest_chain"),
     ("CONTRIBUTING.md", "Tests are in {} crates at the top", "test_crates"),
-    ("docs/explanation/architecture.md", "Tests are {} crates at the top.", "test_crates"),
+    ("docs/proof/architecture.md", "Tests are {} crates at the top.", "test_crates"),
     ("crates/fuse_plan/src/lib.rt", "the lowest of the {} faults of the wishes", "plan_faults"),
     ("crates/http_frames/src/serving.rt", "for each of the {} endings", "endings"),
     ("crates/office_store/src/lib.rt", "makes the {} tables of an empty one", "tables"),
@@ -202,9 +202,9 @@ def rows_of_other_sources() -> Iterator[str]:
     can't tell."""
     if asked_git("rev-parse", "--is-shallow-repository").stdout.strip() != "false":
         return
-    for name, commit, more in re.findall(DISTURBED, page_text("docs/reference/tests.md"), re.MULTILINE):
+    for name, commit, more in re.findall(DISTURBED, page_text("docs/proof/tests.md"), re.MULTILINE):
         if more or asked_git("diff", "--quiet", commit, "HEAD", "--", *SOURCES).returncode:
-            yield f"docs/reference/tests.md: {name} is of {commit}{more}, of other sources: it takes --write"
+            yield f"docs/proof/tests.md: {name} is of {commit}{more}, of other sources: it takes --write"
 
 
 def others_at_fault() -> Iterator[str]:

@@ -7,7 +7,7 @@ from collections.abc import Iterator
 from pages_lib.rattle import TOP, text_of, tracked
 
 # The page that tools/pages writes whole, and pages that say what was once: no name in them has to be there.
-PROMISES_PAGE = "docs/reference/promises.md"
+PROMISES_PAGE = "docs/proof/list.md"
 OF_THE_PAST = ("CHANGELOG.md", "bench/RESULTS.md")
 
 POINTER = re.compile(r"\bdocs/[\w/-]+\.(?:md|toml|yaml|png|svg)(?:#[\w-]+)?")

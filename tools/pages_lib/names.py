@@ -23,7 +23,7 @@ from pages_lib.rattle import CRATES, TOP, code_of, crates, declared, sources, te
 
 LIST = r"\(((?:`[\w:]+`(?:,| and)?\s*)+)[^()`]*"
 FOLDERS = ["bench", "clients", "debian", "deploy", "kit", "python", "tests", "tools", ".ci", "docs/openapi.yaml"]
-QUOTING = ("docs/explanation/promises.md",)
+QUOTING = ("docs/proof/promises.md",)
 OF_TESTS = re.compile(r"test_|\w+_tests$")
 
 # Names of other programs' settings, and what a build makes.

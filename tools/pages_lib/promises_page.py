@@ -1,4 +1,4 @@
-"""Writes docs/reference/promises.md: each promise with the calls that carry it, the clause that says it where that is
+"""Writes docs/proof/list.md: each promise with the calls that carry it, the clause that says it where that is
 short, and what stands behind it."""
 
 import re

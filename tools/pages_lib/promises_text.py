@@ -1,10 +1,10 @@
-"""What docs/reference/promises.md says in words, above the promises."""
+"""What docs/proof/list.md says in words, above the promises."""
 
 HEAD = """\
 # The list of promises
 
 Which promises are there, and which clauses, planted bugs and tests are behind each? [The promises,
-read aloud](../explanation/promises.md) explains the first one, and the signs of clauses.
+read aloud](promises.md) explains the first one, and the signs of clauses.
 `tools/pages` writes this page from [promises.toml](../promises.toml) and the sources: change those.
 Each heading is a promise's name, by which other pages cite it. Under it come:
 
@@ -21,7 +21,7 @@ doesn't return what was written.
 
 **To read one**, read its clauses: what a call supposes (`requires`, and what comes before an
 arrow), and what it says. A law's premises are the fields of [its
-record](../explanation/proof.md#laws-steps-and-runs). Then read the definitions, which `tools/pages
+record](proof.md#laws-steps-and-runs). Then read the definitions, which `tools/pages
 --list NAME` prints in reading order. Ask of each: does it say what its comment says, and is that
 what is promised? Would it hold of one of the wrong bodies? No proof has to be read. Laws over runs
 have no body, so a wrong rule tries each. Two are tried by other laws: `runs_exist` by that of one

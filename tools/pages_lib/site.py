@@ -23,11 +23,12 @@ PICTURES = (".svg", ".png")
 
 # The parts of the site in their order: a title, and what the paths of its pages begin with.
 PARTS = [
-    ("Tutorial", "docs/tutorial/"),
-    ("How to", "docs/how-to/"),
-    ("Reference", "docs/reference/"),
-    ("Explanation", "docs/explanation/"),
-    ("Decisions", "docs/decisions/"),
+    ("First day", "docs/first-chip.md"),
+    ("Operate", "docs/operate/"),
+    ("Build a line", "docs/line/"),
+    ("Write a station", "docs/integrate/"),
+    ("Look up", "docs/reference/"),
+    ("What is proved", "docs/proof/"),
     ("Project", ""),
 ]
 

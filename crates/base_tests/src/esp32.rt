@@ -18,7 +18,7 @@ pub const ESP32: &str = r#"# The eFuses of the ESP32, for POST /v1/map (docs/ref
 #       { name = "BLOCK3", block = 3, bit = 0, count = 256, write = 9, read = 2, key = true },
 # - Second names of a field (the source's `alt`), as ENCRYPT_FLASH_KEY for BLOCK1 and DISABLE_JTAG for JTAG_DISABLE.
 #
-# Before a plan has UART_DOWNLOAD_DIS, or the read lock of BLOCK2, read docs/how-to/write-a-station.md.
+# Before a plan has UART_DOWNLOAD_DIS, or the read lock of BLOCK2, read docs/integrate/station.md.
 
 name = "esp32"
 wr = "WR_DIS"

@@ -1,4 +1,4 @@
-"""What the office of tests knows of fuses, by the pages docs/reference/api.md and files.md: plans, and read-backs.
+"""What the office of tests knows of fuses, by the pages docs/integrate/api.md and files.md: plans, and read-backs.
 
 A *work* is `{"bits": [..], "keys": {..}}`, with a whole number for the bits of each block of the map.
 """

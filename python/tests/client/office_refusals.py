@@ -1,4 +1,4 @@
-"""The refusals of docs/reference/api.md, for the office of tests."""
+"""The refusals of docs/integrate/api.md, for the office of tests."""
 
 REFUSALS = {
     6: ("unknown_token", 401), 7: ("unknown_path", 404), 8: ("wrong_caller", 403), 9: ("bad_json", 400),

@@ -33,7 +33,7 @@ SECONDS = 60
 ENDED = ("PASS", "FAIL", "LABEL")
 # How long a robot may take for a chip, on a machine that has other work.
 A_CHIP = 60
-PAGE = ROOT / "docs" / "how-to" / "run-a-bench.md"
+PAGE = ROOT / "docs" / "line" / "bench.md"
 FACTS = 'echo "$CHIP $ORDER $SERIAL $MAC $MACS $KEY_SHA256"\n'
 GREEN, RED, ASK_WHERE = (f"take it out, {it}" for it in ("green box", "red box", "and ask where it comes from"))
 

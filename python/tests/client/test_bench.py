@@ -1,6 +1,6 @@
 """`wanekupo run` over many chips: with kills and faults, of each family, by the page's own recipe.
 
-Expected values are those of docs/reference/api.md and docs/how-to/run-a-bench.md. How single chips end is in
+Expected values are those of docs/integrate/api.md and docs/line/bench.md. How single chips end is in
 test_endings.py.
 """
 

@@ -1,6 +1,6 @@
 """`wanekupo burn`: what it prints is run by a shell, over simulated chips and over espefuse's virtual ones.
 
-Expected are the outcomes of docs/reference/api.md, and that no key is on a screen, whoever runs the lines.
+Expected are the outcomes of docs/integrate/api.md, and that no key is on a screen, whoever runs the lines.
 """
 
 from __future__ import annotations

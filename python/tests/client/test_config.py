@@ -1,6 +1,6 @@
 """The settings of the command `wanekupo`, and the examples that its package has.
 
-Expected values are those of docs/reference/client.md and docs/how-to/run-a-bench.md.
+Expected values are those of docs/integrate/client.md and docs/line/bench.md.
 """
 
 from __future__ import annotations
@@ -120,7 +120,7 @@ class Example(unittest.TestCase):
     """What the package has in its examples, and its man page of a recipe, beside the page on benches."""
 
     def setUp(self):
-        self.page = (ROOT / "docs" / "how-to" / "run-a-bench.md").read_text(encoding="utf-8")
+        self.page = (ROOT / "docs" / "line" / "bench.md").read_text(encoding="utf-8")
 
     def test_its_files(self):
         """The page shows each of them whole, byte for byte."""

@@ -1,5 +1,5 @@
-"""What a bench counts: chips and not stays, by docs/how-to/shift.md#what-is-counted, and by the rule of [stop] of
-docs/how-to/run-a-bench.md.
+"""What a bench counts: chips and not stays, by docs/line/shift.md#what-is-counted, and by the rule of [stop] of
+docs/line/bench.md.
 """
 
 from __future__ import annotations

@@ -1,7 +1,7 @@
 """How a chip's stay at a bench ends, and what is said then: each refusal, each fault of espefuse, of a hook, of the
 network and of the disk, over the program and simulated chips.
 
-Expected values are those of docs/reference/api.md and docs/how-to/run-a-bench.md.
+Expected values are those of docs/integrate/api.md and docs/line/bench.md.
 """
 
 from __future__ import annotations

@@ -1,7 +1,7 @@
 """Chip families: what the maps and the families say is what espefuse says, and each family's life goes from registered
 to shipped over its virtual chip and over a simulated one.
 
-Expected are espefuse's own definitions and what its own commands burn, and the outcomes of docs/reference/api.md. Where
+Expected are espefuse's own definitions and what its own commands burn, and the outcomes of docs/integrate/api.md. Where
 ESPEFUSE has no words that run espefuse 4, the tests of it are left out.
 """
 

@@ -1,6 +1,6 @@
 """The keys of a chip leave the bench with it: its folder goes behind the last hook, and nothing else does.
 
-Expected are the rules of docs/how-to/run-a-bench.md, over the program and simulated chips.
+Expected are the rules of docs/line/bench.md, over the program and simulated chips.
 """
 
 from __future__ import annotations

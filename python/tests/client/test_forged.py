@@ -1,7 +1,7 @@
 """Forged plants: a store and the journals of its stations that agree, changed in one place on one side or on both.
 
 The honest plant is the program's own, with three stations of two customers. What a change has to say follows from
-docs/reference/api.md. Beside them are honest plants of which nothing may be said.
+docs/integrate/api.md. Beside them are honest plants of which nothing may be said.
 """
 
 from __future__ import annotations

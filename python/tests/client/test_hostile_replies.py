@@ -1,4 +1,4 @@
-"""Each member of a reply is held to its form (docs/reference/api.md). A server that breaks one gets nothing done: no
+"""Each member of a reply is held to its form (docs/integrate/api.md). A server that breaks one gets nothing done: no
 hook runs, nothing is burnt, and the request goes on where the server is its own again."""
 
 from __future__ import annotations

@@ -1,6 +1,6 @@
 """Late copies: the network holds a request, its repeat is refused, and the held one is accepted afterwards.
 
-What is expected is of docs/reference/api.md: its refusals, and that a request is done once.
+What is expected is of docs/integrate/api.md: its refusals, and that a request is done once.
 """
 
 from __future__ import annotations

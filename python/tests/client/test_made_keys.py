@@ -1,6 +1,6 @@
 """Keys that a command makes at a bench, one for each chip.
 
-Expected values are those of docs/how-to/run-a-bench.md.
+Expected values are those of docs/line/bench.md.
 """
 
 from __future__ import annotations

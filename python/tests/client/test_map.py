@@ -1,6 +1,6 @@
 """The ESP32's map: the program takes it, and each wish on a blank chip is burnt in full and read back as a match.
 
-What a wish comes to is counted here, from the map's text and docs/reference/api.md.
+What a wish comes to is counted here, from the map's text and docs/integrate/api.md.
 """
 
 from __future__ import annotations

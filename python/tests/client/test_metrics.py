@@ -439,7 +439,7 @@ class Form(unittest.TestCase):
 
     def test_cards(self):
         """A card has nine points at most and then a command, alone, that is there."""
-        cards = (ROOT / "docs/how-to/cards.md").read_text(encoding="utf-8").split("\n## ")[1:]
+        cards = (ROOT / "docs/operate/night.md").read_text(encoding="utf-8").split("\n## ")[1:]
         for card in cards:
             name, _, body = card.partition("\n")
             *points, command = body.strip().split("\n\n")

@@ -1,6 +1,6 @@
 """The operator's words: each language has each word and each ending, with the same names to fill in; a plant's file.
 
-The endings are those of the table in docs/how-to/run-a-bench.md.
+The endings are those of the table in docs/line/bench.md.
 """
 
 from __future__ import annotations
@@ -20,7 +20,7 @@ from wanekupo.bench.board import Board, ShiftCounts, Socket, box_of, ended_socke
 from wanekupo.bench.endings import ENDINGS, Ended
 from wanekupo.bench.recipe import BadRecipe, recipe_of
 
-PAGE = ROOT / "docs" / "how-to" / "run-a-bench.md"
+PAGE = ROOT / "docs" / "line" / "bench.md"
 LANGUAGES = [it.stem for it in words.FOLDER.glob("*.toml") if it.stem != "en"]
 ROW = re.compile(r"^\| `(\w+)` \| .* \| .* \| (.*) \|$", re.MULTILINE)
 # Where the page's last column sends a chip, by its first words.

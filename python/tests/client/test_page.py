@@ -1,7 +1,7 @@
 """The bench's page in a browser: green, red, away, stopped, names that are markup, and the keyboard alone.
 
 It needs Debian's chromium, and is left out where there is none. With PICTURES=1 it writes the pictures of
-docs/how-to/run-a-bench.md.
+docs/line/bench.md.
 """
 
 from __future__ import annotations

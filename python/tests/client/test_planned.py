@@ -1,7 +1,7 @@
 """What a bench does with chips that somebody else planned, or that an earlier recipe did, and with those that keep a
 place in the order.
 
-Expected values are those of docs/reference/api.md and docs/how-to/run-a-bench.md.
+Expected values are those of docs/integrate/api.md and docs/line/bench.md.
 """
 
 from __future__ import annotations

@@ -1,6 +1,6 @@
 """What is said of a recipe that isn't one, before the first chip.
 
-Expected are the sentences of docs/how-to/run-a-bench.md's rules, and that nothing is sent.
+Expected are the sentences of docs/line/bench.md's rules, and that nothing is sent.
 """
 
 from __future__ import annotations

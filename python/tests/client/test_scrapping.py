@@ -1,6 +1,6 @@
 """The bench's word `scrap`, on the terminal and by the page's own requests.
 
-Expected are the sentences and rules of docs/how-to/run-a-bench.md, and the states of docs/reference/api.md.
+Expected are the sentences and rules of docs/line/bench.md, and the states of docs/integrate/api.md.
 """
 
 from __future__ import annotations

@@ -1,7 +1,7 @@
 """The bench's page as an operator has it: what is read from two metres, gloves, Enter, sounds, on four screens.
 
 It needs Debian's chromium, and is left out where there is none. With PICTURES=1 it writes a picture of
-docs/how-to/run-a-bench.md. What it expects is that page's: capitals of 12.8 mm (22 minutes of arc at two metres, which
+docs/line/bench.md. What it expects is that page's: capitals of 12.8 mm (22 minutes of arc at two metres, which
 is 2 * 2000 mm * tan(11')), letters at least half as wide as high (ISO 9241-303), and controls of 20 mm.
 """
 

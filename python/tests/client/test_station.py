@@ -1,6 +1,6 @@
 """The client against the program.
 
-Expected values are those of docs/reference/api.md and docs/tutorial/first-chip.md, never the program's. The program is
+Expected values are those of docs/integrate/api.md and docs/first-chip.md, never the program's. The program is
 `crates/station/out/station`, or what the variable STATION_PROGRAM names; `bench/client` sets it.
 """
 

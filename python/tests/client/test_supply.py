@@ -1,7 +1,7 @@
 """No chip is begun that can't be finished: two benches to their order's last serial number, with chips that are
 scrapped behind their identity, which gives their places back and not their numbers.
 
-Expected values are those of docs/reference/api.md and docs/how-to/run-a-bench.md.
+Expected values are those of docs/integrate/api.md and docs/line/bench.md.
 """
 
 from __future__ import annotations

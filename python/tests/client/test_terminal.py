@@ -1,6 +1,6 @@
 """How chips are begun, on a terminal and by scanners, and what is said there.
 
-Expected values are those of docs/how-to/run-a-bench.md.
+Expected values are those of docs/line/bench.md.
 """
 
 from __future__ import annotations

@@ -1,5 +1,5 @@
 """What espefuse prints and takes. Expected values are espefuse 4.7.0's own, printed by its virtual chip, and those of
-docs/tutorial/first-chip.md."""
+docs/first-chip.md."""
 
 import hashlib
 import re
@@ -25,7 +25,7 @@ EFUSE_REG_DEC_STATUS        0x00000000
 === Run "dump" command ===
 """
 
-# The SHA-256 of the bytes 0 to 31, from docs/tutorial/first-chip.md.
+# The SHA-256 of the bytes 0 to 31, from docs/first-chip.md.
 KEY_SHA256 = "630dcd2966c4336691125448bbb25b4ff412a49c732db2c8abc1b8581bd710dd"
 ESP32 = family_of("esp32")
 

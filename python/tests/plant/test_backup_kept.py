@@ -1,4 +1,4 @@
-"""Which backups stay, by docs/how-to/back-up-and-restore.md, and what is read of the note of the last one."""
+"""Which backups stay, by docs/operate/backup-and-restore.md, and what is read of the note of the last one."""
 
 import json
 import os

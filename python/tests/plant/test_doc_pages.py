@@ -9,7 +9,7 @@ sys.path.insert(0, str(TOP / "tools"))
 
 import doc_pages  # noqa: E402
 
-KNOWN = frozenset(("docs/how-to/audit.md", "docs/pictures/bench-red.png"))
+KNOWN = frozenset(("docs/line/audit.md", "docs/pictures/bench-red.png"))
 
 
 def test_links():
@@ -20,7 +20,7 @@ def test_links():
         ("[x](../../deploy/ca/devices.cnf)", "[x](/usr/share/doc/wanekupo-client/examples/ca/devices.cnf)"),
         ("`crates/station/data/map.toml`", "`/usr/share/doc/wanekupo/examples/map.toml`"),
     ):
-        assert doc_pages.mended("docs/how-to/install.md", before, KNOWN) == after
+        assert doc_pages.mended("docs/operate/install.md", before, KNOWN) == after
 
 
 def test_all_pages(tmp_path):

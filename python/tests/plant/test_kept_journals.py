@@ -1,4 +1,4 @@
-"""The script of the page back-up-and-restore that keeps each day's journals: what one station ships fills no disk."""
+"""The script of the page backup-and-restore that keeps each day's journals: what one station ships fills no disk."""
 
 import shutil
 import subprocess
@@ -8,7 +8,7 @@ from pathlib import Path
 import pytest
 from conftest import TOP
 
-PAGE = TOP / "docs/how-to/back-up-and-restore.md"
+PAGE = TOP / "docs/operate/backup-and-restore.md"
 
 pytestmark = pytest.mark.skipif(not shutil.which("rsync"), reason="there is no rsync")
 SIZE = "#!/bin/sh\ncase $2 in *pc7) echo 2000001 $2;; *) echo 2000000 $2;; esac | tr ' ' '\\t'\n"

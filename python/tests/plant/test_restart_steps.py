@@ -15,7 +15,7 @@ from wanekupo.common.store_user import UserError
 
 restart = script("restart")
 NOW = 1_800_000_000
-# As `wanekupo metrics` writes them (docs/how-to/metrics-and-alarms.md).
+# As `wanekupo metrics` writes them (docs/operate/watch.md).
 ROWS = {"metrics_timestamp_seconds": NOW - 60, "connections_left": "5e5", "server_memory_bytes": 100_000_000,
         "start_memory_limit_bytes": 1_000_000_000, "start_memory_bytes": 200_000_000}  # fmt: skip
 

@@ -18,7 +18,7 @@ from wanekupo.seat.journal_lines import folders_at, folders_in
 
 
 def asked(number, seat="a1", **more):
-    """A line as docs/reference/api.md has it, with the digest of what it asks."""
+    """A line as docs/integrate/api.md has it, with the digest of what it asks."""
     members = {"chip": "240ac4000001", "nr": number}
     text = json.dumps(members, sort_keys=True, separators=(",", ":"))
     digest = hashlib.sha256(f"/v1/ship\n{text}".encode()).hexdigest()
@@ -56,7 +56,7 @@ def taken(words, folders=None, left_out=()):
 
 
 def test_the_vector_of_the_api():
-    """The digest that these tests make is that of docs/reference/api.md, Test vectors."""
+    """The digest that these tests make is that of docs/integrate/api.md, Test vectors."""
     assert asked(8)["digest"] == "5dd7f8178f0a3513ca9542436e8d97e14b939a6544b34e50b9b2b8e657a94893"
 
 

@@ -8,7 +8,7 @@ import subprocess
 import pytest
 from conftest import TOP
 
-PAGE = TOP / "docs/how-to/back-up-and-restore.md"
+PAGE = TOP / "docs/operate/backup-and-restore.md"
 
 
 @pytest.fixture

@@ -36,7 +36,7 @@ MAP = (FAMILIES / "none/map.toml").read_text(encoding="utf-8")
 DIGEST, KEY = hashlib.sha256(MAP.encode()).hexdigest(), hashlib.sha256(b"\0").hexdigest()
 CHIP = {"chip": "c1"}
 
-# What each path asks and is answered, as docs/reference/api.md has it.
+# What each path asks and is answered, as docs/integrate/api.md has it.
 ORDER = {"name": "o", "issuer": "bolt-ca", "prefix": "P", "width": 2, "first": 1, "quantity": 3, "macs": 0,
          "not_before": None}  # fmt: skip
 RECORD = {"issuer": "bolt-ca", "serial": "P01", "key_sha256": KEY, "mac": None, "not_before": None}

@@ -1,4 +1,4 @@
-"""A takeover's comparison with the witness, by docs/how-to/standby.md; and what a resource of DRBD has to keep."""
+"""A takeover's comparison with the witness, by docs/operate/second-machine.md; and what a resource of DRBD has to keep."""
 
 import re
 import tomllib
@@ -166,7 +166,7 @@ def test_a_table_that_is_none(tmp_path, monkeypatch, user, mode, text, told):
 
 
 def test_seats_that_only_look_as_the_page_has_them():
-    page = (TOP / "docs/how-to/standby.md").read_text(encoding="utf-8")
+    page = (TOP / "docs/operate/second-machine.md").read_text(encoding="utf-8")
     (command,) = re.findall(r'`"(date -u [^"]*)"`', page)
     found = highest_numbers([], [tomllib.loads(f'it = "{command}"')["it"]], NOW - timedelta(seconds=1))
     assert {seat: reply.number for seat, reply in found.items()} == {"health": 0, "restore-acme": 0}

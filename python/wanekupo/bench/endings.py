@@ -1,6 +1,6 @@
 """All the ways in which a chip's stay in a socket can end, each with its sentence.
 
-An ending says what happened, and what the operator does. docs/how-to/run-a-bench.md has the same table for people, and
+An ending says what happened, and what the operator does. docs/line/bench.md has the same table for people, and
 a test holds the two to each other. `ended_by` finds the ending of an error.
 """
 

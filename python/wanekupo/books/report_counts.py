@@ -1,4 +1,4 @@
-"""A report as the server prints it, and what was done between two of them (docs/how-to/yield-and-hand-over.md)."""
+"""A report as the server prints it, and what was done between two of them (docs/line/lots.md)."""
 
 from __future__ import annotations
 

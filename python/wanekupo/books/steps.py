@@ -59,7 +59,7 @@ WORKS = frozenset(("bits", "keys", "batch1", "batch2", "rest"))
 
 def odd_members(path: str, reply: dict[str, Any]) -> str:
     """The names of the members that the reply to an accepted request lacks, has in another form, or has beside those of
-    docs/reference/api.md."""
+    docs/integrate/api.md."""
     forms = REPLIES[path] if path in PATHS else {}
     new = NEW if path == "/v1/device" else {}
     odd = {*wrong_in(reply, forms), *(name for name in new if reply.get(name, new[name]) != new[name])}

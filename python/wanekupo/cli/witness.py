@@ -1,7 +1,7 @@
 """What a station has replies to, by its journals: the highest accepted number of each seat.
 
 A store in which a seat's last number is lower is an older one. Who starts a store on another machine compares the two
-before any station asks (docs/how-to/standby.md).
+before any station asks (docs/operate/second-machine.md).
 """
 
 from __future__ import annotations

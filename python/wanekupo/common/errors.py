@@ -41,7 +41,7 @@ def cause_of(error: BaseException) -> str:
 
 
 class Refused(StationError):
-    """A refusal of docs/reference/api.md: `no` and `name` are those of the table, `more` is what else the body says."""
+    """A refusal of docs/integrate/api.md: `no` and `name` are those of the table, `more` is what else the body says."""
 
     def __init__(self, status: int, body: Mapping[str, Any]):
         self.status, self.no, self.name = status, body["no"], body["error"]
@@ -56,8 +56,8 @@ class OutOfStep(Refused):
     request that was sent before is still under way, as it may be done; another one wasn't done, and is forgotten.
 
     Each request is refused so until `resynchronize`, which a person calls who knows why
-    (docs/how-to/write-a-station.md). Where `expected` is below `number` the store is an older one, restored or damaged:
-    who didn't restore it on purpose stops its server first, and restores it (docs/how-to/back-up-and-restore.md)."""
+    (docs/integrate/station.md). Where `expected` is below `number` the store is an older one, restored or damaged:
+    who didn't restore it on purpose stops its server first, and restores it (docs/operate/backup-and-restore.md)."""
 
     def __init__(self, refused: Refused, path: str, number: int):
         super().__init__(refused.status, refused.body)
@@ -133,7 +133,7 @@ class BadKey(StationError):
 class Differs(StationError):
     """A restored store answers otherwise than the lost one did."""
 
-    advice = f"A journal is missing, or two clocks differ: look into {PAGES}/how-to/back-up-and-restore.md."
+    advice = f"A journal is missing, or two clocks differ: look into {PAGES}/operate/backup-and-restore.md."
 
 
 class NoPeriod(StationError):

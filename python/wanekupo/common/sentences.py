@@ -13,7 +13,7 @@ import traceback
 from wanekupo.common.errors import PAGES, OutOfStep, Refused, StationError
 from wanekupo.common.texts import shown
 
-# What each refusal of docs/reference/api.md means, and what to do.
+# What each refusal of docs/integrate/api.md means, and what to do.
 REFUSALS = {
     1: ("the request has a head that is none", "This client isn't the server's: mend it."),
     2: ("the request says no length of its body", "This client isn't the server's: mend it."),
@@ -68,7 +68,7 @@ STOPPED_HIGHER = (
 )
 STOPPED_LOWER = (
     "The store is an older one. Unless it was restored on purpose, stop its server now, keep all stations off, and "
-    f"restore it from step 1 of {PAGES}/how-to/back-up-and-restore.md."
+    f"restore it from step 1 of {PAGES}/operate/backup-and-restore.md."
 )
 
 # What a call to the machine failed with, and what to do, by the class of the error.

@@ -1,4 +1,4 @@
-"""The form of each member of the server's replies (docs/reference/api.md).
+"""The form of each member of the server's replies (docs/integrate/api.md).
 
 What a hook gets, a label or a file's name has, and what is burnt comes out of these. A reply that breaks a form is
 another's page, and is as no reply.

@@ -30,7 +30,7 @@ LONGEST_LINE = 1 << 18
 Folders = dict[str, frozenset[str]]
 LONGEST_FILE = 1 << 20
 
-# The greatest number of a request (docs/reference/api.md). A person may have written a line with any up to it.
+# The greatest number of a request (docs/integrate/api.md). A person may have written a line with any up to it.
 MOST_NUMBER = 2**53 - 1
 
 # The most bytes and lines of a folder's journals, which are in memory all at once: those of most of a year in which a

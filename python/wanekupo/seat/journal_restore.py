@@ -1,4 +1,4 @@
-"""The restore of a store by the logs of its stations (docs/how-to/back-up-and-restore.md)."""
+"""The restore of a store by the logs of its stations (docs/operate/backup-and-restore.md)."""
 
 from __future__ import annotations
 

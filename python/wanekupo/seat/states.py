@@ -1,4 +1,4 @@
-"""The states of a device and the steps between them (docs/reference/api.md#devices): one machine for all who ask."""
+"""The states of a device and the steps between them (docs/integrate/api.md#devices): one machine for all who ask."""
 
 from __future__ import annotations
 

@@ -7,7 +7,7 @@
     station-standby fence-peer               DRBD's handler
     station-standby is-mounted               whether the half is mounted, for the server's unit
 
-Each says more by --help. As root, with Python 3.11 (docs/how-to/standby.md).
+Each says more by --help. As root, with Python 3.11 (docs/operate/second-machine.md).
 """
 
 import sys

@@ -11,7 +11,7 @@ and reads this half in a snapshot that is thrown away. A witness (`wanekupo witn
 has the highest number of each seat to which a station has a reply: a half that is behind it is an older one, and is
 refused. A witness is made once the other machine is off: without one the first `takeover` asks for it. Only then this
 machine becomes the primary one, mounts the volume, starts the server and takes the address. There is no option that
-overrules it: who has to go on with an older half restores it (docs/how-to/standby.md). Begun again it goes on.
+overrules it: who has to go on with an older half restores it (docs/operate/second-machine.md). Begun again it goes on.
 """
 
 import argparse

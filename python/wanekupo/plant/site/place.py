@@ -1,7 +1,7 @@
 """Where a store and its site are, and the programs that python/bin/station-site runs there.
 
 The program runs as the store's user (store_user.py): whatever a file may bring a program to do is done as that user,
-and never as root (docs/decisions/0015-a-backup-is-the-store-users.md). It gets texts by descriptors, and no name.
+and never as root (docs/decisions.md#15-a-backup-is-made-by-the-stores-user). It gets texts by descriptors, and no name.
 """
 
 import argparse
