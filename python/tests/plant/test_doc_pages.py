@@ -20,7 +20,7 @@ def test_links():
         ("[x](../../deploy/ca/devices.cnf)", "[x](/usr/share/doc/wanekupo-client/examples/ca/devices.cnf)"),
         ("`crates/station/data/map.toml`", "`/usr/share/doc/wanekupo/examples/map.toml`"),
     ):
-        assert doc_pages.mended("docs/operate/install.md", before, KNOWN) == after
+        assert doc_pages.mended("docs/line/lots.md", before, KNOWN) == after
 
 
 def test_all_pages(tmp_path):
