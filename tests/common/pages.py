@@ -1,8 +1,8 @@
 """The commands of a page of docs, run in one bash after another, and their replies beside the page's.
 
 A page's commands stand in blocks of ```console, each behind `$ `, its further lines behind `> `, and its reply below
-it. They run in a new folder in which `crates`, `kit`, `deploy` and `python` are those of the repository and
-`station` is the program.
+it. A file `.console` is one such block, behind lines that say what it shows. They run in a new folder in which
+`crates`, `kit`, `deploy` and `python` are those of the repository and `station` is the program.
 """
 
 import os
@@ -20,6 +20,7 @@ FOLDERS = ["crates", "kit", "python"]
 PORT, PORTS = 8080, 4
 SECONDS = 600
 BLOCK = re.compile(r"^```console\n(.*?)^```$", re.MULTILINE | re.DOTALL)
+FILE = re.compile(r"^(\$ .*)", re.MULTILINE | re.DOTALL)
 MARK = "end of the walk's command"
 
 # sqlite3 with words behind it, and not in its safe mode first of all: what a store says could then run a command.
@@ -38,6 +39,11 @@ class Step:
     def text(self):
         first, *others = self.lines
         return "".join([f"$ {first}\n", *(f"> {line}\n" for line in others), *(f"{line}\n" for line in self.reply)])
+
+
+def commands_of(page):
+    """What finds the commands of a page, or of a file of commands alone."""
+    return FILE if page.suffix == ".console" else BLOCK
 
 
 def steps_of(block):
@@ -149,10 +155,10 @@ def walk(page, program, port, seconds):
         for step in steps:
             expected, step.reply = step.reply, shell.reply(step.lines)
             told.append((step, expected))
-        return "```console\n" + "".join(step.text() for step in steps) + "```"
+        return found[0].replace(found[1], "".join(step.text() for step in steps))
 
     try:
-        return BLOCK.sub(block, page.read_text(encoding="utf-8")), told
+        return commands_of(page).sub(block, page.read_text(encoding="utf-8")), told
     finally:
         shell.close()
 

@@ -1,4 +1,6 @@
-"""Runs the commands of the pages in docs against the built program, and compares every reply with its page.
+"""Runs the commands of the pages in docs, and of the files `.console` here, against the built program.
+
+Every reply is compared with that of the page or the file.
 
     tests/all pages/test_walk.py --write             puts this run's replies into the pages
     tests/all pages/test_walk.py -k security.md      one page
@@ -13,24 +15,25 @@ import re
 import pytest
 
 from common.needs import missing
-from common.pages import BLOCK, ROOT, SECONDS, others_than_on, steps_of, walk
+from common.pages import ROOT, SECONDS, commands_of, others_than_on, steps_of, walk
 from common.ports import ports_in_row
 
-DOCS = ROOT / "docs"
+PLACES = ("docs/**/*.md", "tests/pages/*.console")
 
 # Programs that not every machine has, as a page runs them.
 RARE = re.compile(r"(?:^|[|;&(]\s*)(nginx|age|minisign)\b")
 
 
 def pages_with_commands():
-    """The pages that have commands, by their paths from docs."""
-    pages = (page for page in sorted(DOCS.glob("**/*.md")) if BLOCK.search(page.read_text(encoding="utf-8")))
-    return [str(page.relative_to(DOCS)) for page in pages]
+    """The pages and files that have commands, by their paths from the top."""
+    pages = (page for place in PLACES for page in sorted(ROOT.glob(place)))
+    return [str(it.relative_to(ROOT)) for it in pages if commands_of(it).search(it.read_text(encoding="utf-8"))]
 
 
 def needs(name):
     """The programs that a page runs and that not every machine has."""
-    steps = (step for block in BLOCK.findall((DOCS / name).read_text(encoding="utf-8")) for step in steps_of(block))
+    blocks = commands_of(ROOT / name).findall((ROOT / name).read_text(encoding="utf-8"))
+    steps = (step for block in blocks for step in steps_of(block))
     return sorted({program for step in steps for line in step.lines for program in RARE.findall(line)})
 
 
@@ -39,7 +42,7 @@ def needs(name):
 def test_a_page(program, name, is_written):
     if lacking := missing(needs(name)):
         pytest.skip(f"there is no {', '.join(lacking)}")
-    page = DOCS / name
+    page = ROOT / name
     text, told = walk(page, program, ports_in_row(4), SECONDS)
     if is_written:
         page.write_text(text, encoding="utf-8")
