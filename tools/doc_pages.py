@@ -20,6 +20,7 @@ SHIPPED = {
     "README.md": "/usr/share/doc/wanekupo-client/README.md",
     "CHANGELOG.md": "/usr/share/doc/wanekupo-client/NEWS.gz",
     "deploy/ca/devices.cnf": "/usr/share/doc/wanekupo-client/examples/ca/devices.cnf",
+    "deploy/keep-journals": "/usr/share/doc/wanekupo/examples/keep-journals",
     "deploy/ca/stations.cnf": "/usr/share/doc/wanekupo/examples/ca/stations.cnf",
     "deploy/prometheus/wanekupo-metrics.service": "/usr/lib/systemd/system/wanekupo-metrics.service",
 }
