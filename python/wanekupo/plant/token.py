@@ -22,8 +22,8 @@ server is started again for it (docs/operate/tokens-and-sites.md). As root, with
 
 Statuses: 0 done; 1 refused, and nothing was changed; 2 the words are wrong; 3 another run has the lock; 4 nginx refuses
 its configuration, and nothing was changed; 5 the file is changed, and nginx may go on as before; 6 the file is changed,
-and the other one of two machines doesn't know it (docs/operate/second-machine.md); 7 the file is changed, and the site file
-isn't, or nobody was told. `revoke` of what has ended has nginx read the file once more.
+and the other one of two machines doesn't know it (docs/operate/second-machine.md); 7 the file is changed, and the site
+file isn't, or nobody was told. `revoke` of what has ended has nginx read the file once more.
 """
 
 import argparse

@@ -167,8 +167,8 @@ def compare_numbers(store: dict[str, int], witness: dict[str, Reply]) -> None:
         raise StandbyError(
             f"This half is an older one: {told}. Served, it would issue what was issued since once more. Switch the "
             "other machine on again, which has the newer half. Where it is lost, go on by "
-            f"{PAGES}/operate/second-machine.md, 'Where the newer half is lost'. A line of a seat in the part of another "
-            "seat's PC is none: leave it away."
+            f"{PAGES}/operate/second-machine.md, 'Where the newer half is lost'. "
+            "A line of a seat in the part of another seat's PC is none: leave it away."
         )
     by_hand = "For a seat whose journal nobody has any more write a line by hand, with the number that is here: "
     unseen = [seat for seat in sorted(store) if seat not in witness]
