@@ -3,7 +3,7 @@
     doc_pages.py FOLDER        writes FOLDER/docs and FOLDER/NEWS
 
 A link to what no package has, as a source of the server, becomes plain text. The tutorial's two files are the
-package's samples. Python 3.11, standard library alone.
+package's samples. The list of promises is made of docs/promises.toml. Python 3.11, standard library alone.
 """
 
 from __future__ import annotations
@@ -12,6 +12,9 @@ import os
 import re
 import sys
 from pathlib import Path
+
+from pages_lib import promises_page
+from pages_lib.audit import audit
 
 TOP = Path(__file__).resolve().parent.parent
 
@@ -45,10 +48,11 @@ def mended(page: str, text: str, known: frozenset[str]) -> str:
 
 def make(folder: Path) -> None:
     known = frozenset(str(it.relative_to(TOP)) for it in (TOP / "docs").rglob("*") if it.is_file())
-    for name in sorted(known):
+    pages = {promises_page.PROMISES_PAGE: promises_page.page(audit()).encode()}
+    for name in sorted({*known, *pages}):
         target = folder / name
         target.parent.mkdir(parents=True, exist_ok=True)
-        data = (TOP / name).read_bytes()
+        data = pages.get(name) or (TOP / name).read_bytes()
         target.write_bytes(mended(name, data.decode(), known).encode() if name.endswith(".md") else data)
     news = (TOP / "CHANGELOG.md").read_text(encoding="utf-8")
     (folder / "NEWS").write_text(mended("CHANGELOG.md", news, known), encoding="utf-8")
