@@ -39,7 +39,8 @@ def words_at_fault(command: str) -> Iterator[str]:
     known = text_of(TOP / program) + text_of(TOP / "tests/conftest.py") + " -k -q -m "
     for word in words:
         if "/" in word:
-            is_there = (TOP / folder / word).exists() or (TOP / word).exists()
+            places = (f"{folder}/{word}", word, f"crates/{word.replace('/', '/must-fail/')}.*")
+            is_there = any(any(TOP.glob(place)) for place in places)
         elif word.startswith("-"):
             is_there = bool(re.search(rf"(?<![-\w]){word}\b", known))
         else:

@@ -10,9 +10,9 @@ from pages_lib import claims, lengths  # noqa: E402
 
 
 def test_lines():
-    most = {"README.md": lengths.README_LINES, "docs/a.md": lengths.ALL_LINES - lengths.README_LINES}
+    most = {"README.md": lengths.README_LINES, "a.md": lengths.ALL_LINES - lengths.README_LINES}
     assert list(lengths.lengths_at_fault(most)) == []
-    for page, faults in (("README.md", 2), ("docs/a.md", 1)):
+    for page, faults in (("README.md", 2), ("a.md", 1)):
         assert len(list(lengths.lengths_at_fault(most | {page: most[page] + 1}))) == faults
 
 
@@ -26,7 +26,8 @@ def test_commands():
     for command, missing in (
         ("tests/all faults/test_kill.py --size 200 -k 'kills and not slow'", []),
         ("tools/pages --list all-of-a-run", []),
-        ("tools/strength office_core", []),
+        ("tools/strength office_core office_sql/commit_in_two_transactions", []),
+        ("tools/strength office_sql/commit_in_three", ["office_sql/commit_in_three"]),
         ("tests/all faults/test_kills.py -k test_nobodys --sizes 3", ["faults/test_kills.py", "test_nobodys", "--sizes"]),
         ("tools/pages --list all-of-a-walk", ["all-of-a-walk"]),
         ("tools/rulers wrong", ["tools/rulers"]),
