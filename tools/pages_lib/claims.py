@@ -7,7 +7,7 @@ from collections.abc import Iterator
 from pages_lib.markdown import prose_of
 from pages_lib.names import is_word
 from pages_lib.promises import call_of, read_promises
-from pages_lib.rattle import TOP, text_of
+from pages_lib.rattle import TOP, rules, text_of
 
 PAGE = "docs/proof/claims.md"
 CLAUSE = re.compile(r"\w+/src/\S+ \w+(?:: .*)?")
@@ -38,7 +38,9 @@ def words_at_fault(command: str) -> Iterator[str]:
     promises = {it.name for it in read_promises()}
     known = text_of(TOP / program) + text_of(TOP / "tests/conftest.py") + " -k -q -m "
     for word in words:
-        if "/" in word:
+        if program == "tools/rules":
+            is_there = word in rules()
+        elif "/" in word:
             places = (f"{folder}/{word}", word, f"crates/{word.replace('/', '/must-fail/')}.*")
             is_there = any(any(TOP.glob(place)) for place in places)
         elif word.startswith("-"):

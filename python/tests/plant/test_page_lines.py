@@ -31,6 +31,7 @@ def test_commands():
         ("tools/strength office_sql/commit_in_three", ["office_sql/commit_in_three"]),
         (f"tests/all faults/test_kills.py -k {nobody} --sizes 3", ["faults/test_kills.py", nobody, "--sizes"]),
         ("tools/pages --list all-of-a-walk", ["all-of-a-walk"]),
+        ("tools/rules repeat_acts_again keeper_is_read_after_the_commit", ["keeper_is_read_after_the_commit"]),
         ("tools/rulers wrong", ["tools/rulers"]),
     ):
         assert list(claims.words_at_fault(command)) == missing
