@@ -28,7 +28,7 @@ def test_root_hands_no_words_over():
     files = [*pages, *sorted(ROLE.parent.rglob("*.yml"))]
     texts = {it: re.sub(r"[\s,\"'\\&]+(?:- )?", " ", it.read_text()) for it in files}
     found = {it.name: (text.count("runuser"), text.count(STARTS)) for it, text in texts.items() if "runuser" in text}
-    assert {"install.md", "standby.md", "station.1", "store.yml", "main.yml"} <= set(found)
+    assert {"install.md", "second-machine.md", "station.1", "store.yml", "main.yml"} <= set(found)
     assert all(there == clean for there, clean in found.values()), found
 
 
