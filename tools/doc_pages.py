@@ -3,7 +3,7 @@
     doc_pages.py FOLDER        writes FOLDER/docs and FOLDER/NEWS
 
 A link to what no package has, as a source of the server, becomes plain text. The tutorial's two files are the
-package's samples. Python 3.11, standard library alone.
+package's samples. The page of the commands is added. Python 3.11, standard library alone.
 """
 
 from __future__ import annotations
@@ -13,12 +13,15 @@ import re
 import sys
 from pathlib import Path
 
+from pages_lib import commands
+
 TOP = Path(__file__).resolve().parent.parent
 
 # Where the packages have what the pages link to outside of docs.
 SHIPPED = {
     "README.md": "/usr/share/doc/wanekupo-client/README.md",
     "CHANGELOG.md": "/usr/share/doc/wanekupo-client/NEWS.gz",
+    "deploy/station.py": "/usr/share/doc/wanekupo-client/examples/station.py",
     "deploy/ca/devices.cnf": "/usr/share/doc/wanekupo-client/examples/ca/devices.cnf",
     "deploy/ca/stations.cnf": "/usr/share/doc/wanekupo/examples/ca/stations.cnf",
     "deploy/prometheus/wanekupo-metrics.service": "/usr/lib/systemd/system/wanekupo-metrics.service",
@@ -50,6 +53,7 @@ def make(folder: Path) -> None:
         target.parent.mkdir(parents=True, exist_ok=True)
         data = (TOP / name).read_bytes()
         target.write_bytes(mended(name, data.decode(), known).encode() if name.endswith(".md") else data)
+    (folder / commands.PAGE).write_text(commands.commands_page(), encoding="utf-8")
     news = (TOP / "CHANGELOG.md").read_text(encoding="utf-8")
     (folder / "NEWS").write_text(mended("CHANGELOG.md", news, known), encoding="utf-8")
 

@@ -5,6 +5,8 @@ import sys
 
 from conftest import TOP
 
+from wanekupo.cli.main import COMMANDS
+
 sys.path.insert(0, str(TOP / "tools"))
 
 import doc_pages  # noqa: E402
@@ -29,3 +31,5 @@ def test_all_pages(tmp_path):
     links = [(page, it) for page in pages for it in re.findall(r"\]\(([^)#\s]+)", page.read_text("utf-8"))]
     own = [(page, it) for page, it in links if ":" not in it and not it.startswith("/usr/")]
     assert len(own) > 200 and [it for it in own if not (it[0].parent / it[1]).exists()] == []
+    told = set(re.findall(r"(?m)^## wanekupo (.*)$", (tmp_path / doc_pages.commands.PAGE).read_text("utf-8")))
+    assert told == {row.name for row in COMMANDS}
