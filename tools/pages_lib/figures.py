@@ -28,8 +28,8 @@ TESTS = ["crates/*_tests", "crates/test_*"]
 KIT = re.compile(r"rattle-kit-\S+ logic (?P<logic>\w+)")
 
 # A row of what was tried on the built program: the command, the commit, and whether files were changed. Its sources.
-DISTURBED = r"^\| `(tests/all faults/test_(?:kill|powercut|refuse)\.py [^`]*)` .*"
-DISTURBED += r" \| ([0-9a-f]{7,40}) of [\d-]{10}( and [^|]*)? \|$"
+TRIED = "docs/proof/tried.md"
+DISTURBED = r"^\| `(tests/all [^`]*)` .* \| ([0-9a-f]{7,40}) of [\d-]{10}( and [^|]*)? \|$"
 SOURCES = ("crates/*/src/*", ":!crates/*_tests", ":!crates/test_*")
 
 # A page or a crate's first lines, the words around a number, and which figure it is.
@@ -202,9 +202,9 @@ def rows_of_other_sources() -> Iterator[str]:
     can't tell."""
     if asked_git("rev-parse", "--is-shallow-repository").stdout.strip() != "false":
         return
-    for name, commit, more in re.findall(DISTURBED, page_text("docs/proof/tests.md"), re.MULTILINE):
+    for name, commit, more in re.findall(DISTURBED, page_text(TRIED), re.MULTILINE):
         if more or asked_git("diff", "--quiet", commit, "HEAD", "--", *SOURCES).returncode:
-            yield f"docs/proof/tests.md: {name} is of {commit}{more}, of other sources: it takes --write"
+            yield f"{TRIED}: {name} is of {commit}{more}, of other sources: it takes --write"
 
 
 def others_at_fault() -> Iterator[str]:
