@@ -1,6 +1,6 @@
 """The settings of the command `wanekupo`, and the examples that its package has.
 
-Expected values are those of docs/integrate/client.md and docs/line/bench.md.
+Expected values are those of docs/reference/files.md and docs/line/bench.md.
 """
 
 from __future__ import annotations
@@ -123,12 +123,10 @@ class Example(unittest.TestCase):
         self.page = (ROOT / "docs" / "line" / "bench.md").read_text(encoding="utf-8")
 
     def test_its_files(self):
-        """The page shows each of them whole, byte for byte."""
-        for name in ("thermostat.toml", "make-csr", "flash", "label", "read-csr"):
-            lines = (ROOT / "deploy" / "thermostat" / name).read_text(encoding="utf-8").splitlines()
-            indent = "    " if name == "read-csr" else "       "
-            shown = "".join(f"{indent}{line}".rstrip() + "\n" for line in lines)
-            self.assertIn(f"\n\n{shown}\n", self.page, name)
+        """The page, which shows none of them, has a link to each, by which a reader finds it."""
+        names = {it.name for it in (ROOT / "deploy" / "thermostat").iterdir()}
+        self.assertEqual(names, {"thermostat.toml", "make-csr", "flash", "label", "read-csr"})
+        self.assertEqual(set(re.findall(r"\]\(\.\./\.\./deploy/thermostat/([\w.-]+)\)", self.page)), names)
 
     def test_the_man_page(self):
         """It has each name that the page's tables of a recipe and of hooks have."""
