@@ -183,7 +183,7 @@ class Families(BenchCase):
         self.assertEqual(steps(self.ledger("0200000000a1")), ["registered", "planned", "identified", "shipped"])
 
     def test_the_recipe_of_the_page(self):
-        """As the package has it, but for the server's address, the token, and the chips; its key pair by its own hook."""
+        """As the package has it, but for the server's address, the token and the chips; its key pair by its hook."""
         sample = ROOT / "deploy/thermostat"
         recipe = (sample / "thermostat.toml").read_text(encoding="utf-8").replace('order = "o17"', 'order = "o1"')
         recipe = recipe.replace("https://station.example:8443", self.program.url).replace('ca = "cert.pem"\n', "")
