@@ -34,13 +34,15 @@ LINK = re.compile(r"(!?)\[([^\]]*)\]\(([^)\s]+)\)")
 
 
 def mended(page: str, text: str, known: frozenset[str]) -> str:
-    """A page's text with its links as they have to be in a package that has these files."""
+    """A page's text with its links as they have to be in a package that has these files; a manual is on a page of them."""
 
     def link(found: re.Match[str]) -> str:
         name, mark, anchor = found[3].partition("#")
         path = os.path.relpath(TOP / os.path.dirname(page) / name, TOP)
         if ":" in name or not name or path in known:
             return found[0]
+        if path in commands.MANUALS:
+            return f"[{found[2]}]({os.path.relpath(commands.PAGE, os.path.dirname(page))}#{commands.MANUALS[path]})"
         if path in SHIPPED:
             return f"[{found[2]}]({SHIPPED[path]})"
         return found[2]

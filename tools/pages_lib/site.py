@@ -74,7 +74,9 @@ class Site:
         path = os.path.relpath(((TOP / page).parent / name).resolve(), TOP)
         if f"{path}/README.md" in pages():
             path, mark, anchor = f"{path}/README.md", "", ""
-        if path not in pages():
+        if path in commands.MANUALS:
+            path, mark, anchor = commands.PAGE, "#", commands.MANUALS[path]
+        elif path not in pages():
             path, mark, anchor = self.copied(path), "", ""
         return os.path.relpath(path, os.path.dirname(page) or ".") + mark + anchor
 
