@@ -34,7 +34,7 @@ LINK = re.compile(r"(!?)\[([^\]]*)\]\(([^)\s]+)\)")
 
 
 def mended(page: str, text: str, known: frozenset[str]) -> str:
-    """A page's text with its links as they have to be in a package that has these files; a manual is on a page of them."""
+    """A page's text with its links as they have to be in a package that has these files."""
 
     def link(found: re.Match[str]) -> str:
         name, mark, anchor = found[3].partition("#")

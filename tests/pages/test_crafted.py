@@ -2,8 +2,9 @@
 
 The crafted store has a view for each table of a store, with its columns, and each view calls `edit()`, a function of
 the command `sqlite3` that runs a program. Here that program notes that it ran. The documented commands are those of the
-pages in docs, and of the files `.console` here, with the word `sqlite3`: in blocks, in lines of four spaces, and
-within a sentence. Each is run as it stands, in a folder of its own, with the crafted store in the place of the store that it names.
+pages in docs, and of the files `.console` here, with the word `sqlite3`: in blocks, in lines of four spaces, and within
+a sentence. Each is run as it stands, in a folder of its own, with the crafted store in the place of the store that it
+names.
 
 Each is run twice: without `-safe` and `-readonly`, where the views have to run their program, or the test could find
 nothing; and as it is documented, where nothing may run. A command that reads no table, as `PRAGMA integrity_check`,
