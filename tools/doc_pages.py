@@ -25,6 +25,7 @@ SHIPPED = {
     "README.md": f"{DOC}/README.md",
     "CHANGELOG.md": f"{DOC}/NEWS.gz",
     **{f"deploy/{it}": f"{DOC}/examples/{it}" for it in ("station.py", "ca/devices.cnf", *THERMOSTAT)},
+    "deploy/keep-journals": "/usr/share/doc/wanekupo/examples/keep-journals",
     "deploy/ca/stations.cnf": "/usr/share/doc/wanekupo/examples/ca/stations.cnf",
     "deploy/prometheus/wanekupo-metrics.service": "/usr/lib/systemd/system/wanekupo-metrics.service",
 }

@@ -26,10 +26,8 @@ from pathlib import Path
 import pytest
 
 from common.chip import SITE, Failed, replay_words, served, store_at
-from common import pages
-from common.pages import ROOT, steps_of, unsafe_lines, without_packages
+from common.pages import ROOT, all_pages, commands_of, steps_of, unsafe_lines, without_packages
 
-PAGES = [*sorted(ROOT.glob("docs/**/*.md")), *sorted(ROOT.glob("tests/pages/*.console"))]
 BACKUP = ROOT / "python/bin/station-backup"
 SECONDS = 600
 NEEDED = pytest.mark.needs("reader", "bash", "sqlite3", "xxd")
@@ -55,11 +53,11 @@ exec "$SQLITE3" "${words[@]}"
 """
 
 
-def commands_of(page):
-    """The commands of a page that have sqlite3 in them."""
-    text, pattern = page.read_text(encoding="utf-8"), pages.commands_of(page)
-    steps = ["\n".join(step.lines) for block in pattern.findall(text) for step in steps_of(block)]
-    rest = without_packages(pattern.sub("", text))
+def queries_of(page):
+    """The commands of a page, or of a file of commands alone, that have sqlite3 in them."""
+    blocks, text = commands_of(page), page.read_text(encoding="utf-8")
+    steps = ["\n".join(step.lines) for block in blocks.findall(text) for step in steps_of(block)]
+    rest = without_packages(blocks.sub("", text))
     lines = [found[1] for found in re.finditer(r"^ {4,}(?:\$ )?(.*\bsqlite3 .*)$", rest, re.MULTILINE)]
     spans = re.findall(rf"`({RUN}[^`]*)`", rest.replace("\n", " "))
     return [it for it in [*steps, *lines, *spans] if re.search(r"\bsqlite3 ", it)]
@@ -151,12 +149,12 @@ def bench(program):
 
 COMMANDS = [
     pytest.param(command, id=f"{page.relative_to(ROOT)}: {command.splitlines()[0]}"[:80])
-    for page in PAGES
-    for command in commands_of(page)
+    for page in all_pages()
+    for command in queries_of(page)
 ]
 
 
-@pytest.mark.parametrize("page", [str(page.relative_to(ROOT)) for page in PAGES])
+@pytest.mark.parametrize("page", [str(page.relative_to(ROOT)) for page in all_pages()])
 def test_a_page_is_safe(page):
     assert not unsafe_lines((ROOT / page).read_text(encoding="utf-8")), "sqlite3 without -safe -readonly"
 
