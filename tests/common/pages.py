@@ -46,6 +46,11 @@ def commands_of(page):
     return FILE if page.suffix == ".console" else BLOCK
 
 
+def all_pages():
+    """The pages of docs, and the files of commands alone."""
+    return [page for place in ("docs/**/*.md", "tests/pages/*.console") for page in sorted(ROOT.glob(place))]
+
+
 def steps_of(block):
     """The commands of a block of the page."""
     steps = []

@@ -6,9 +6,9 @@ cut, and what was in its memory is gone; a cable that hands nothing on is a cut 
 Its disk keeps what qemu was told to write, also what no flush was asked for: what a disk loses of that, `powercut`
 tries.
 
-The scenarios are those of docs/operate/second-machine.md: `ab` the power of the first, and behind a resync of the other one;
-`c` the cable, and then the power of the first, which has gone on alone; `c-boot` the same with a second that was off
-meanwhile; `cable` a cable that is mended; `d` the cable, where the second takes over from a frozen first; `d-told`
+The scenarios are those of docs/operate/second-machine.md: `ab` the power of the first, and behind a resync of the
+other one; `c` the cable, then the power of the first, which has gone on alone; `c-boot` the same with a second that was
+off meanwhile; `cable` a cable that is mended; `d` the cable, where the second takes over from a frozen first; `d-told`
 where the first has gone on; `e` the disk of the second, `e-first` of the first; `f` the power of both, `f-one` of which
 one comes back; `g` a first that hangs and wakes up; `h` a new program; `fence` the plant's power switch says that the
 other machine is off, `fence-dead` it says nothing; `frozen` a word and a mended cable that come when DRBD's tool waits

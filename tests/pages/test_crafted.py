@@ -2,8 +2,9 @@
 
 The crafted store has a view for each table of a store, with its columns, and each view calls `edit()`, a function of
 the command `sqlite3` that runs a program. Here that program notes that it ran. The documented commands are those of the
-pages in docs with the word `sqlite3`: in blocks, in lines of four spaces, and within a sentence. Each is run as it
-stands, in a folder of its own, with the crafted store in the place of the store that it names.
+pages in docs, and of the files `.console` here, with the word `sqlite3`: in blocks, in lines of four spaces, and within
+a sentence. Each is run as it stands, in a folder of its own, with the crafted store in the place of the store that it
+names.
 
 Each is run twice: without `-safe` and `-readonly`, where the views have to run their program, or the test could find
 nothing; and as it is documented, where nothing may run. A command that reads no table, as `PRAGMA integrity_check`,
@@ -25,9 +26,8 @@ from pathlib import Path
 import pytest
 
 from common.chip import SITE, Failed, replay_words, served, store_at
-from common.pages import BLOCK, ROOT, steps_of, unsafe_lines, without_packages
+from common.pages import ROOT, all_pages, commands_of, steps_of, unsafe_lines, without_packages
 
-PAGES = ROOT / "docs"
 BACKUP = ROOT / "python/bin/station-backup"
 SECONDS = 600
 NEEDED = pytest.mark.needs("reader", "bash", "sqlite3", "xxd")
@@ -53,10 +53,11 @@ exec "$SQLITE3" "${words[@]}"
 """
 
 
-def commands_of(text):
-    """The commands of a page that have sqlite3 in them."""
-    steps = ["\n".join(step.lines) for block in BLOCK.findall(text) for step in steps_of(block)]
-    rest = without_packages(BLOCK.sub("", text))
+def queries_of(page):
+    """The commands of a page, or of a file of commands alone, that have sqlite3 in them."""
+    blocks, text = commands_of(page), page.read_text(encoding="utf-8")
+    steps = ["\n".join(step.lines) for block in blocks.findall(text) for step in steps_of(block)]
+    rest = without_packages(blocks.sub("", text))
     lines = [found[1] for found in re.finditer(r"^ {4,}(?:\$ )?(.*\bsqlite3 .*)$", rest, re.MULTILINE)]
     spans = re.findall(rf"`({RUN}[^`]*)`", rest.replace("\n", " "))
     return [it for it in [*steps, *lines, *spans] if re.search(r"\bsqlite3 ", it)]
@@ -147,15 +148,15 @@ def bench(program):
 
 
 COMMANDS = [
-    pytest.param(command, id=f"{page.relative_to(PAGES)}: {command.splitlines()[0]}"[:80])
-    for page in sorted(PAGES.glob("**/*.md"))
-    for command in commands_of(page.read_text(encoding="utf-8"))
+    pytest.param(command, id=f"{page.relative_to(ROOT)}: {command.splitlines()[0]}"[:80])
+    for page in all_pages()
+    for command in queries_of(page)
 ]
 
 
-@pytest.mark.parametrize("page", [str(page.relative_to(PAGES)) for page in sorted(PAGES.glob("**/*.md"))])
+@pytest.mark.parametrize("page", [str(page.relative_to(ROOT)) for page in all_pages()])
 def test_a_page_is_safe(page):
-    assert not unsafe_lines((PAGES / page).read_text(encoding="utf-8")), "sqlite3 without -safe -readonly"
+    assert not unsafe_lines((ROOT / page).read_text(encoding="utf-8")), "sqlite3 without -safe -readonly"
 
 
 @NEEDED

@@ -3,7 +3,7 @@
 Every reply is compared with that of the page or the file.
 
     tests/all pages/test_walk.py --write             puts this run's replies into the pages
-    tests/all pages/test_walk.py -k security.md      one page
+    tests/all pages/test_walk.py -k first-chip.md    one page
 
 The commands of a page run in one bash, in a new folder in which `crates`, `kit`, `deploy` and `python` are the
 repository's and `station` is the program. A page whose commands run nginx, age or minisign is skipped where there is
@@ -15,10 +15,8 @@ import re
 import pytest
 
 from common.needs import missing
-from common.pages import ROOT, SECONDS, commands_of, others_than_on, steps_of, walk
+from common.pages import ROOT, SECONDS, all_pages, commands_of, others_than_on, steps_of, walk
 from common.ports import ports_in_row
-
-PLACES = ("docs/**/*.md", "tests/pages/*.console")
 
 # Programs that not every machine has, as a page runs them.
 RARE = re.compile(r"(?:^|[|;&(]\s*)(nginx|age|minisign)\b")
@@ -26,8 +24,8 @@ RARE = re.compile(r"(?:^|[|;&(]\s*)(nginx|age|minisign)\b")
 
 def pages_with_commands():
     """The pages and files that have commands, by their paths from the top."""
-    pages = (page for place in PLACES for page in sorted(ROOT.glob(place)))
-    return [str(it.relative_to(ROOT)) for it in pages if commands_of(it).search(it.read_text(encoding="utf-8"))]
+    pages = (page for page in all_pages() if commands_of(page).search(page.read_text(encoding="utf-8")))
+    return [str(page.relative_to(ROOT)) for page in pages]
 
 
 def needs(name):

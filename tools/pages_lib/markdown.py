@@ -13,7 +13,8 @@ from pages_lib.rattle import TOP, text_of, tracked
 # Pages that say what was once: no name in them has to be there.
 OF_THE_PAST = ("CHANGELOG.md", "bench/RESULTS.md")
 
-POINTER = re.compile(r"\bdocs/[\w/-]+\.(?:md|toml|yaml|png|svg)(?:#[\w-]+)?")
+# A page that a file names, by its path from the top, or in an error from the folder of the package's pages.
+POINTER = re.compile(r"(?:\bdocs|\{PAGES\})/[\w/-]+\.(?:md|toml|yaml|png|svg)(?:#[\w-]+)?")
 FENCE = re.compile(r"(?ms)^ *```.*?^ *```$")
 
 
@@ -86,6 +87,6 @@ def pointers_at_fault() -> Iterator[str]:
         if name.endswith((".db", ".png")) or name.startswith("tools/pages_lib/") or name in pages():
             continue
         for found in dict.fromkeys(POINTER.findall(text_of(TOP / name))):
-            path, _, anchor = found.partition("#")
+            path, _, anchor = found.replace("{PAGES}", "docs").partition("#")
             if not (TOP / path).is_file() or anchor and not has_anchor(path, anchor):
                 yield f"{name} names {found}, which isn't there"

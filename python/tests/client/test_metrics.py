@@ -422,7 +422,7 @@ class Journals(StationCase):
 
 class Form(unittest.TestCase):
     def test_names(self):
-        """Each metric that a rule asks for is one that somebody writes; each alarm has its section."""
+        """Each metric that a rule asks for is one that somebody writes; each alarm has its row."""
         rules = (DEPLOYED / "rules.yml").read_text(encoding="utf-8")
         asked = re.findall(r"expr: (?:\|\n)?((?:.|\n)+?)\n +(?:for|labels):", rules)
         named = {name for it in asked for name in re.findall(r"\b(?:wanekupo|probe)_\w+|\bALERTS\b", it)}
@@ -433,9 +433,8 @@ class Form(unittest.TestCase):
         pages = re.findall(r'page: "\{\{ \$externalLabels.docs \}\}([^#"]+)#([^"]+)"', rules)
         self.assertEqual(len(pages), rules.count("- alert:"))
         for page, section in pages:
-            heads = re.findall(r"(?m)^##+ (.+)$", (ROOT / page).read_text(encoding="utf-8"))
-            names = [re.sub("[^a-z0-9 -]", "", head.lower()).replace(" ", "-") for head in heads]
-            self.assertIn(section, names)
+            rows = re.findall(r'(?m)^\| <a id="([^"]+)"></a>(.+?) \| `', (ROOT / page).read_text(encoding="utf-8"))
+            self.assertIn((section, section.replace("-", " ").capitalize()), rows)
 
     def test_cards(self):
         """A card has nine points at most and then a command, alone, that is there."""

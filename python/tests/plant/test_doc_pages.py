@@ -1,13 +1,18 @@
 """The pages of the packages: each link leads to a file that they have, and none of the repository's own is named."""
 
+import ast
 import re
 import sys
 
-from conftest import TOP
+from conftest import DEPLOY, TOP
+
+from wanekupo.cli.main import COMMANDS
 
 sys.path.insert(0, str(TOP / "tools"))
 
 import doc_pages  # noqa: E402
+
+PAGE = re.compile(r"[\w/{}-]+\.md\b(?:, '[^']+')?")
 
 KNOWN = frozenset(("docs/line/audit.md", "docs/pictures/bench-red.png"))
 
@@ -30,3 +35,32 @@ def test_all_pages(tmp_path):
     links = [(page, it) for page in pages for it in re.findall(r"\]\(([^)#\s]+)", page.read_text("utf-8"))]
     own = [(page, it) for page, it in links if ":" not in it and not it.startswith("/usr/")]
     assert len(own) > 200 and [it for it in own if not (it[0].parent / it[1]).exists()] == []
+    told = set(re.findall(r"(?m)^## wanekupo (.*)$", (tmp_path / doc_pages.commands.PAGE).read_text("utf-8")))
+    assert told == {row.name for row in COMMANDS}
+
+
+def texts_of(tree):
+    """The texts of a module but its docstrings, each value in it by what makes it, in braces."""
+    known = {id(node.value) for node in ast.walk(tree) if isinstance(node, ast.Expr)}
+    for node in ast.walk(tree):
+        if isinstance(node, ast.JoinedStr):
+            known |= {id(it) for it in node.values}
+            parts = [it.value if isinstance(it, ast.Constant) else f"{{{ast.unparse(it.value)}}}" for it in node.values]
+            yield "".join(parts)
+        elif isinstance(node, ast.Constant) and isinstance(node.value, str) and id(node) not in known:
+            yield node.value
+
+
+def test_errors_name_pages_that_are_there():
+    """Each by its path in the package, the section behind it by its heading, and no page by its title alone."""
+    modules = [ast.parse(it.read_bytes()) for it in sorted((TOP / "python/wanekupo").rglob("*.py"))]
+    texts = [text for tree in modules for text in texts_of(tree)]
+    named = [it for text in texts for it in PAGE.findall(text)]
+    assert len(named) >= 10 and not [it for it in texts if re.search(r"\bthe page [`'\"A-Z]", it)]
+    for it in named:
+        path, _, section = it.partition(", ")
+        page = TOP / path.replace("{PAGES}", "docs")
+        assert path.startswith("{PAGES}/") and page.is_file(), it
+        assert not section or re.search(rf"(?m)^#+ {section[1:-1]}$", page.read_text("utf-8")), it
+    manuals = {it.name.split(".")[0] for it in [*DEPLOY.glob("*.[158]"), *(TOP / "debian/man").iterdir()]}
+    assert {name for text in texts for name in re.findall(r"\bman ([a-z-]*[a-z])", text)} <= manuals

@@ -1,14 +1,11 @@
-"""The script of the page backup-and-restore that keeps each day's journals: what one station ships fills no disk."""
+"""The script that keeps each day's journals: what one station ships fills no disk."""
 
 import shutil
 import subprocess
-import textwrap
 from pathlib import Path
 
 import pytest
-from conftest import TOP
-
-PAGE = TOP / "docs/operate/backup-and-restore.md"
+from conftest import DEPLOY
 
 pytestmark = pytest.mark.skipif(not shutil.which("rsync"), reason="there is no rsync")
 SIZE = "#!/bin/sh\ncase $2 in *pc7) echo 2000001 $2;; *) echo 2000000 $2;; esac | tr ' ' '\\t'\n"
@@ -28,10 +25,9 @@ def kept(tmp_path: Path) -> Path:
 
 
 def run(kept: Path) -> str:
-    """Runs the page's script over these, and gives what it tells."""
-    top, text = kept.parents[1], PAGE.read_text(encoding="utf-8")
-    found = text[text.index("       #!/bin/sh\n       PATH=") : text.index("   cron mails what it says")]
-    script = textwrap.dedent(found).replace("PATH=/usr", f"PATH={top}/bin:/usr").replace("/var/", f"{top}/")
+    """Runs the script over these, and gives what it tells."""
+    top, text = kept.parents[1], (DEPLOY / "keep-journals").read_text(encoding="utf-8")
+    script = text.replace("PATH=/usr", f"PATH={top}/bin:/usr").replace("/var/", f"{top}/")
     return subprocess.run(["sh", "-c", script], capture_output=True, text=True, check=False).stderr
 
 

@@ -1,4 +1,4 @@
-"""The list of tokens on a pair's volume, and what a takeover refuses by it, as docs/operate/second-machine.md has it."""
+"""The list of tokens on a pair's volume, and what a takeover refuses by it, as docs/operate/second-machine.md says."""
 
 import os
 from types import SimpleNamespace

@@ -1,14 +1,11 @@
-"""The script of the page on backups that keeps each day's journals: what one station ships takes no other's away."""
+"""The script that keeps each day's journals: what one station ships takes no other's away."""
 
 import os
-import re
 import shutil
 import subprocess
 
 import pytest
-from conftest import TOP
-
-PAGE = TOP / "docs/operate/backup-and-restore.md"
+from conftest import DEPLOY
 
 
 @pytest.fixture
@@ -16,7 +13,7 @@ def keep(tmp_path):
     """Runs the script in folders of this test; what comes back is what cron mails."""
     if not shutil.which("rsync"):
         pytest.skip("there is no rsync")
-    (text,) = re.findall(r"(?m)^ +#!/bin/sh\n(?: .*\n)+", PAGE.read_text(encoding="utf-8"))
+    text = (DEPLOY / "keep-journals").read_text(encoding="utf-8")
     text = text.replace("/var/backups/journals", f"{tmp_path}/kept").replace("/var/lib/journals", str(tmp_path))
     (tmp_path / "kept").mkdir()
 

@@ -16,7 +16,7 @@ def test_root_names_nothing_in_the_benchs_folder():
     assert text.count("wanekupo_bench_runs") == 3
 
 
-# What root starts in another user's name, on pages, in the manual and in the roles.
+# What root starts in another user's name, on pages, by hand, in the manual and in the roles.
 STARTS = "env -i -C / PATH=/usr/local/bin:/usr/bin:/usr/sbin setsid -w runuser -l -s /bin/sh -c exec $@ --"
 
 
@@ -25,10 +25,10 @@ def test_root_hands_no_words_over():
     the keys of root's session: of Debian's PAM `runuser -l` alone makes a new one (`pam_keyinit force`)."""
     top = DEPLOY.parent
     pages = [*sorted((top / "docs").rglob("*.md")), *sorted(DEPLOY.glob("*.[158]"))]
-    files = [*pages, *sorted(ROLE.parent.rglob("*.yml"))]
+    files = [*pages, DEPLOY / "by-hand.sh", *sorted(ROLE.parent.rglob("*.yml"))]
     texts = {it: re.sub(r"[\s,\"'\\&]+(?:- )?", " ", it.read_text()) for it in files}
     found = {it.name: (text.count("runuser"), text.count(STARTS)) for it, text in texts.items() if "runuser" in text}
-    assert {"install.md", "second-machine.md", "station.1", "store.yml", "main.yml"} <= set(found)
+    assert {"by-hand.sh", "station.1", "store.yml", "main.yml"} <= set(found)
     assert all(there == clean for there, clean in found.values()), found
 
 

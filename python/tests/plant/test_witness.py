@@ -1,4 +1,4 @@
-"""A takeover's comparison with the witness, by docs/operate/second-machine.md; and what a resource of DRBD has to keep."""
+"""A takeover's comparison with the witness, by docs/operate/second-machine.md; what a resource of DRBD has to keep."""
 
 import re
 import tomllib

@@ -129,7 +129,7 @@ def _stopped(stop: OutOfStep) -> str:
 
 
 def _refused(refused: Refused) -> tuple[str, str]:
-    meaning, advice = REFUSALS.get(refused.no, (refused.name, f"Look the number up in {PAGES}/reference/api.md."))
+    meaning, advice = REFUSALS.get(refused.no, (refused.name, f"Look the number up in {PAGES}/integrate/api.md."))
     more = "".join(f", {name} {value}" for name, value in refused.more.items())
     return f"the server refused it: {meaning} (refusal {refused.no}, {refused.name}{more})", advice
 

@@ -18,12 +18,12 @@ SEAT is the name of a seat of the site file, or @manager; managers of several si
 token never leaves this machine, and is 401 from outside. Each change writes the file anew, has nginx test it (`nginx
 -t`), and has nginx read it (`nginx -s reload`). Where the test fails the file of before is back. An outer token is
 printed, or written to a new file with `--to`. `seat` changes no site file but one that is named with `--into`; the
-server is started again for it (docs/operate/grow-a-site.md). As root, with Python 3.11.
+server is started again for it (docs/operate/tokens-and-sites.md). As root, with Python 3.11.
 
 Statuses: 0 done; 1 refused, and nothing was changed; 2 the words are wrong; 3 another run has the lock; 4 nginx refuses
 its configuration, and nothing was changed; 5 the file is changed, and nginx may go on as before; 6 the file is changed,
-and the other one of two machines doesn't know it (docs/operate/second-machine.md); 7 the file is changed, and the site file
-isn't, or nobody was told. `revoke` of what has ended has nginx read the file once more.
+and the other one of two machines doesn't know it (docs/operate/second-machine.md); 7 the file is changed, and the site
+file isn't, or nobody was told. `revoke` of what has ended has nginx read the file once more.
 """
 
 import argparse

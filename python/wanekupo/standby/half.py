@@ -1,8 +1,8 @@
 """One of two machines that have the store: its settings, what DRBD says of its half, and whether the other is off.
 
 A *half* is the disk of one machine. DRBD keeps both equal while they are connected. `takeover`, `stepdown`,
-`other-is-off` and `fence-peer` share this; docs/operate/second-machine.md says what they are for. Python 3.11, standard library
-alone.
+`other-is-off` and `fence-peer` share this; docs/operate/second-machine.md says what they are for. Python 3.11, standard
+library alone.
 """
 
 from __future__ import annotations

@@ -11,6 +11,7 @@ import os
 import re
 from pathlib import Path
 
+from wanekupo.common.errors import PAGES
 from wanekupo.standby.half import Half, StandbyError, print_told
 from wanekupo.common.store_user import MINUTE, StoreFolder, UserError, read_small
 from wanekupo.common.token_file import Tokens, TokenError, is_past, living, read, tokens_of
@@ -80,7 +81,7 @@ def test_tokens(half: Half, there: set[str] | None, is_known: bool) -> None:
         return
     why = f"{other} didn't let in so" if there is not None else f"{other} may have ended, as the volume has no list"
     raise StandbyError(
-        f"This machine has tokens that {why}: {names_of(more)}. Copy the files of {other} as step 8 of the page "
-        "`standby` does, or end here what was ended there (`station-token revoke NAME`), and type the same again. "
-        "Where nobody knows, and they may ask, add --ended-tokens-may-ask."
+        f"This machine has tokens that {why}: {names_of(more)}. Copy the files of {other} as step 8 of "
+        f"{PAGES}/operate/second-machine.md does, or end here what was ended there (`station-token revoke NAME`), and "
+        "type the same again. Where nobody knows, and they may ask, add --ended-tokens-may-ask."
     )

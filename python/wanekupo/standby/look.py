@@ -17,6 +17,7 @@ from collections.abc import Iterator
 from dataclasses import dataclass
 from pathlib import Path
 
+from wanekupo.common.errors import PAGES
 from wanekupo.standby import living
 from wanekupo.standby.half import Half, StandbyError, done, run_bounded
 from wanekupo.common.store_user import StoreFolder, user_named
@@ -109,7 +110,7 @@ def tested_owner(half: Half, store: StoreFolder) -> None:
     store.size()
     user, number = half.settings.user, store.user.number
     if user_named(user).number != number:
-        told = "Give that user one number on both machines, as step 1 of the page `standby` does"
+        told = f"Give that user one number on both machines, as step 1 of {PAGES}/operate/second-machine.md does"
         raise StandbyError(f"The half is the user's of number {number}, and {user} has another number here. {told}.")
 
 

@@ -19,6 +19,7 @@ from collections.abc import Sequence
 from datetime import datetime
 
 
+from wanekupo.common.errors import PAGES
 from wanekupo.standby import living, look, needs, witness
 from wanekupo.standby.half import (
     FROZEN, SERVER_SECONDS, Half, StandbyError, DrbdState, alone_since, done, end_script, fenced_by_command,
@@ -35,7 +36,8 @@ UNFIT = {
 ELSE = "Switch the other machine on again, and wait until both are UpToDate. Where it is lost, restore the store."
 SPLIT = (
     "DRBD has stopped to look for the other machine: type `drbdadm connect station` on both. Where it stops again both "
-    "halves were written. Nothing is thrown away: the page `standby` says how to see which one is the newer one."
+    "halves were written. Nothing is thrown away. How to see which one is the newer one is in "
+    f"{PAGES}/operate/second-machine.md, 'Where both were written'."
 )
 
 

@@ -16,6 +16,7 @@ from dataclasses import dataclass
 from datetime import datetime, timedelta, timezone
 from pathlib import Path
 
+from wanekupo.common.errors import PAGES
 from wanekupo.common.files import small_bytes
 from wanekupo.standby.half import StandbyError, run_bounded, print_told
 from wanekupo.standby.look import SEAT
@@ -165,8 +166,9 @@ def compare_numbers(store: dict[str, int], witness: dict[str, Reply]) -> None:
         told = ", ".join(f"{seat} has {store.get(seat, 0)} here, and {witness[seat]}" for seat in behind)
         raise StandbyError(
             f"This half is an older one: {told}. Served, it would issue what was issued since once more. Switch the "
-            "other machine on again, which has the newer half. Where it is lost, go on by the page `standby`, `Where "
-            "the newer half is lost`. A line of a seat in the part of another seat's PC is none: leave it away."
+            "other machine on again, which has the newer half. Where it is lost, go on by "
+            f"{PAGES}/operate/second-machine.md, 'Where the newer half is lost'. "
+            "A line of a seat in the part of another seat's PC is none: leave it away."
         )
     by_hand = "For a seat whose journal nobody has any more write a line by hand, with the number that is here: "
     unseen = [seat for seat in sorted(store) if seat not in witness]

@@ -38,7 +38,7 @@ from pathlib import Path
 from typing import Any
 
 
-from wanekupo.common.errors import cause_of
+from wanekupo.common.errors import PAGES, cause_of
 from wanekupo.plant.backup.copies import BackupError, copy_store, copied_counts, opened_by, told_if_full
 from wanekupo.plant.restore.journals import half_of_memory, sources_of, take_journals
 from wanekupo.plant.restore.lost_store import (
@@ -207,14 +207,14 @@ def write_lists(place: StorePlace, left: dict[str, Any], rows: dict[str, Any]) -
     for (was, is_now), number in sorted(kinds.items()):
         print_lines(f"devices that were {was} and are {is_now}: {number}")
     if kinds:
-        print_lines("What to do with each: the page backup-and-restore, Devices after a restore.")
+        print_lines(f"What to do with each: {PAGES}/operate/backup-and-restore.md, 'Devices after a restore'.")
 
 
 def end_restore(args: argparse.Namespace, place: StorePlace, keeps: list[str], requests: dict[str, Requests]) -> int:
     """Says what keeps stations from going on; else backs the restored store up, and gives it its name."""
     if keeps:
         print_lines("", "Stations may not go on yet. No store was put in place.", *(f"- {it}." for it in keeps))
-        told = "Bring a journal more, or write one (backup-and-restore.md)"
+        told = f"Bring a journal more, or write one ({PAGES}/operate/backup-and-restore.md, 'Write a journal')"
         print_lines(f"{told}; or --without SEAT, --accept-missing CUSTOMER.")
         return KEPT
     saved = free_name(args.backups, "restored")
@@ -226,7 +226,8 @@ def end_restore(args: argparse.Namespace, place: StorePlace, keeps: list[str], r
     for name in args.leave_out:
         print_lines(
             f"{name} is left out, and none of its stations may go on: they would get numbers and addresses once more.",
-            "Give them no token until its journals are brought back: backup-and-restore.md, Leave a customer out.",
+            "Give them no token until its journals are brought back:",
+            f"{PAGES}/operate/backup-and-restore.md, 'Leave a customer out'.",
         )
     print_lines(f"These seats stop at 11 or 12 by themselves: {' '.join(stops) or 'none'}.")
     if chance:

@@ -21,10 +21,9 @@ from dataclasses import dataclass
 from pathlib import Path
 from typing import Any, NoReturn
 
-from wanekupo.common.errors import cause_of
+from wanekupo.common.errors import PAGES, StationError, cause_of
 from wanekupo.plant.restore.plan import CustomerPlan, Placed, RestoreError, SeatJournal, error_of
 from wanekupo.books.steps import digest_fault
-from wanekupo.common.errors import StationError
 from wanekupo.seat.journal import journals_of, seat_named
 from wanekupo.seat.journal_lines import MOST, MOST_LINES, SUFFIX, Folders, journals_below, lines_of
 from wanekupo.common.texts import brief, shown
@@ -79,7 +78,8 @@ def _shipped(path: Path, folders: Folders, at: Path) -> Iterator[Source]:
         raise RestoreError(f"{path} doesn't say whose it is: give it as CUSTOMER={path}")
     if not folders:
         told = f"{at} says which seats each folder in {path} has, and it isn't there or empty"
-        raise RestoreError(f"{told}: write it (docs/reference/files.md), or give each customer's as CUSTOMER=PATH")
+        page = f"{PAGES}/reference/files.md, 'Folders of journals'"
+        raise RestoreError(f"{told}: write it ({page}), or give each customer's as CUSTOMER=PATH")
     for it in _entries(path):
         place = shown(it.path)
         if it.is_symlink():

@@ -16,7 +16,7 @@ by the same words, or by `apply`; no token is lost or made twice.
 A new seat's inner token is in the tokens' file alone (station-token(8)). Its outer one is in a new file, SEAT.token of
 the folder `--to`, made once the server knows the seat; a seat `health`, or any with --no-token, gets none. With
 --other-site the site of each other store of the house is held against the new text. As root, with Python 3.11;
-what is of the store is done as its user, and the program runs so. docs/operate/grow-a-site.md has the steps.
+what is of the store is done as its user, and the program runs so. docs/operate/tokens-and-sites.md has the steps.
 
 Statuses: 0 done; 1 refused, and nothing runs otherwise than before; 2 the words are wrong; 3 another run has the lock;
 4 the server doesn't start, and which text the store holds is told; 5 it runs with the new text, and a token doesn't go
