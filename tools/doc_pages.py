@@ -40,6 +40,8 @@ def mended(page: str, text: str, known: frozenset[str]) -> str:
     def link(found: re.Match[str]) -> str:
         name, mark, anchor = found[3].partition("#")
         path = os.path.relpath(TOP / os.path.dirname(page) / name, TOP)
+        if path == promises_page.PROMISES:
+            return f"[{found[2]}]({os.path.relpath(promises_page.PROMISES_PAGE, os.path.dirname(page) or '.')})"
         if ":" in name or not name or path in known:
             return found[0]
         if path in commands.MANUALS:

@@ -12,5 +12,6 @@ def test_a_row_is_put(tmp_path, monkeypatch):
     monkeypatch.setattr(page_rows, "PAGE", page)
     page_rows.put_row("a/test_b.py", "--size 2", "12345 runs")
     page_rows.put_row("a/test_c.py", "--seed 7", "lost 0")
-    rows = [ROW.format(*it, page_rows.commit()) for it in (("a/test_b.py --size 2", "12,345 runs"), ("a/test_c.py --seed 7", "lost 0"))]
+    found = ("a/test_b.py --size 2", "12,345 runs"), ("a/test_c.py --seed 7", "lost 0")
+    rows = [ROW.format(*it, page_rows.commit()) for it in found]
     assert page.read_text("utf-8").splitlines() == ["# A page", "", *rows]

@@ -1,5 +1,5 @@
-"""Whether what the page of claims names is there: of a clause in backticks, `FILE CALL: CLAUSE, ..`, the call with these
-clauses; of a command the files, the options, and the names that it is given."""
+"""Whether what the page of claims names is there: of a clause in backticks, `FILE CALL: CLAUSE, ..`, the call with
+these clauses; of a command the files, the options, and the names that it is given."""
 
 import re
 from collections.abc import Iterator
@@ -7,10 +7,10 @@ from collections.abc import Iterator
 from pages_lib.markdown import prose_of
 from pages_lib.names import is_word
 from pages_lib.promises import call_of, read_promises
-from pages_lib.rattle import TOP, text_of
+from pages_lib.rattle import TOP, rules, text_of
 
 PAGE = "docs/proof/claims.md"
-CLAUSE = re.compile(r"\w+/src/\S+\.rt \w+(: \w+(, \w+)*)?")
+CLAUSE = re.compile(r"\w+/src/\S+ \w+(?:: .*)?")
 COMMAND = re.compile(r"(?:\./check|(?:tools|tests|bench)/\w+)\b.*")
 
 
@@ -38,11 +38,14 @@ def words_at_fault(command: str) -> Iterator[str]:
     promises = {it.name for it in read_promises()}
     known = text_of(TOP / program) + text_of(TOP / "tests/conftest.py") + " -k -q -m "
     for word in words:
-        if "/" in word:
-            is_there = (TOP / folder / word).exists() or (TOP / word).exists()
+        if program == "tools/rules":
+            is_there = word in rules()
+        elif "/" in word:
+            places = (f"{folder}/{word}", word, f"crates/{word.replace('/', '/must-fail/')}.*")
+            is_there = any(any(TOP.glob(place)) for place in places)
         elif word.startswith("-"):
             is_there = bool(re.search(rf"(?<![-\w]){word}\b", known))
         else:
-            is_there = word in promises or all(it.isdigit() or is_word(it) for it in re.findall(r"\w+", word))
+            is_there = word in promises if "-" in word else word.isdigit() or is_word(word)
         if not is_there:
             yield word

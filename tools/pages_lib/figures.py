@@ -16,7 +16,6 @@ import shutil
 import subprocess
 from collections.abc import Callable, Iterator
 
-from pages_lib import rattle
 from pages_lib.audit import HEADLINE, LIVES, STREAMS, audit
 from pages_lib.markdown import OF_THE_PAST, page_text, pages
 from pages_lib.rattle import CRATES, TOP, code_of, lead_of, planted, sources, tracked
@@ -40,7 +39,6 @@ PLACES = [
     ("CONTRIBUTING.md", "text of each of its {} statements", "statements"),
     ("CONTRIBUTING.md", "It has {} planted bugs in the gate", "edits_of_sql"),
     ("CONTRIBUTING.md", "in the gate, and `office_store` {}.", "edits_of_store"),
-    ("CONTRIBUTING.md", "No chain of crates is longer than these {},", "longest_chain"),
     ("CONTRIBUTING.md", "Tests are in {} crates at the top", "test_crates"),
     ("docs/proof/architecture.md", "Tests are {} crates at the top.", "test_crates"),
     ("crates/fuse_plan/src/lib.rt", "the lowest of the {} faults of the wishes", "plan_faults"),
@@ -107,7 +105,6 @@ FIGURES: dict[str, Callable[[], int | float]] = {
     "edits_of_sql": lambda: planted("office_sql", ".edit"),
     "edits_of_store": lambda: planted("office_store", ".edit"),
     "test_crates": lambda: len(list(CRATES.glob("*_tests"))),
-    "longest_chain": rattle.longest_chain,
     "jobs": lambda: variants("station_cli/src/job.rt", "Job"),
     "plan_faults": lambda: variants("fuse_plan/src/fault.rt", "PlanFault"),
     "endings": lambda: variants("http_frames/src/serving.rt", "Served"),

@@ -10,8 +10,9 @@ from pages_lib.audit import Audit, many
 from pages_lib.promises import Call, Promise
 from pages_lib.promises_text import HEAD
 
-# Where the site and the packages have it.
+# Where the site and the packages have it, in the place of the file that pages link to.
 PROMISES_PAGE = "docs/proof/list.md"
+PROMISES = "docs/promises.toml"
 
 COLUMNS = 100
 

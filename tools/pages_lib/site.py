@@ -1,7 +1,7 @@
 """The pages as mkdocs wants them: a folder with a copy of each in its form, and their order.
 
 - A link to a page stays; one to another file leads to a copy of it, as text; one to a folder leads to its README,
-  or to a list of its files.
+  or to a list of its files; one to docs/promises.toml leads to the list that is made of it.
 - A heading gets the anchor that the pages link to, since mkdocs makes others where a heading has marks in it.
 - What belongs to an item of a list stands four columns in.
 """
@@ -15,6 +15,7 @@ from pathlib import Path
 
 from pages_lib import commands
 from pages_lib.markdown import anchors_of, headings_of, page_text, pages
+from pages_lib.promises_page import PROMISES, PROMISES_PAGE
 from pages_lib.rattle import TOP, tracked
 from pages_lib.sentences import ITEM, Reader
 
@@ -72,6 +73,7 @@ class Site:
         if not name or ":" in name:
             return target
         path = os.path.relpath(((TOP / page).parent / name).resolve(), TOP)
+        path = PROMISES_PAGE if path == PROMISES else path
         if f"{path}/README.md" in pages():
             path, mark, anchor = f"{path}/README.md", "", ""
         if path in commands.MANUALS:

@@ -23,6 +23,7 @@ def test_links():
         ("![b](../pictures/bench-red.png)", "![b](../pictures/bench-red.png)"),
         ("[its\nsource](../../crates/x/src/y.rt#L1), [c](https://c.example)", "its\nsource, [c](https://c.example)"),
         ("[x](../../deploy/ca/devices.cnf)", "[x](/usr/share/doc/wanekupo-client/examples/ca/devices.cnf)"),
+        ("[all](../promises.toml)", "[all](../proof/list.md)"),
         ("`crates/station/data/map.toml`", "`/usr/share/doc/wanekupo/examples/map.toml`"),
     ):
         assert doc_pages.mended("docs/line/lots.md", before, KNOWN) == after
