@@ -78,13 +78,13 @@ class NextLines:
         return bool(self.steps)
 
 
-def _of_numbers(seat: StoredSeat, lines: Lines) -> dict[int, list[Step]]:
+def _of_numbers(seat: StoredSeat, lines: Lines, gone: Container[int] = ()) -> dict[int, list[Step]]:
     """The lines of each number that the store knows of a seat, one of which was done: not a refused one, but where a
-    late copy of it was."""
+    late copy of it was, and none of `gone`, by `id`."""
     found = dict[int, list[Step]]()
     for number in (it for it in sorted(lines) if 0 < it <= seat.last):
         own = [it for it in lines[number] if it.status in (None, 200) or it.is_stored or it.digest == seat.digest]
-        if own:
+        if own := [it for it in own if id(it) not in gone]:
             found[number] = _candidates(seat, own)
     return found
 
@@ -143,7 +143,12 @@ class Requests:
         seats = [it for it in store.seats.values() if it.customer == customer and it.last > 0]
         if others := [it.name for it in seats if store.site_seats.get(it.name) != customer]:
             raise NotWhole(f"the site's text, as it is read here, has no seat {others[0]} of it")
+        self._maps = {digest for whose, digest, _ in store.maps if whose == customer}
         numbers = {it.name: _of_numbers(it, lines.get(it.name, {})) for it in seats}
+        odd = {seat for _, seat in bare} | {it.name for it in seats if _lacking(it, numbers[it.name])}
+        for it in (it for it in seats if it.name in odd):
+            gone = {id(line) for own in lines.get(it.name, {}).values() for line in own if self._is_gone(line)}
+            numbers[it.name] = _of_numbers(it, lines.get(it.name, {}), gone)
         self.lacking = {it.name: gaps for it in seats if (gaps := _lacking(it, numbers[it.name]))}
         self._queues = {name: deque(its.values()) for name, its in numbers.items()}
         asked = [(name, its[0]) for name, queue in self._queues.items() for its in queue]
@@ -166,6 +171,18 @@ class Requests:
         self._spare = count - papers - sum(seat in self.lacking for _, seat in bare)
         self._is_short = self._spare < 0
         self.leave(self._bare if self.lacking else ())
+
+    def _is_gone(self, line: Step) -> bool:
+        """Whether a line without a reply asks for a paper that the store doesn't have: where lines are missing that of
+        its number is one of them."""
+        if line.event or line.status is not None:
+            return False
+        if line.path == ORDER:
+            order = self._order(str(line.asked.get("name"))) or {}
+            return any(line.asked.get(name) != order.get(name, "") for name in OF_ORDER)
+        rows = ((self._store.record(*name), key) for name, key in imported_by(line).items())
+        is_gone = any(row is None or row["key_sha256"] != key for row, key in rows)
+        return is_gone or line.path == MAP and line.digest_of_text() not in self._maps
 
     def leave(self, chips: Iterable[str]) -> None:
         """Leaves chips aside from here on."""
