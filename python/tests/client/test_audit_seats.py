@@ -194,7 +194,7 @@ class Turns(SeatCase):
             self.assertEqual([len(it.steps) for it in steps.shipped_books(self.folder, seats, memory)], counts)
 
     def test_what_a_line_takes(self):
-        """Whatever a line nests, it takes no more memory than it is counted for; nor do very many wrong ones."""
+        """Whatever a line nests, it takes no more memory than it is counted for."""
         nested = [[] for _ in range(20_000)]
         shapes = {
             "a reply": [asked("07:00:00", 1, "c", "/v1/order"), answered("07:00:00", 1, x=nested)],
@@ -214,6 +214,8 @@ class Turns(SeatCase):
                 held, _ = tracemalloc.get_traced_memory()
                 tracemalloc.stop()
                 self.assertLess(held, steps.MEMORY - room.bytes + 10_000, len(book.steps))
+
+    def test_very_many_faults(self):
         (self.folder / "pc7").mkdir()
         (self.folder / "pc7/a.journal").write_text((steps.MOST_FAULTS + 1) * "\n", encoding="ascii")
         told = "more than 100000 faults"
