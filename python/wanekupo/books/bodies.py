@@ -56,7 +56,8 @@ class Bodies:
 
     def body(self, done: Done, number: int) -> tuple[bytes, list[int]]:
         """The body of a request with a number, and the blocks that show what no bits of its entry come to."""
-        asked, unknown = {**done.step.asked, "nr": number}, list[int]()
+        asked: dict[str, Any] = {**done.step.asked, "nr": number}
+        unknown = list[int]()
         if "blocks" in asked:
             asked["blocks"], unknown = self._blocks(done, asked["blocks"])
         if "wishes" in asked:

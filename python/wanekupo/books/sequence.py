@@ -151,7 +151,7 @@ class Requests:
             numbers[it.name] = _of_numbers(it, lines.get(it.name, {}), gone)
         self.lacking = {it.name: gaps for it in seats if (gaps := _lacking(it, numbers[it.name]))}
         self._queues = {name: deque(its.values()) for name, its in numbers.items()}
-        asked = [(name, its[0]) for name, queue in self._queues.items() for its in queue]
+        asked = [(name, its[0]) for name, queue in self._queues.items() for its in queue if not its[0].event]
         self._times = ImportTimes(asked)
         self._pools = [list(it) for it in store.pools.get(customer, ())]
         self._made, self._given = set[str](), set[Key]()
