@@ -190,8 +190,8 @@ class Turns(SeatCase):
         size = sum(it.stat().st_size + 2 * count * steps.OF_LINE for it, count in (
             (self.folder / "pc7/a.journal", 2), (self.folder / "pc8/a.journal", 9)))
         large = (self.folder / "pc6/a.journal").stat().st_size + 100 * steps.OF_LINE
-        for memory, counts in ((size + large, [50, 2, 9]), (size + large - 1, [0, 2, 9])):
-            self.assertEqual([len(it.steps) for it in steps.shipped_books(self.folder, seats, memory)], counts)
+        for memory, found in ((size + large, [50, 2, 9]), (size + large - 1, [0, 2, 9])):
+            self.assertEqual([len(it.steps) for it in steps.shipped_books(self.folder, seats, memory)], found)
 
     def test_what_a_line_takes(self):
         """Whatever a line nests, it takes no more memory than it is counted for."""

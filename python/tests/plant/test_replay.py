@@ -354,12 +354,13 @@ def test_a_refused_line_of_a_number_that_is_gone():
 def test_very_many_lines_of_a_number():
     """A seat's number with very many lines without a reply, each of another chip, and very many steps of another seat
     beside it: whoever writes such a journal keeps no audit busy."""
-    count = 20_000
-    many = [line(1, "06:00", "ship", status=None, chip=f"x{it}") for it in range(count)]
+    count = 3_000
+    many = [line(1, "06:00", "ship", status=None, chip=f"x{it}") for it in range(100_000)]
     steps = [line(it, "06:00", "ship", chip=f"c{it}") for it in range(1, count + 1)]
     entries = [entry(it, "a2", f"c{it}", "shipped") for it in range(1, count + 1)]
     begun = time.process_time()
-    done, others = laid(Requests("acme", Books({"a1": 1, "a2": count}), {"a1": {1: many}, "a2": lines(*steps)}), entries)
+    journals = {"a1": {1: many}, "a2": lines(*steps)}
+    done, others = laid(Requests("acme", Books({"a1": 1, "a2": count}), journals), entries)
     assert (len(done), len(others)) == (count, 1)
     assert time.process_time() - begun < SECONDS
 

@@ -51,8 +51,8 @@ class Held:
 class Audit:
     """All of it. `bare` is how many entries outside of the period have no line and aren't found, and `held_lines` how
     many lines of it there are. `replayed` is how many lines of each customer the program answered once more,
-    `unfinished` why it didn't answer all, and `repeated` has those that changed nothing. `bare_chips` has the customer, the
-    chip and the seat of each entry without its line, and without the seat the others whose lines don't fit."""
+    `unfinished` why it didn't answer all, and `repeated` has those that changed nothing. `bare_chips` has the customer,
+    the chip and the seat of each entry without its line, and without a seat the other chips whose lines don't fit."""
 
     period: Period
     found: list[Found] = field(default_factory=list)

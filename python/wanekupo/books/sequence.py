@@ -73,9 +73,12 @@ class NextLines:
 
     def has_chip_but(self, aside: Container[str]) -> bool:
         """Whether any of them is of a chip that isn't left aside."""
-        while self.steps and (key := next(iter(self.steps)))[0] in aside:
-            del self.steps[key]
-        return bool(self.steps)
+        while self.steps:
+            key, step = self.steps.popitem()
+            if key[0] not in aside:
+                self.steps[key] = step
+                return True
+        return False
 
 
 def _of_numbers(seat: StoredSeat, lines: Lines, gone: Container[int] = ()) -> dict[int, list[Step]]:
