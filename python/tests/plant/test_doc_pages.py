@@ -64,3 +64,11 @@ def test_errors_name_pages_that_are_there():
         assert not section or re.search(rf"(?m)^#+ {section[1:-1]}$", page.read_text("utf-8")), it
     manuals = {it.name.split(".")[0] for it in [*DEPLOY.glob("*.[158]"), *(TOP / "debian/man").iterdir()]}
     assert {name for text in texts for name in re.findall(r"\bman ([a-z-]*[a-z])", text)} <= manuals
+
+
+def test_manuals_name_pages_that_are_there():
+    """So does the README of the packages; in a manual a page is named from the packages' folder of pages on."""
+    files = [TOP / "debian/README.md", *(TOP / "debian/man").iterdir(), *DEPLOY.glob("*.[158]")]
+    named = [(it.name, page) for it in files for page in re.findall(r"[\w/-]+\.md\b", it.read_text("utf-8"))]
+    assert len(named) >= 20
+    assert not [it for it in named if not any((top / it[1]).is_file() for top in (TOP, TOP / "docs"))]
