@@ -90,6 +90,8 @@ def samples_of(package):
         source, target = line.split()
         if "/examples" in target:
             folder = target.partition("/examples")[2].strip("/")
-            yield from (f"{folder}/{it.name}".strip("/") for it in TOP.glob(source))
+            found = [file for it in TOP.glob(source) for file in ([it] if it.is_file() else it.rglob("*"))]
+            parent = (TOP / source).parent
+            yield from (f"{folder}/{it.relative_to(parent)}".strip("/") for it in found if it.is_file())
     if package == "wanekupo":
         yield from (line.rpartition("/")[2] for line in (TOP / f"debian/{package}.examples").read_text().split())
