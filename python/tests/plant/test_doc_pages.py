@@ -64,3 +64,32 @@ def test_errors_name_pages_that_are_there():
         assert not section or re.search(rf"(?m)^#+ {section[1:-1]}$", page.read_text("utf-8")), it
     manuals = {it.name.split(".")[0] for it in [*DEPLOY.glob("*.[158]"), *(TOP / "debian/man").iterdir()]}
     assert {name for text in texts for name in re.findall(r"\bman ([a-z-]*[a-z])", text)} <= manuals
+
+
+def test_manuals_name_pages_that_are_there():
+    """So does the README of the packages; in a manual a page is named from the packages' folder of pages on."""
+    files = [TOP / "debian/README.md", *(TOP / "debian/man").iterdir(), *DEPLOY.glob("*.[158]")]
+    named = [(it.name, page) for it in files for page in re.findall(r"[\w/-]+\.md\b", it.read_text("utf-8"))]
+    assert len(named) >= 20
+    assert not [it for it in named if not any((top / it[1]).is_file() for top in (TOP, TOP / "docs"))]
+
+
+def test_samples_that_pages_name_are_there(tmp_path):
+    """The tutorial's two files among them; what the packages have in examples is by debian's lists."""
+    doc_pages.make(tmp_path)
+    text = "".join(it.read_text("utf-8") for it in tmp_path.rglob("*.md"))
+    named = set(re.findall(r"/usr/share/doc/wanekupo(?:-client)?/examples/([\w./-]*\w)", text))
+    files = [f"{it}/" for name in ("wanekupo", "wanekupo-client") for it in samples_of(name)]
+    assert {"site.toml", "map.toml"} <= named
+    assert not [it for it in named if not any(file.startswith(f"{it}/") for file in files)]
+
+
+def samples_of(package):
+    """What a package has in examples, by paths from there on."""
+    for line in (TOP / f"debian/{package}.install").read_text("utf-8").splitlines():
+        source, target = line.split()
+        if "/examples" in target:
+            folder = target.partition("/examples")[2].strip("/")
+            yield from (f"{folder}/{it.name}".strip("/") for it in TOP.glob(source))
+    if package == "wanekupo":
+        yield from (line.rpartition("/")[2] for line in (TOP / f"debian/{package}.examples").read_text().split())

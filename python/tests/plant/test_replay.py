@@ -1,6 +1,7 @@
 """What an audit sends to the program once more: made-up keys, the words of a line's digests, and the order of lines."""
 
 import hashlib
+import json
 import time
 from types import SimpleNamespace
 
@@ -376,6 +377,42 @@ def test_very_many_imports_of_a_row():
     assert time.process_time() - begun < SECONDS
     near = [it.at[11:16] for own in its.values() for it in own]
     assert [bool(it) for it in unsure] == [at in ("05:59", "06:00") for at in near]
+
+
+class Refusing:
+    """A program that refuses the identity of one chip, and says more of the shipment of another than its line."""
+
+    def __init__(self):
+        self.asked = []
+
+    def ask(self, token, method, target, body):
+        asked = json.loads(body)
+        self.asked.append((asked["nr"], target.removeprefix("/v1/"), asked.get("chip", "")))
+        if self.asked[-1][1:] == ("identity", "c"):
+            return 409, '{"error":"exhausted","no":32}'
+        return 200, '{"state":"shipped"}' if self.asked[-1][1:] == ("ship", "d") else "{}"
+
+
+def test_what_comes_behind_a_refusal():
+    """No more is asked of the chip, and its number counts as given; the others' lines are, with the seat's numbers."""
+    steps, entries = lives("c", "d")
+    store, program = Books({"a1": len(steps)}, [OF_S], [("ca", "S001"), ("ca", "S002")], ["map"]), Refusing()
+    answers = Answers("acme", store, Requests("acme", store, {"a1": lines(*steps)}), program)
+    told = [it.told for it in answers._reply_faults(entries)]
+    assert told == [
+        "the program refuses it as 32 exhausted (line 4 of j); what came of the chip behind it wasn't asked",
+        "state is missing in the journal, and shipped by the program (line 8 of j)"]  # fmt: skip
+    paths = [("map", ""), ("order", ""), ("device", "c"), ("identity", "c"), ("import", "")]
+    paths += [(it, "d") for it in ("device", "identity", "ship")]
+    assert program.asked == [(*it,) for it in zip([1, 2, 3, 4, 4, 5, 6, 7], *zip(*paths))]
+    assert list(answers.unasked()) == []
+
+
+def test_a_program_that_never_answers(tmp_path):
+    (tmp_path / "program").write_text("#!/bin/sh\nexec sleep 60\n")
+    (tmp_path / "program").chmod(0o755)
+    with Program(tmp_path / "program", "", tmp_path, 0.2) as running, pytest.raises(Unanswered, match="status -9"):
+        running.ask("t", "GET", "/v1/order?name=o")
 
 
 class Dying:

@@ -154,6 +154,7 @@ class Laid:
                 taken = "was accepted" if step.is_done() else f"has the number {step.number}, which was given"
                 told = f"{step.place()}, {said}, {taken}, and no ledger has it"
                 self.faults.append(Found("no_entry", step.at, own.customer, own.seat, step.chip, told))
+                step.is_lost = step.is_lost or not step.is_done()
 
     def bare_chips(self) -> Iterator[tuple[str, str, str]]:
         yield from ((it.customer, it.chip, it.seat) for it in self.left)

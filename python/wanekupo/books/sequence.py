@@ -108,7 +108,7 @@ def _candidates(seat: StoredSeat, lines: Sequence[Step]) -> list[Step]:
         raise NotWhole(f"{told}, so the store became an older one")
     kept = [it for it in lines if (it.number, it.digest) == (seat.last, seat.digest)]
     bare = [it for it in reversed(lines) if it.status is None]
-    return done[:1] or kept or bare or [it for it in reversed(lines) if not it.is_stop()] or list(lines)
+    return done[:1] or kept or bare or list(lines)
 
 
 def _is_before(one: Step, other: Step) -> bool:
