@@ -295,8 +295,9 @@ class Requests:
         number that the journals lack nothing is found."""
         seat = entry.row["seat"] if entry else next(name for name, queue in self._queues.items() if queue)
         lines = self._front(seat)
-        chips = {chip for chip, _ in lines.steps} - self.aside.keys() if lines else set[str]()
-        chips |= {entry.chip} if entry else set()
+        chips = {entry.chip} if entry else set[str]()
+        if lines and not chips & self._bare:
+            chips |= {chip for chip, _ in lines.steps} - self.aside.keys()
         self.leave(chips & self._bare or chips)
         if seat in self.lacking and self._spare > 0:
             self._spare -= 1
