@@ -20,7 +20,7 @@ from kit.syncs import can_trace
 HERE = Path(__file__).resolve().parents[1]
 ROOT = HERE.parent
 PROGRAM = os.environ.get("STATION_PROGRAM", str(ROOT / "crates" / "station" / "out" / "station"))
-API = ROOT / "docs" / "reference" / "api.md"
+API = ROOT / "docs" / "integrate" / "api.md"
 OWN = HERE / "tests" / "own_station.py"
 
 # Each wrong way of tests/own_station.py, the row in which it is found, and words of the fault's line.

@@ -40,8 +40,8 @@ def test_journals_of_half_of_the_period(folder, tmp_path):
             (tmp_path / name / file.name).write_text("".join(f"{it}\n" for it in lines))
     status, text = run("audit", folder / "copy/books.db", tmp_path / "acme", tmp_path / "bolt", *later)
     assert (status, "lie before the first line" in text, "Nothing found" in text) == (3, True, False), text
-    told = "The audit could not be finished: acme isn't replayed, as these journals lack the number 1 of a1; bolt isn't"
-    assert told in text, text
+    told = "The audit could not be finished: acme isn't replayed whole, as these journals lack the numbers 1 to "
+    assert (told in text, " of b1; " in text, "The program answered" in text) == (True, True, True), text
 
 
 def test_a_seat_without_a_journal(folder):

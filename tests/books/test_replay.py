@@ -7,7 +7,7 @@ import shutil
 
 import pytest
 
-from books.replay_plant import change_line, change_order, change_reply, change_store, morning, move_addresses
+from books.replay_plant import DIGEST, change_line, change_order, change_reply, change_store, morning, move_addresses
 from books.replay_plant import write_lines
 from books.seal_places import run
 from books.seal_plant import WISHES, chip_of, shown
@@ -129,8 +129,63 @@ def test_journals_that_begin_later(folder, program):
     file = folder / "bolt/b1.journal"
     write_lines(file, [json.loads(it) for it in file.read_text().splitlines()[2:]])
     status, text, rows = audited(folder, program)
-    assert (status, rows, "lines of acme once more." in text, "Nothing found" in text) == (3, [], True, False), text
-    assert "could not be finished: bolt isn't replayed, as these journals lack the number 1 of b1." in text, text
+    assert (status, rows, "Nothing found" in text) == (3, [], False), text
+    told = "The audit could not be finished: bolt isn't replayed whole, as these journals lack the number 1 of b1"
+    assert f"{told}; the store alone has the map {DIGEST}." in text, text
+    assert "lines of acme, bolt once more." in text, text
+
+
+def accepted(folder):
+    """Each accepted request of the plant: its file, its number, and its chip."""
+    for file in sorted(folder.glob("*/*.journal")):
+        lines = [json.loads(it) for it in file.read_text().splitlines()]
+        yield from ((file, asked["asked"]["nr"], asked["asked"].get("chip")) for asked in lines if "asked" in asked)
+
+
+def without(file, number):
+    lines = [json.loads(it) for it in file.read_text().splitlines()]
+    first = next(place for place, it in enumerate(lines) if it.get("asked", {}).get("nr") == number)
+    write_lines(file, lines[:first] + lines[first + 2 :])
+
+
+def test_each_line_that_may_be_gone(folder, program, tmp_path):
+    """Without any one line, with its reply, the program answers all but what rests on it, and nobody is accused. What
+    isn't asked is named: the number, and the chip or the paper."""
+    for file, number, chip in accepted(folder):
+        other = shutil.copytree(folder, tmp_path / f"{file.stem}-{number}")
+        without(other / file.relative_to(folder), number)
+        status, text, rows = audited(other, program)
+        assert (rows, "Nothing found" in text, status > 0) == ([], False, True), (number, text)
+        assert f"isn't replayed whole, as these journals lack the number {number} of {file.stem}" in text, text
+        assert (f"; its chips {chip} weren't asked for." if chip else "; the store alone has ") in text, (number, text)
+
+
+@pytest.mark.parametrize("name", ["a wish for no field", "why a chip is quarantined", "the kept reply of a plan"])
+def test_forged_beside_a_line_that_is_gone(folder, program, name):
+    """One lost line of another chip, or an order's, hides no forgery."""
+    change, told = FORGED[name]
+    change(folder)
+    without(folder / "acme/a2.journal", 1)
+    status, text, rows = audited(folder, program)
+    assert (status, "lack the number 1 of a2; the store alone has the order gate-41." in text) == (1, True), text
+    assert any(told in it for it in rows), text
+
+
+def test_an_order_that_no_lost_line_can_be(folder, program):
+    """A chip's line is gone, so no order's is."""
+    change_store(GHOST, "INSERT INTO order_start VALUES ('acme', 'ghost', NULL)")(folder)
+    without(folder / "acme/a2.journal", 2)
+    status, text, rows = audited(folder, program)
+    assert (status, "no line asked for the order ghost, which the store has" in "".join(rows)) == (1, True), text
+
+
+def test_a_forgery_behind_a_line_that_is_refused(folder, program):
+    """The program is asked on behind what it refuses."""
+    for name in ("a wish for no field", "why a chip is quarantined"):
+        FORGED[name][0](folder)
+    status, text, rows = audited(folder, program)
+    told = [FORGED[name][1] for name in ("a wish for no field", "why a chip is quarantined")]
+    assert (status, [any(words in it for it in rows) for words in told]) == (1, [True, True]), text
 
 
 def test_an_older_file_turns_nothing_off(folder, program):

@@ -1,11 +1,11 @@
-"""The rows of docs/proof/tests.md that say what a long test found, and of which commit."""
+"""The rows of docs/proof/tried.md: what a long test found, and of which commit."""
 
 import re
 import subprocess
 
 from common.needs import ROOT
 
-PAGE = ROOT / "docs/proof/tests.md"
+PAGE = ROOT / "docs/proof/tried.md"
 
 
 def commit() -> str:
@@ -18,11 +18,13 @@ def commit() -> str:
     return told + (" and files that were changed" if changed else "")
 
 
-def put_row(name: str, words: str, line: str) -> None:
-    """Puts what `tests/all faults/test_NAME.py WORDS` found into the page, in the place of the row of that test."""
+def put_row(test: str, words: str, line: str) -> None:
+    """Puts what `tests/all TEST WORDS` found into the page, in the place of that test's row or below all others."""
     line = re.sub(r"\d{4,}", lambda number: f"{int(number[0]):,}", line)
-    row = f"| `tests/all faults/test_{name}.py {words}` | {line} | {commit()} |"
-    begins = re.escape(f"| `tests/all faults/test_{name}.py ")
-    text, count = re.subn(rf"^{begins}.*$", lambda _: row, PAGE.read_text("utf-8"), flags=re.MULTILINE)
-    assert count == 1, f"{PAGE.name} has {count} rows of test_{name}.py"
-    PAGE.write_text(text, "utf-8")
+    row = f"| `{f'tests/all {test} {words}'.rstrip()}` | {line} | {commit()} |"
+    lines = PAGE.read_text("utf-8").splitlines()
+    own = re.compile(rf"\| `tests/all {re.escape(test)}[ `]")
+    places = [place for place, it in enumerate(lines) if own.match(it)] or [len(lines)]
+    assert len(places) == 1, f"{PAGE.name} has {len(places)} rows of {test}"
+    lines[places[0] : places[0] + 1] = [row]
+    PAGE.write_text("\n".join(lines) + "\n", "utf-8")

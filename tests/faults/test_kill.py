@@ -9,7 +9,7 @@ new file, which nobody disturbs: each reply, each order, device and ledger, and 
 have to be equal. What a station asks for depends on the seed and on its own replies alone.
 
 The requests are those of the seed; the moments are the seed's and the machine's. With --write the row of
-docs/proof/tests.md says what was found.
+docs/proof/tried.md says what was found.
 """
 
 import hashlib
@@ -347,4 +347,4 @@ def test_kills(program, tmp_path, port, size, seed, is_written):
         f"{counts['macs']} addresses given; {len(faults)} differences; seed {seed}"
     )
     if is_written:
-        put_row("kill", f"--size {size} --seed {seed}", line)
+        put_row("faults/test_kill.py", f"--size {size} --seed {seed}", line)

@@ -444,7 +444,7 @@ def test_cuts(program, folder, tmp_path, size, seed, is_written):
         f"{len(wrong)} wrong; seed {seed}"
     )
     if is_written:
-        put_row("powercut", f"--size {size} --seed {seed}", line)
+        put_row("faults/test_powercut.py", f"--size {size} --seed {seed}", line)
 
 
 def test_a_disk_that_lies_is_found(program, folder, tmp_path, seed):

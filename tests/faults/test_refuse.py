@@ -39,7 +39,7 @@ has to show the books of an undisturbed one; a map or a site that was refused is
 ends with `station: store fault 3`, and leaves no file of the store's name until the renaming is done, and behind it an
 empty database; nothing has the name `STORE-new` behind the next start.
 
-With --write and -k 'not 97' the row of docs/proof/tests.md says what was found.
+With --write and -k 'not 97' the row of docs/proof/tried.md says what was found.
 """
 
 import collections
@@ -437,4 +437,4 @@ def test_making(bench, is_written):
     """Behind all others, as it writes the row."""
     expect_none_wrong(bench, bench.refuse_making())
     if is_written and bench.counts.targets == len(TARGETS) + 1:
-        put_row("refuse", f"-k 'not {FEW}'", bench.counts.line())
+        put_row("faults/test_refuse.py", f"-k 'not {FEW}'", bench.counts.line())

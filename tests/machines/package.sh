@@ -195,7 +195,7 @@ import pathlib, re
 docs = pathlib.Path("/usr/share/doc/wanekupo/docs")
 pages = [*docs.resolve().rglob("*.md")]
 links = [(page, it) for page in pages for it in re.findall(r"\]\(([^)#\s]+)", page.read_text("utf-8")) if ":" not in it]
-print([f"{page}: {it}" for page, it in links if not (page.parent / it).exists()], len(pages) > 50 and len(links) > 200)
+print([f"{page}: {it}" for page, it in links if not (page.parent / it).exists()], len(pages) > 25 and len(links) > 200)
 EOF
 same 'links that lead nowhere' "$(in_root python3 /tmp/links.py)" '[] True'
 same 'the map of the tutorial' "$(in_root station check-map /usr/share/doc/wanekupo/examples/map.toml)" 'ok esp32-sample 4 7'

@@ -1,4 +1,4 @@
-"""Texts with a fault each, for test_sites.py: sites and maps, and the number that docs/reference/files.md gives them.
+"""Texts with a fault each, for test_sites.py: sites and maps, and the number that station.toml(5) gives them.
 
 Of a site there is what docs/reference/program.md has the program say, in the words of crates/site_faults/specs; of a
 map, and of what is no TOML, the line and the member that a person has to look at.

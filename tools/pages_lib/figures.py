@@ -16,7 +16,6 @@ import shutil
 import subprocess
 from collections.abc import Callable, Iterator
 
-from pages_lib import rattle
 from pages_lib.audit import HEADLINE, LIVES, STREAMS, audit
 from pages_lib.markdown import OF_THE_PAST, page_text, pages
 from pages_lib.rattle import CRATES, TOP, code_of, lead_of, planted, sources, tracked
@@ -28,8 +27,8 @@ TESTS = ["crates/*_tests", "crates/test_*"]
 KIT = re.compile(r"rattle-kit-\S+ logic (?P<logic>\w+)")
 
 # A row of what was tried on the built program: the command, the commit, and whether files were changed. Its sources.
-DISTURBED = r"^\| `(tests/all faults/test_(?:kill|powercut|refuse)\.py [^`]*)` .*"
-DISTURBED += r" \| ([0-9a-f]{7,40}) of [\d-]{10}( and [^|]*)? \|$"
+TRIED = "docs/proof/tried.md"
+DISTURBED = r"^\| `(tests/all [^`]*)` .* \| ([0-9a-f]{7,40}) of [\d-]{10}( and [^|]*)? \|$"
 SOURCES = ("crates/*/src/*", ":!crates/*_tests", ":!crates/test_*")
 
 # A page or a crate's first lines, the words around a number, and which figure it is.
@@ -40,7 +39,6 @@ PLACES = [
     ("CONTRIBUTING.md", "text of each of its {} statements", "statements"),
     ("CONTRIBUTING.md", "It has {} planted bugs in the gate", "edits_of_sql"),
     ("CONTRIBUTING.md", "in the gate, and `office_store` {}.", "edits_of_store"),
-    ("CONTRIBUTING.md", "No chain of crates is longer than these {},", "longest_chain"),
     ("CONTRIBUTING.md", "Tests are in {} crates at the top", "test_crates"),
     ("docs/proof/architecture.md", "Tests are {} crates at the top.", "test_crates"),
     ("crates/fuse_plan/src/lib.rt", "the lowest of the {} faults of the wishes", "plan_faults"),
@@ -107,7 +105,6 @@ FIGURES: dict[str, Callable[[], int | float]] = {
     "edits_of_sql": lambda: planted("office_sql", ".edit"),
     "edits_of_store": lambda: planted("office_store", ".edit"),
     "test_crates": lambda: len(list(CRATES.glob("*_tests"))),
-    "longest_chain": rattle.longest_chain,
     "jobs": lambda: variants("station_cli/src/job.rt", "Job"),
     "plan_faults": lambda: variants("fuse_plan/src/fault.rt", "PlanFault"),
     "endings": lambda: variants("http_frames/src/serving.rt", "Served"),
@@ -202,9 +199,9 @@ def rows_of_other_sources() -> Iterator[str]:
     can't tell."""
     if asked_git("rev-parse", "--is-shallow-repository").stdout.strip() != "false":
         return
-    for name, commit, more in re.findall(DISTURBED, page_text("docs/proof/tests.md"), re.MULTILINE):
+    for name, commit, more in re.findall(DISTURBED, page_text(TRIED), re.MULTILINE):
         if more or asked_git("diff", "--quiet", commit, "HEAD", "--", *SOURCES).returncode:
-            yield f"docs/proof/tests.md: {name} is of {commit}{more}, of other sources: it takes --write"
+            yield f"{TRIED}: {name} is of {commit}{more}, of other sources: it takes --write"
 
 
 def others_at_fault() -> Iterator[str]:

@@ -1,30 +1,33 @@
-"""The pages of the repository, which are the Markdown files that git knows, and what stands on them."""
+"""The pages of the repository, and what stands on them: the Markdown files that git knows, and the list of promises,
+which is made of docs/promises.toml and is no file."""
 
 import functools
 import re
 from collections.abc import Iterator
 
+from pages_lib import promises_page
+from pages_lib.audit import audit
+from pages_lib.promises_page import PROMISES_PAGE
 from pages_lib.rattle import TOP, text_of, tracked
 
-# The page that tools/pages writes whole, and pages that say what was once: no name in them has to be there.
-PROMISES_PAGE = "docs/proof/list.md"
+# Pages that say what was once: no name in them has to be there.
 OF_THE_PAST = ("CHANGELOG.md", "bench/RESULTS.md")
 
-POINTER = re.compile(r"\bdocs/[\w/-]+\.(?:md|toml|yaml|png|svg)(?:#[\w-]+)?")
+# A page that a file names, by its path from the top, or in an error from the folder of the package's pages.
+POINTER = re.compile(r"(?:\bdocs|\{PAGES\})/[\w/-]+\.(?:md|toml|yaml|png|svg)(?:#[\w-]+)?")
 FENCE = re.compile(r"(?ms)^ *```.*?^ *```$")
 
 
 @functools.cache
 def pages() -> list[str]:
     """The pages, by their paths from the top. Descriptions of planted bugs are none."""
-    found = {name for name in tracked("*.md") if "/must-fail/" not in name}
-    return sorted(found | ({PROMISES_PAGE} if (TOP / PROMISES_PAGE).is_file() else set()))
+    return sorted({PROMISES_PAGE, *(name for name in tracked("*.md") if "/must-fail/" not in name)})
 
 
 @functools.cache
 def page_text(page: str) -> str:
     """A page's text."""
-    return (TOP / page).read_text("utf-8")
+    return promises_page.page(audit()) if page == PROMISES_PAGE else (TOP / page).read_text("utf-8")
 
 
 @functools.cache
@@ -66,7 +69,7 @@ def links_at_fault() -> Iterator[str]:
             if ":" in name:
                 continue
             aim = ((TOP / page).parent / name).resolve() if name else TOP / page
-            if not aim.exists() or anchor and not has_anchor(str(aim.relative_to(TOP)), anchor):
+            if name and not aim.exists() or anchor and not has_anchor(str(aim.relative_to(TOP)), anchor):
                 yield f"{page}: the link {link} leads nowhere"
 
 
@@ -84,6 +87,6 @@ def pointers_at_fault() -> Iterator[str]:
         if name.endswith((".db", ".png")) or name.startswith("tools/pages_lib/") or name in pages():
             continue
         for found in dict.fromkeys(POINTER.findall(text_of(TOP / name))):
-            path, _, anchor = found.partition("#")
+            path, _, anchor = found.replace("{PAGES}", "docs").partition("#")
             if not (TOP / path).is_file() or anchor and not has_anchor(path, anchor):
                 yield f"{name} names {found}, which isn't there"

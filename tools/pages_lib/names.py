@@ -18,7 +18,8 @@ from collections.abc import Iterator
 from pathlib import Path
 
 from pages_lib import rattle
-from pages_lib.markdown import OF_THE_PAST, PROMISES_PAGE, fences_of, page_text, pages, prose_of
+from pages_lib.markdown import OF_THE_PAST, fences_of, page_text, pages, prose_of
+from pages_lib.promises_page import PROMISES_PAGE
 from pages_lib.rattle import CRATES, TOP, code_of, crates, declared, sources, text_of, tracked
 
 LIST = r"\(((?:`[\w:]+`(?:,| and)?\s*)+)[^()`]*"

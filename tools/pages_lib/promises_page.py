@@ -1,5 +1,5 @@
-"""Writes docs/proof/list.md: each promise with the calls that carry it, the clause that says it where that is
-short, and what stands behind it."""
+"""Makes the list of promises, a page of the site and of the packages: each promise with the calls that carry it, the
+clause that says it where that is short, and what stands behind it. No file of the repository has it."""
 
 import re
 import textwrap
@@ -9,6 +9,10 @@ from pages_lib import rattle
 from pages_lib.audit import Audit, many
 from pages_lib.promises import Call, Promise
 from pages_lib.promises_text import HEAD
+
+# Where the site and the packages have it, in the place of the file that pages link to.
+PROMISES_PAGE = "docs/proof/list.md"
+PROMISES = "docs/promises.toml"
 
 COLUMNS = 100
 

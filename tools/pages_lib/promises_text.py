@@ -1,11 +1,11 @@
-"""What docs/proof/list.md says in words, above the promises."""
+"""What the list of promises says in words, above the promises."""
 
 HEAD = """\
 # The list of promises
 
 Which promises are there, and which clauses, planted bugs and tests are behind each? [The promises,
 read aloud](promises.md) explains the first one, and the signs of clauses.
-`tools/pages` writes this page from [promises.toml](../promises.toml) and the sources: change those.
+`tools/pages --list` prints this page. It is made of `docs/promises.toml` and the sources.
 Each heading is a promise's name, by which other pages cite it. Under it come:
 
 - its sentence, and what is **only tested** beside it, as no clause says it;

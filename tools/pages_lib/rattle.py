@@ -68,17 +68,6 @@ def crates_in_order() -> list[str]:
     return done[::-1]
 
 
-def longest_chain() -> int:
-    """How many crates stand above each other at the most."""
-    below = crates_below()
-
-    @functools.cache
-    def chain(crate: str) -> int:
-        return 1 + max((chain(other) for other in below[crate] if other in below), default=0)
-
-    return max(map(chain, below))
-
-
 # ---- code
 @functools.cache
 def sources(crate: str, part: str) -> str:

@@ -1,7 +1,7 @@
 """The pages as mkdocs wants them: a folder with a copy of each in its form, and their order.
 
 - A link to a page stays; one to another file leads to a copy of it, as text; one to a folder leads to its README,
-  or to a list of its files.
+  or to a list of its files; one to docs/promises.toml leads to the list that is made of it.
 - A heading gets the anchor that the pages link to, since mkdocs makes others where a heading has marks in it.
 - What belongs to an item of a list stands four columns in.
 """
@@ -13,7 +13,9 @@ import shutil
 from collections.abc import Iterator
 from pathlib import Path
 
+from pages_lib import commands
 from pages_lib.markdown import anchors_of, headings_of, page_text, pages
+from pages_lib.promises_page import PROMISES, PROMISES_PAGE
 from pages_lib.rattle import TOP, tracked
 from pages_lib.sentences import ITEM, Reader
 
@@ -40,11 +42,12 @@ class Site:
         self.folder = folder
 
     def make(self) -> None:
-        """Copies the pages, with what they link to."""
+        """Copies the pages, with what they link to, and adds that of the commands."""
         for page in pages():
             path = self.folder / page
             path.parent.mkdir(parents=True, exist_ok=True)
             path.write_text("\n".join(self.lines(page)) + "\n", encoding="utf-8")
+        (self.folder / commands.PAGE).write_text(commands.commands_page(), encoding="utf-8")
 
     def lines(self, page: str) -> Iterator[str]:
         """The lines of a page in mkdocs' form."""
@@ -70,9 +73,12 @@ class Site:
         if not name or ":" in name:
             return target
         path = os.path.relpath(((TOP / page).parent / name).resolve(), TOP)
+        path = PROMISES_PAGE if path == PROMISES else path
         if f"{path}/README.md" in pages():
             path, mark, anchor = f"{path}/README.md", "", ""
-        if path not in pages():
+        if path in commands.MANUALS:
+            path, mark, anchor = commands.PAGE, "#", commands.MANUALS[path]
+        elif path not in pages():
             path, mark, anchor = self.copied(path), "", ""
         return os.path.relpath(path, os.path.dirname(page) or ".") + mark + anchor
 
@@ -118,6 +124,7 @@ def order() -> list[object]:
         part = [page for page in left if page.startswith(start)]
         left = [page for page in left if page not in part]
         rows = [{title_of(page): page} for page in sorted(part, key=lambda it: (not it.endswith("README.md"), it))]
+        rows += [{"The commands": commands.PAGE}] if commands.PAGE.startswith(start or ".") else []
         if rows:
             found.append({title: rows})
     return found

@@ -10,7 +10,7 @@ import re
 from collections.abc import Iterator
 from pathlib import Path
 
-from pages_lib.markdown import pages
+from pages_lib.markdown import page_text, pages
 from pages_lib.rattle import CRATES, TOP, text_of
 
 CLAUSE = re.compile(r"\s*(requires|ensures)\b")
@@ -54,7 +54,7 @@ def code_columns(path: Path, line: str) -> int:
 def widths_at_fault() -> Iterator[str]:
     """The lines that are too long: each with its columns and how many it may have."""
     for page in pages():
-        for number, line in page_lines((TOP / page).read_text("utf-8")):
+        for number, line in page_lines(page_text(page)):
             if len(line) > page_columns(page):
                 yield f"{page}:{number}: {len(line)} columns, {page_columns(page)} at most"
     files = (path for suffix in ("rt", "antt") for path in TOP.glob(f"crates/*/*/**/*.{suffix}"))

@@ -384,7 +384,7 @@ class Held:
 
 
 def life(station, chip_io, public_key=PUBLIC_KEY, order=ORDER["name"]):
-    """From a chip to a shipped device, as in the client's README. It goes on wherever it was stopped."""
+    """From a chip to a shipped device, as in deploy/station.py. It goes on wherever it was stopped."""
     station.finish()
     chip = chip_of(chip_io.read())
     device = station.find_device(chip) or station.register(chip, order, DIGEST, chip_io.read())

@@ -470,7 +470,7 @@ class Shifts(BooksCase):
 class States(unittest.TestCase):
     def test_the_drawing(self):
         """The machine has the arrows of the drawing of the docs, and no other; each state has its look."""
-        text = (ROOT / "docs" / "explanation" / "states.dot").read_text(encoding="ascii")
+        text = (ROOT / "docs" / "proof" / "states.dot").read_text(encoding="ascii")
         drawn = set()
         words = {"register": "registered", "identity": "identified", "ship": "shipped", "scrap": "scrapped"}
         for start, end, label in re.findall(r'^    (\w+) -> (\w+) \[(.*)\];', text, re.MULTILINE):

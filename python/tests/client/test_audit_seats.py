@@ -11,6 +11,7 @@ import os
 import shutil
 import tempfile
 import time
+import tracemalloc
 import unittest
 from collections import Counter
 from pathlib import Path
@@ -166,23 +167,59 @@ class Turns(SeatCase):
             self.assertLess(time.process_time() - begun, 6)
 
     def test_a_folder_is_bounded(self):
-        """All journals of a station's folder together, by its lines and by its bytes."""
+        """All journals of a station's folder together, by the memory that they take."""
         (self.folder / "pc7").mkdir()
         files = [self.book(row(1, 2, "07"), f"pc7/{name}").files[0] for name in ("a", "b")]
-        size = sum(Path(it).stat().st_size for it in files)
+        size = sum(Path(it).stat().st_size for it in files) + 8 * steps.OF_LINE
         seats = {"pc7": frozenset(["a1"])}
-        for bounds, is_read in (((size, 8), True), ((size, 7), False), ((size - 1, 8), False)):
-            with mock.patch.object(steps.Room.__init__, "__defaults__", bounds):
-                if is_read:
-                    self.assertEqual(len(list(steps.shipped_books(self.folder, seats))), 2)
-                    continue
-                self.assertRegex(self.last_fault(seats), "^isn't read to its end: with .*pc7/b.journal these journals")
+        self.assertEqual(len(steps.shipped_books(self.folder, seats, size)), 2)
+        self.assertRegex(self.last_fault(seats, size - 1), "^isn't read to its end: with .*pc7/b.journal these jour")
 
-    def last_fault(self, seats):
+    def last_fault(self, seats, memory):
         """What is told of the last book of a folder of all."""
-        book = list(steps.shipped_books(self.folder, seats))[-1]
+        book = steps.shipped_books(self.folder, seats, memory)[-1]
         self.assertEqual(({it.place() for it in book.faults}, book.times), ({str(self.folder / "pc7")}, []))
         return book.faults[0].told
+
+    def test_what_a_large_folder_leaves(self):
+        """A station that writes for ever leaves each other one as much memory as it may have itself."""
+        for name, count in (("pc6", 50), ("pc7", 2), ("pc8", 9)):
+            (self.folder / name).mkdir()
+            self.book(row(1, count, "07"), f"{name}/a")
+        seats = {name: frozenset(["a1"]) for name in ("pc6", "pc7", "pc8")}
+        size = sum(it.stat().st_size + 2 * count * steps.OF_LINE for it, count in (
+            (self.folder / "pc7/a.journal", 2), (self.folder / "pc8/a.journal", 9)))
+        large = (self.folder / "pc6/a.journal").stat().st_size + 100 * steps.OF_LINE
+        for memory, found in ((size + large, [50, 2, 9]), (size + large - 1, [0, 2, 9])):
+            self.assertEqual([len(it.steps) for it in steps.shipped_books(self.folder, seats, memory)], found)
+
+    def test_what_a_line_takes(self):
+        """Whatever a line nests, it takes no more memory than it is counted for."""
+        nested = [[] for _ in range(20_000)]
+        shapes = {
+            "a reply": [asked("07:00:00", 1, "c", "/v1/order"), answered("07:00:00", 1, x=nested)],
+            "a refusal": [asked("07:00:00", 1, "c", "/v1/identity"), answered("07:00:00", 1, 409, no=32, x=nested)],
+            "no request": [asked("07:00:00", 1, "c", "/v1/x", x=nested)],
+            "wishes": [asked("07:00:00", 1, "c", "/v1/plan", wishes=[{"kind": "bit"} for _ in range(5_000)])],
+            "blocks": [asked("07:00:00", 1, "c", "/v1/device", blocks=[f"{it}" for it in range(20_000)])],
+            "letters": [asked("07:00:00", 1, "c", "/v1/map", text=f"{20_000 * 'x'}\U0001f600")],
+            "an end": done("07:01:00", 2, "c"),
+        }
+        for name, lines in shapes.items():
+            with self.subTest(name):
+                files = [Path(it) for it in self.book([*lines, *shapes["an end"]]).files]
+                room = steps.Room()
+                tracemalloc.start()
+                book = book_of(files, room=room)
+                held, _ = tracemalloc.get_traced_memory()
+                tracemalloc.stop()
+                self.assertLess(held, steps.MEMORY - room.bytes + 10_000, len(book.steps))
+
+    def test_very_many_faults(self):
+        (self.folder / "pc7").mkdir()
+        (self.folder / "pc7/a.journal").write_text((steps.MOST_FAULTS + 1) * "\n", encoding="ascii")
+        told = "more than 100000 faults"
+        self.assertIn(told, steps.shipped_books(self.folder, {"pc7": frozenset(["a1"])})[0].faults[0].told)
 
     def test_one_bad_folder(self):
         """What a station may write that nobody can read keeps no other station's journals from being read."""

@@ -183,14 +183,12 @@ class Families(BenchCase):
         self.assertEqual(steps(self.ledger("0200000000a1")), ["registered", "planned", "identified", "shipped"])
 
     def test_the_recipe_of_the_page(self):
-        """As it stands, but for the server's address, the token, and the chips; its key pair by the page's own hook."""
-        text = PAGE.read_text(encoding="utf-8")
-        lines = re.search(r"^ {7}name = .*?lost_in_a_row = 3\n", text, re.MULTILINE | re.DOTALL)[0]
-        recipe = re.sub("^ {7}", "", lines, flags=re.MULTILINE).replace('order = "o17"', 'order = "o1"')
+        """As the package has it, but for the server's address, the token and the chips; its key pair by its hook."""
+        sample = ROOT / "deploy/thermostat"
+        recipe = (sample / "thermostat.toml").read_text(encoding="utf-8").replace('order = "o17"', 'order = "o1"')
         recipe = recipe.replace("https://station.example:8443", self.program.url).replace('ca = "cert.pem"\n', "")
         recipe = re.sub(r"(left|right) = \[.*\]", lambda it: f"{it[1]} = {json.dumps(self.socket_of(it[1]))}", recipe)
-        hook = re.search(r"^ {7}(#!/bin/sh\n.*?)\n\n", text, re.MULTILINE | re.DOTALL)[1]
-        script(self.folder / "make-csr", re.sub("^ {7}", "", hook.partition("\n")[2], flags=re.MULTILINE) + "\n")
+        script(self.folder / "make-csr", (sample / "make-csr").read_text(encoding="utf-8").partition("\n")[2])
         script(self.folder / "flash", f'{FACTS}[ "$SERIAL" = A001 ]\n')
         script(self.folder / "label", f"{FACTS}exit 0\n")
         (self.folder / "line1.token").write_text("abc\n", encoding="ascii")

@@ -299,7 +299,7 @@ class Words(CommandCase):
 
     def test_each_refusal_has_its_sentence(self):
         """Those of the table in the API, but for 11 and 12, at which the seat stops, and 50, which is sent again."""
-        page = (ROOT / "docs" / "reference" / "api.md").read_text(encoding="utf-8")
+        page = (ROOT / "docs" / "integrate" / "api.md").read_text(encoding="utf-8")
         table = dict(re.findall(r"^\| (\d+) \| (\w+) \| \d+ \|", page, re.MULTILINE))
         self.assertEqual(set(map(int, table)) - {11, 12, 50}, set(REFUSALS))
         for number, name in table.items():

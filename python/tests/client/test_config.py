@@ -1,6 +1,6 @@
 """The settings of the command `wanekupo`, and the examples that its package has.
 
-Expected values are those of docs/integrate/client.md and docs/line/bench.md.
+Expected values are those of docs/reference/files.md and docs/line/bench.md.
 """
 
 from __future__ import annotations
@@ -10,10 +10,12 @@ import os
 import re
 import tempfile
 import unittest
+from itertools import chain
 from pathlib import Path
 
 from support import MAC, ROOT
 
+from wanekupo.bench import recipe
 from wanekupo.seat.settings import Settings, settings_of, token_of
 from wanekupo.common.errors import BadSettings
 
@@ -117,24 +119,26 @@ class Config(unittest.TestCase):
 
 
 class Example(unittest.TestCase):
-    """What the package has in its examples, and its man page of a recipe, beside the page on benches."""
+    """What the package has in its examples, beside the page on benches, and its man page of a recipe."""
 
     def setUp(self):
         self.page = (ROOT / "docs" / "line" / "bench.md").read_text(encoding="utf-8")
 
     def test_its_files(self):
-        """The page shows each of them whole, byte for byte."""
-        for name in ("thermostat.toml", "make-csr", "flash", "label", "read-csr"):
-            lines = (ROOT / "deploy" / "thermostat" / name).read_text(encoding="utf-8").splitlines()
-            indent = "    " if name == "read-csr" else "       "
-            shown = "".join(f"{indent}{line}".rstrip() + "\n" for line in lines)
-            self.assertIn(f"\n\n{shown}\n", self.page, name)
+        """The page, which shows none of them, has a link to each, by which a reader finds it."""
+        names = {it.name for it in (ROOT / "deploy" / "thermostat").iterdir()}
+        self.assertEqual(names, {"thermostat.toml", "make-csr", "flash", "label", "read-csr"})
+        self.assertEqual(set(re.findall(r"\]\(\.\./\.\./deploy/thermostat/([\w.-]+)\)", self.page)), names)
 
     def test_the_man_page(self):
-        """It has each name that the page's tables of a recipe and of hooks have."""
-        tables = self.page.partition("## The recipe")[2].partition("## How a chip's stay ends")[0]
-        names = set(re.findall(r"`([A-Za-z_0-9]+)`", "".join(re.findall(r"^\|.*$", tables, re.MULTILINE))))
-        self.assertLessEqual({"order", "burnt_as", "lost_in_a_row", "before_ship", "KEY_SHA256"}, names)
+        """It has each name that a recipe may have, and each variable that a hook gets, by the program's own code."""
+        code = (ROOT / "python/wanekupo/bench/recipe.py").read_text(encoding="utf-8")
+        named = re.findall(r"_known\(\w+, \(([^)]*)\)", code)
+        names = {*recipe.TOP, *recipe.TABLES, *recipe.HOOKS, *recipe.STARTS, *chain(*recipe.WISHES.values())}
+        names |= {*recipe.WISHES, *re.findall(r'"(\w+)"', "".join(named))}
+        life = (ROOT / "python/wanekupo/bench/life.py").read_text(encoding="utf-8")
+        names |= set(re.findall(r'"([A-Z][A-Z_0-9]+)":', life))
+        self.assertLessEqual({"order", "burnt_as", "lost_in_a_row", "inches", "before_ship", "KEY_SHA256"}, names)
         man = (ROOT / "deploy" / "wanekupo-recipe.5").read_text(encoding="utf-8")
         self.assertEqual([name for name in sorted(names) if not re.search(rf"\b{name}\b", man)], [])
 

@@ -7,7 +7,6 @@ Expected values are those of docs/integrate/api.md and docs/first-chip.md, never
 from __future__ import annotations
 
 import os
-import re
 import shlex
 import subprocess
 import sys
@@ -43,7 +42,7 @@ from wanekupo.chips.espefuse import Espefuse
 from wanekupo.seat.replies import Device, Entry, Identity, Imported, Listed, Order, Plan, Verdict, Word, Work
 
 HERE = Path(__file__).resolve().parent
-README = HERE.parents[1] / "README.md"
+SAMPLE = HERE.parents[2] / "deploy/station.py"
 
 
 class Commands(StationCase):
@@ -99,11 +98,11 @@ class Commands(StationCase):
             list(station.devices("240AC4000002"))
         self.assertEqual(raised.exception.no, 10)
 
-    def test_the_life_in_the_readme(self):
+    def test_the_sample_station(self):
         """The script as it stands, where `espefuse.py` is the simulated chip; run again it changes nothing. Of a chip
         that is lost it says so."""
         self.station(file="other.json").make_order(**ORDER)
-        text = re.search(r"^```python\n(.*?)^```$", README.read_text(encoding="utf-8"), re.MULTILINE | re.DOTALL)[1]
+        text = SAMPLE.read_text(encoding="utf-8")
         (self.folder / "life.py").write_text(text.replace("http://127.0.0.1:8080", self.program.url), encoding="utf-8")
         (self.folder / "esp32.toml").write_text(MAP, encoding="utf-8")
         (self.folder / "public.key").write_bytes(PUBLIC_KEY)

@@ -6,6 +6,8 @@ import sys
 
 from conftest import DEPLOY, TOP
 
+from wanekupo.cli.main import COMMANDS
+
 sys.path.insert(0, str(TOP / "tools"))
 
 import doc_pages  # noqa: E402
@@ -21,6 +23,7 @@ def test_links():
         ("![b](../pictures/bench-red.png)", "![b](../pictures/bench-red.png)"),
         ("[its\nsource](../../crates/x/src/y.rt#L1), [c](https://c.example)", "its\nsource, [c](https://c.example)"),
         ("[x](../../deploy/ca/devices.cnf)", "[x](/usr/share/doc/wanekupo-client/examples/ca/devices.cnf)"),
+        ("[all](../promises.toml)", "[all](../proof/list.md)"),
         ("`crates/station/data/map.toml`", "`/usr/share/doc/wanekupo/examples/map.toml`"),
     ):
         assert doc_pages.mended("docs/line/lots.md", before, KNOWN) == after
@@ -32,6 +35,8 @@ def test_all_pages(tmp_path):
     links = [(page, it) for page in pages for it in re.findall(r"\]\(([^)#\s]+)", page.read_text("utf-8"))]
     own = [(page, it) for page, it in links if ":" not in it and not it.startswith("/usr/")]
     assert len(own) > 200 and [it for it in own if not (it[0].parent / it[1]).exists()] == []
+    told = set(re.findall(r"(?m)^## wanekupo (.*)$", (tmp_path / doc_pages.commands.PAGE).read_text("utf-8")))
+    assert told == {row.name for row in COMMANDS}
 
 
 def texts_of(tree):
@@ -85,6 +90,8 @@ def samples_of(package):
         source, target = line.split()
         if "/examples" in target:
             folder = target.partition("/examples")[2].strip("/")
-            yield from (f"{folder}/{it.name}".strip("/") for it in TOP.glob(source))
+            found = [file for it in TOP.glob(source) for file in ([it] if it.is_file() else it.rglob("*"))]
+            parent = (TOP / source).parent
+            yield from (f"{folder}/{it.relative_to(parent)}".strip("/") for it in found if it.is_file())
     if package == "wanekupo":
         yield from (line.rpartition("/")[2] for line in (TOP / f"debian/{package}.examples").read_text().split())

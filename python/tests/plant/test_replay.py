@@ -1,6 +1,8 @@
 """What an audit sends to the program once more: made-up keys, the words of a line's digests, and the order of lines."""
 
 import hashlib
+import json
+import time
 from types import SimpleNamespace
 
 import pytest
@@ -52,6 +54,7 @@ read = 1
 key = true
 """
 LAYOUT = Layout(TEXT)
+SECONDS = 10
 ORDER = {"issuer": "ca", "width": 3, "first": 1, "quantity": 4, "macs": 1}
 
 
@@ -100,16 +103,19 @@ def test_shown(before, after, note, really, found):
 class Books:
     """What of a store the order of lines is looked up in: a customer with a pool of eight addresses."""
 
-    def __init__(self, seats, orders=(), chips=()):
-        self.chips = chips
+    def __init__(self, seats, orders=(), chips=(), maps=()):
+        self.chips, self.maps = chips, [("acme", hashlib.sha256(it.encode()).hexdigest(), "") for it in maps]
+        self.map_text = lambda _, digest: next(it for it in maps if hashlib.sha256(it.encode()).hexdigest() == digest)
+        self.device = lambda *_: {"order": orders[0]["name"]}
+        self.record = lambda issuer, serial: {"issuer": issuer, "serial": serial, "key_sha256": 64 * "f"}
         self.seats = {name: StoredSeat(name, "acme", last, "", "") for name, last in seats.items()}
         self.site_seats = dict.fromkeys(seats, "acme")
         self.pools, self.layouts = {"acme": [(0x020000000000, 8)]}, {}
         self.unread_maps = tuple
         self.orders = {("acme", it["name"]): it for it in orders}
 
-    def records(self, _):
-        return (("acme", {"issuer": issuer, "serial": serial}) for issuer, serial in self.chips)
+    def records(self, where):
+        return (("acme", {"issuer": it[0], "serial": it[1]}) for it in self.chips if "NOT NULL" in where)
 
 
 def line(number, at, path, reply=None, status=200, **asked):
@@ -126,8 +132,16 @@ def entry(number, seat, chip, event, note=""):
     return LedgerRow(number, "acme", chip, row)
 
 
+def laid(requests, entries=()):
+    """What is in order, and the words of what isn't."""
+    found = list(requests.in_order(entries))
+    return [it for it in found if isinstance(it, Done)], [str(it) for it in found if isinstance(it, NotLaid)]
+
+
 def in_order(store, journals, entries=()):
-    return [(it.seat, it.step.number) for it in Requests("acme", store, journals).in_order(entries)]
+    done, others = laid(Requests("acme", store, journals), entries)
+    assert others == []
+    return [(it.seat, it.step.number) for it in done]
 
 
 def test_addresses_before_clocks():
@@ -211,7 +225,7 @@ def test_what_is_found_of_a_seat_hides_no_other():
     """Whoever writes the journal of a1 makes any number of wrong replies there. One of b1's is told all the same."""
     answers = Answers("acme", SimpleNamespace(unread_maps=lambda: ()), SimpleNamespace(repeated=[]), None)
     wrong = [Found("replay", "", "acme", "a1", "", f"reply {it}") for it in range(9)]
-    answers._found += [*wrong, Found("replay", "", "acme", "b1", "", "a reply")]
+    answers._take([*wrong, Found("replay", "", "acme", "b1", "", "a reply")])
     assert [(it.seat, it.told.split(" ")[0]) for it in answers.told()] == [
         *(("a1", "reply") for _ in range(5)), ("b1", "a"), ("a1", "4")]  # fmt: skip
 
@@ -227,9 +241,7 @@ def test_a_long_ledger(tmp_path):
     assert (status, len(text)) == (200, length)
 
 
-def test_what_lacks_a_number_or_has_it_twice():
-    with pytest.raises(NotWhole, match="lack the number 1 of a1"):
-        Requests("acme", Books({"a1": 2}), {"a1": lines(line(2, "06:00", "map", text=""))})
+def test_what_has_a_number_twice():
     twice = {1: [line(1, "06:00", "map", text=it) for it in "ab"]}
     with pytest.raises(NotWhole, match="became an older one"):
         Requests("acme", Books({"a1": 1}), {"a1": twice})
@@ -267,9 +279,140 @@ def test_of_lines_of_a_number_the_one_of_the_next_entry(first):
     ],
 )
 def test_what_is_not_laid(entries, told):
-    journals = {"a1": lines(line(1, "06:00", "ship", chip="c"))}
-    with pytest.raises(NotLaid, match=told):
-        in_order(Books({"a1": 1}), journals, entries)
+    """It is told, and the chip's other steps aren't asked. What came behind it is."""
+    steps = [line(1, "06:00", "ship", chip="c"), line(2, "06:01", "scrap", chip="c"), line(3, "06:02", "map", text="x")]
+    done, (first, *_) = laid(Requests("acme", Books({"a1": 3}), {"a1": lines(*steps)}), entries)
+    assert (told in first, [it.step.number for it in done]) == (True, [3])
+
+
+LIFE = [("registered", ""), ("identified", "S001"), ("shipped", "")]
+PATH_OF = {"registered": "device", "identified": "identity", "shipped": "ship"}
+
+
+def lives(*chips):
+    """The lines and the entries of whole lives of one seat, one after another, with their papers in front."""
+    device = {"order": "o", "map": hashlib.sha256(b"map").hexdigest()}
+    steps, entries = [line(1, "05:00", "map", text="map"), line(2, "05:01", "order", **ORDERED)], []
+    for place, chip in enumerate(chips):
+        for event, note in LIFE:
+            note = note and f"S00{place + 1}"
+            more = device if event == "registered" else {}
+            at = f"06:{len(steps):02}"
+            steps.append(line(len(steps) + 1, at, PATH_OF[event], {"serial": note} if note else {}, chip=chip, **more))
+            entries.append(entry(len(entries) + 1, "a1", chip, event, note))
+    return steps, entries
+
+
+ORDERED = {"name": "o", "issuer": "ca", "prefix": "S", "width": 3, "first": 1, "quantity": 4, "macs": 0}
+OF_S = {**ORDER, **ORDERED, "mac": None, "not_before": None}
+
+
+@pytest.mark.parametrize(
+    ("number", "chips", "lent", "asked"),
+    [
+        (3, ["c"], [], ["import", "map", "order", "device", "identity", "ship"]),  # its registration
+        (4, ["c"], [], ["import", "map", "order", "device", "identity", "ship"]),  # and what it was given
+        (6, ["d"], [], ["map", "order", "device", "identity", "ship", "import"]),
+        (1, [], ["map"], ["map", "order", *(2 * ["device", "identity", "ship"])]),
+        (2, [], ["order"], ["order", "map", *(2 * ["device", "identity", "ship"])]),
+    ],
+)
+def test_a_line_that_is_gone(number, chips, lent, asked):
+    """Of one chip no step is asked, and its number counts as given; or a paper is the store's own. Nothing is found."""
+    steps, entries = lives("c", "d")
+    bare = [(it.chip, "a1") for it, step in zip(entries, steps[2:]) if step.number == number]
+    store = Books({"a1": len(steps)}, [OF_S], [("ca", "S001"), ("ca", "S002")], ["map"])
+    requests = Requests("acme", store, {"a1": lines(*(it for it in steps if it.number != number))}, bare)
+    done, others = laid(requests, entries)
+    assert (requests.lacking, list(requests.aside), others) == ({"a1": [(number, number)]}, chips, [])
+    assert [it.path for it in requests.lent] == [f"/v1/{it}" for it in lent]
+    assert [it.step.path.removeprefix("/v1/") for it in done] == asked
+
+
+def test_an_order_that_no_lost_line_asked_for():
+    """A line of a chip is gone, so none of an order: one that stands in the store alone was put there."""
+    steps, entries = lives("c", "d")
+    orders = [OF_S, {**OF_S, "name": "ghost", "prefix": "G"}]
+    store = Books({"a1": len(steps)}, orders, [("ca", "S001"), ("ca", "S002")], ["map"])
+    for number, bare, is_asked in ((4, [("c", "a1")], False), (1, [], True)):
+        requests = Requests("acme", store, {"a1": lines(*(it for it in steps if it.number != number))}, bare)
+        laid(requests, entries)
+        assert ("ghost" in [it.asked.get("name") for it in requests.papers]) is False
+
+
+def test_a_refused_line_of_a_number_that_is_gone():
+    """A line that was refused, or that asks for what the store doesn't have, isn't the one that was accepted."""
+    steps, entries = lives("c", "d")
+    others = [line(4, "06:02", "order", {"no": 34}, 409, name="x"), line(4, "06:02", "order", status=None, name="x")]
+    others[0].is_stored = False
+    for other in others:
+        store = Books({"a1": len(steps)}, [OF_S], [("ca", "S001"), ("ca", "S002")], ["map"])
+        journals = {"a1": {**lines(*(it for it in steps if it.number != 4)), 4: [other]}}
+        requests = Requests("acme", store, journals, [("c", "a1")])
+        assert (laid(requests, entries)[1], requests.lacking) == ([], {"a1": [(4, 4)]})
+
+
+def test_very_many_lines_of_a_number():
+    """A seat's number with very many lines without a reply, each of another chip, and very many steps of another seat
+    beside it: whoever writes such a journal keeps no audit busy."""
+    count = 3_000
+    many = [line(1, "06:00", "ship", status=None, chip=f"x{it}") for it in range(100_000)]
+    steps = [line(it, "06:00", "ship", chip=f"c{it}") for it in range(1, count + 1)]
+    entries = [entry(it, "a2", f"c{it}", "shipped") for it in range(1, count + 1)]
+    begun = time.process_time()
+    journals = {"a1": {1: many}, "a2": lines(*steps)}
+    done, others = laid(Requests("acme", Books({"a1": 1, "a2": count}), journals), entries)
+    assert (len(done), len(others)) == (count, 1)
+    assert time.process_time() - begun < SECONDS
+
+
+def test_very_many_imports_of_a_row():
+    """Which of two seats' came first is told from their times alone, without a look at each other one."""
+    count, csv = 10_000, f"serial,key_sha256\nS1,{64 * '0'}\n"
+    its = {seat: [line(it, f"{5 + place}:{it % 60:02}".rjust(5, "0"), "import", issuer="ca", csv=csv)
+                  for it in range(1, count + 1)] for place, seat in enumerate(("a1", "a2"))}  # fmt: skip
+    begun = time.process_time()
+    requests = Requests("acme", Books({"a1": count, "a2": count}), {seat: lines(*own) for seat, own in its.items()})
+    unsure = [requests.unsure(Done(seat, it)) for seat, own in its.items() for it in own]
+    assert time.process_time() - begun < SECONDS
+    near = [it.at[11:16] for own in its.values() for it in own]
+    assert [bool(it) for it in unsure] == [at in ("05:59", "06:00") for at in near]
+
+
+class Refusing:
+    """A program that refuses the identity of one chip, and says more of the shipment of another than its line."""
+
+    def __init__(self):
+        self.asked = []
+
+    def ask(self, token, method, target, body):
+        asked = json.loads(body)
+        self.asked.append((asked["nr"], target.removeprefix("/v1/"), asked.get("chip", "")))
+        if self.asked[-1][1:] == ("identity", "c"):
+            return 409, '{"error":"exhausted","no":32}'
+        return 200, '{"state":"shipped"}' if self.asked[-1][1:] == ("ship", "d") else "{}"
+
+
+def test_what_comes_behind_a_refusal():
+    """No more is asked of the chip, and its number counts as given; the others' lines are, with the seat's numbers."""
+    steps, entries = lives("c", "d")
+    store, program = Books({"a1": len(steps)}, [OF_S], [("ca", "S001"), ("ca", "S002")], ["map"]), Refusing()
+    answers = Answers("acme", store, Requests("acme", store, {"a1": lines(*steps)}), program)
+    told = [it.told for it in answers._reply_faults(entries)]
+    assert told == [
+        "the program refuses it as 32 exhausted (line 4 of j); what came of the chip behind it wasn't asked",
+        "state is missing in the journal, and shipped by the program (line 8 of j)"]  # fmt: skip
+    paths = [("map", ""), ("order", ""), ("device", "c"), ("identity", "c"), ("import", "")]
+    paths += [(it, "d") for it in ("device", "identity", "ship")]
+    assert program.asked == [(*it,) for it in zip([1, 2, 3, 4, 4, 5, 6, 7], *zip(*paths))]
+    assert list(answers.unasked()) == []
+
+
+def test_a_program_that_never_answers(tmp_path):
+    (tmp_path / "program").write_text("#!/bin/sh\nexec sleep 60\n")
+    (tmp_path / "program").chmod(0o755)
+    with Program(tmp_path / "program", "", tmp_path, 0.2) as running, pytest.raises(Unanswered, match="status -9"):
+        running.ask("t", "GET", "/v1/order?name=o")
 
 
 class Dying:

@@ -51,7 +51,8 @@ class Held:
 class Audit:
     """All of it. `bare` is how many entries outside of the period have no line and aren't found, and `held_lines` how
     many lines of it there are. `replayed` is how many lines of each customer the program answered once more,
-    `unfinished` why it didn't answer all, and `repeated` has those that changed nothing."""
+    `unfinished` why it didn't answer all, and `repeated` has those that changed nothing. `bare_chips` has the customer,
+    the chip and the seat of each entry without its line, and without a seat the other chips whose lines don't fit."""
 
     period: Period
     found: list[Found] = field(default_factory=list)
@@ -64,6 +65,7 @@ class Audit:
     repeated: list[Step] = field(default_factory=list)
     replayed: dict[str, int] = field(default_factory=dict)
     unfinished: list[str] = field(default_factory=list)
+    bare_chips: list[tuple[str, str, str]] = field(default_factory=list)
 
     def add(self, found: Iterable[Found]) -> None:
         """Adds what was found, in the order of its times, each once."""
@@ -87,6 +89,7 @@ def audit_of(store: Books, books: Iterable[Book], period: Period, now: str, site
     for lines in steps.values():
         laid.take(matched((), lines))
     laid.pairs.sort(key=lambda it: it[0])
+    audit.bare_chips = list(laid.bare_chips())
     audit.found += _journal_faults(journals, store)
     audit.found += _clock_faults(journals, laid.pairs, period, now)
     window = window_of(laid.pairs, period)
@@ -151,6 +154,12 @@ class Laid:
                 taken = "was accepted" if step.is_done() else f"has the number {step.number}, which was given"
                 told = f"{step.place()}, {said}, {taken}, and no ledger has it"
                 self.faults.append(Found("no_entry", step.at, own.customer, own.seat, step.chip, told))
+                step.is_lost = step.is_lost or not step.is_done()
+
+    def bare_chips(self) -> Iterator[tuple[str, str, str]]:
+        yield from ((it.customer, it.chip, it.seat) for it in self.left)
+        yield from ((it.customer, it.chip, "") for it in self.faults)
+        yield from ((it.customer, it.chip, "") for it, *_ in self.odd)
 
     def found(self) -> Iterator[Found]:
         """The lines without an entry, and the pairs that differ."""

@@ -14,6 +14,7 @@ from typing import Any, Iterator, Mapping, Optional, Sequence
 
 from wanekupo.books.fuses import FuseWords
 from wanekupo.books.sequence import Done
+from wanekupo.books.steps import loaded
 from wanekupo.books.store_rows import Books
 from wanekupo.chips.layout import Layout
 from wanekupo.seat.forms import DIGEST
@@ -53,13 +54,14 @@ class Bodies:
         self._customer, self._store, self._keys = customer, store, keys
         self._known: dict[str, tuple[FuseWords, Bits]] = {}
 
-    def body(self, done: Done) -> tuple[bytes, list[int]]:
-        """The body of a request, and the blocks that show what no bits of its entry come to."""
-        asked, unknown = dict(done.step.asked), list[int]()
+    def body(self, done: Done, number: int) -> tuple[bytes, list[int]]:
+        """The body of a request with a number, and the blocks that show what no bits of its entry come to."""
+        asked: dict[str, Any] = {**done.step.asked, "nr": number}
+        unknown = list[int]()
         if "blocks" in asked:
             asked["blocks"], unknown = self._blocks(done, asked["blocks"])
         if "wishes" in asked:
-            asked["wishes"] = [self._wish(it) for it in asked["wishes"]]
+            asked["wishes"] = [self._wish(it) for it in loaded(asked["wishes"])]
         text = json.dumps(asked, ensure_ascii=False, separators=(",", ":"))
         return text.encode("utf-8", "surrogatepass"), unknown
 

@@ -168,6 +168,7 @@ def _lay_unanswered(
             rest.append(entry)
             continue
         step = own.popleft()
+        step.is_stored = step.is_stored or bool(kind)
         laid.add(id(step))
         told = "a late copy of a request that was refused was accepted" if kind else ""
         found.pairs.append(Pair(entry, step, kind, told))

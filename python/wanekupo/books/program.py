@@ -42,9 +42,9 @@ def program_named(name: str) -> Path:
 
 
 class Program:
-    """The program as a child of this process. It has an hour, and the words of a site in a folder."""
+    """The program as a child of this process, for some seconds. It has the words of a site in a folder."""
 
-    def __init__(self, path: Path, site: str, folder: Path):
+    def __init__(self, path: Path, site: str, folder: Path, seconds: float = LONGEST):
         (folder / "site.toml").write_text(site, encoding="utf-8")
         try:
             self._child = subprocess.Popen(
@@ -55,7 +55,7 @@ class Program:
             raise Unanswered(f"{path} can't be run: {error.strerror}") from error
         assert self._child.stdin and self._child.stdout and self._child.stderr
         self._in, self._out, self._said = self._child.stdin, self._child.stdout, self._child.stderr
-        self._limit = threading.Timer(LONGEST, self._child.kill)
+        self._limit = threading.Timer(seconds, self._child.kill)
         self._limit.start()
 
     def __enter__(self) -> Program:

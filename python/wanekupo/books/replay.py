@@ -7,29 +7,34 @@ whose journals aren't leaves the audit unfinished.
 
 from __future__ import annotations
 
-import contextlib
 import hashlib
 import json
 import tempfile
 from collections import Counter, defaultdict
+from itertools import chain
 from pathlib import Path
-from typing import Any, Iterable, Iterator, Mapping
+from typing import Any, Iterable, Iterator, Mapping, Sequence
 from urllib.parse import quote
 
 from wanekupo.books.audit import Audit, Found
 from wanekupo.books.bodies import Bodies, Keys
 from wanekupo.books.clocks import begin_of, end_of
+from wanekupo.books.imports import IMPORT, ORDER, imported_by
 from wanekupo.books.matches import seated
 from wanekupo.books.program import Program, Unanswered
-from wanekupo.books.sequence import MAP, ORDER, Done, Lines, NotLaid, NotWhole, Requests, imported_by
-from wanekupo.books.steps import PATHS, REPLIED, WORKS, Book, Step
+from wanekupo.books.sequence import MAP, Done, Lines, NotLaid, NotWhole, Requests
+from wanekupo.books.steps import PATHS, REPLIED, WORKS, Book, Step, loaded
 from wanekupo.books.store_rows import Books, LedgerRow
+from wanekupo.common.store_user import LONGEST
 from wanekupo.common.texts import brief, compact_json
 from wanekupo.seat.forms import NO_END
 from wanekupo.seat.import_rows import LONGEST_BODY
 
-# How many faults of a seat are told.
-MOST_TOLD = 5
+# How many faults of a seat are told, and how many names of what wasn't asked.
+MOST_TOLD, MOST_NAMED = 5, 200
+
+# How many seconds the program has for each line, beside an hour.
+FOR_A_LINE = 0.1
 
 # A member that replies of earlier servers lack where it is null, and those that depend on imports.
 LATER, COUNTED = "not_before", ("added", "present", "next")
@@ -41,12 +46,14 @@ UNKNOWN, TOO_LARGE = (404, '{"error":"unknown_path","no":7}'), (413, '{"error":"
 
 def ask_again(program: Path, books: Iterable[Book], store: Books, audit: Audit) -> None:
     """Has a program answer the lines of all journals, and holds it to the store. What was found stays where it ends."""
-    lines = defaultdict[str, dict[int, list[Step]]](lambda: defaultdict(list))
-    for own, step in ((seated(book, store), step) for book in books for step in book.steps if not step.is_lost):
-        lines[own.seat][step.number].append(step)
+    lines, count = defaultdict[str, dict[int, list[Step]]](lambda: defaultdict(list)), 0
+    for own, step in ((own, step) for own in (seated(it, store) for it in books) for step in own.book.steps):
+        count += 1
+        if not step.is_lost:
+            lines[own.seat][step.number].append(step)
     with tempfile.TemporaryDirectory(prefix="wanekupo-replay.") as folder:
         try:
-            with Program(program, _site(store), Path(folder)) as running:
+            with Program(program, _site(store), Path(folder), LONGEST + FOR_A_LINE * count) as running:
                 for customer, entries in _entries(store).items():
                     _ask_customer(customer, entries, store, lines, running, audit)
         except Unanswered as error:
@@ -56,8 +63,9 @@ def ask_again(program: Path, books: Iterable[Book], store: Books, audit: Audit) 
 def _ask_customer(
     customer: str, entries: list[LedgerRow], store: Books, lines: Mapping[str, Lines], running: Program, audit: Audit
 ) -> None:
+    bare = [(chip, seat) for whose, chip, seat in audit.bare_chips if whose == customer]
     try:
-        answers = Answers(customer, store, Requests(customer, store, lines), running)
+        answers = Answers(customer, store, Requests(customer, store, lines, bare), running)
     except NotWhole as error:
         audit.unfinished.append(f"{customer} isn't replayed, as {error}")
         return
@@ -66,6 +74,7 @@ def _ask_customer(
     finally:
         audit.add(answers.told())
         audit.repeated += answers.repeated
+        audit.unfinished += answers.unasked()
         audit.replayed |= {customer: answers.count} if answers.count else {}
 
 
@@ -103,26 +112,39 @@ class Answers:
             raise NotWhole("a map of its devices can't be read here")
         self._customer, self._store, self._requests, self._program = customer, store, requests, program
         self._keys, self._last, self.count = Keys(), dict[str, tuple[Done, str]](), 0
+        self._numbers, self._counts = Counter[str](), Counter[str]()
         self._bodies, self._found, self.repeated = Bodies(customer, store, self._keys), list[Found](), requests.repeated
 
     def hold(self, entries: list[LedgerRow]) -> None:
         """Has the lines answered, and holds replies and rows to what the program says."""
-        self._found.extend(self._reply_faults(entries))
-        if not self._requests.left():
-            self._found.extend(self._kept_faults())
-            self._found.extend(self._paper_faults())
-            self._found.extend(self._row_faults(entries))
+        self._take(self._reply_faults(entries))
+        self._take(self._kept_faults())
+        self._take(self._paper_faults())
+        self._take(self._row_faults(entries))
+
+    def _take(self, found: Iterable[Found]) -> None:
+        """Keeps the first faults of each seat and of the store's rows. One seat's hide no other's."""
+        for it in found:
+            self._counts[it.seat] += 1
+            self._found += [it] if self._counts[it.seat] <= MOST_TOLD else []
 
     def told(self) -> Iterator[Found]:
-        """The first faults of each seat and of the store's rows, and how many more there are: they may follow from
-        these. One seat's hide no other's."""
-        counts = Counter[str]()
-        for it in self._found:
-            counts[it.seat] += 1
-            yield from [it] if counts[it.seat] <= MOST_TOLD else ()
-        for seat, count in counts.items():
+        """These, and how many more there are: they may follow from them."""
+        yield from self._found
+        for seat, count in self._counts.items():
             more = f"{count - MOST_TOLD} more replies and rows aren't what the program makes of these lines"
             yield from [self._fault(more, seat)] if count > MOST_TOLD else ()
+
+    def unasked(self) -> Iterator[str]:
+        """What wasn't asked, where journals lack numbers, and what was taken from the store."""
+        lacking, chips = self._requests.lacking, list(self._requests.aside)
+        if not lacking:
+            return
+        gaps = [f"{_numbers(*it)} of {seat}" for seat, its in lacking.items() for it in its]
+        told = f"{self._customer} isn't replayed whole, as these journals lack {_some(gaps)}"
+        papers = [_named(it) for it in self._requests.lent]
+        told += f"; its chips {_some(chips)} weren't asked for" if chips else ""
+        yield f"{told}; the store alone has {_some(papers)}" if papers else told
 
     def _fault(self, told: str, seat: str = "", chip: str = "", at: str = "") -> Found:
         return Found("replay", at, self._customer, seat, chip, told)
@@ -138,27 +160,32 @@ class Answers:
         return TOO_LARGE if len(body) > LONGEST_BODY else self._ask(done.seat, "POST", done.step.path, body)
 
     def _reply_faults(self, entries: list[LedgerRow]) -> Iterator[Found]:
-        """In which lines a reply isn't the program's, up to one that it refuses."""
-        try:
-            for it in self._requests.in_order(entries):
-                body, unknown = self._bodies.body(it)
-                step, place = it.step, f"({it.step.place()})"
-                status, text = self._done(it, body)
-                for told in self._differences(it, text) if status == 200 else ():
-                    yield self._fault(f"{told} {place}", it.seat, step.chip, step.at)
-                if it.later:
-                    yield self._clock_fault(it, it.later)
-                for block in unknown:
-                    told = f"its block {block} shows something else than its ledger comes to {place}"
-                    yield self._fault(told, it.seat, step.chip, step.at)
-                if status != 200:
-                    refusal = json.loads(text)
-                    told = f"the program refuses it as {refusal.get('no')} {refusal.get('error')} {place}"
-                    yield self._fault(f"{told}; what came behind it wasn't replayed", it.seat, step.chip, step.at)
-                    return
+        """In which lines a reply isn't the program's, and which it refuses. Of such a chip no more is asked."""
+        for it in self._requests.in_order(entries):
+            if isinstance(it, NotLaid):
+                yield self._fault(f"{it}; what came of the chip behind it wasn't asked", it.seat, it.chip, it.at)
+                continue
+            step, (body, unknown) = it.step, self._bodies.body(it, self._numbers[it.seat] + 1)
+            status, text = self._done(it, body)
+            for told in chain(self._differences(it, text) if status == 200 else (), map(_shown, unknown)):
+                yield self._fault(f"{told} ({step.place()})", it.seat, step.chip, step.at)
+            if it.later:
+                yield self._clock_fault(it, it.later)
+            if status != 200:
+                yield self._refused(it, json.loads(text))
+                continue
+            self._numbers[it.seat] += 1
+            if not it.is_of_store():
                 self._last[it.seat], self.count = (it, text), self.count + 1
-        except NotLaid as error:
-            yield self._fault(f"{error}; what came behind it wasn't replayed", error.seat, error.chip, error.at)
+
+    def _refused(self, done: Done, reply: Mapping[str, Any]) -> Found:
+        """A line that the program refuses. What of its chip came behind it would be refused too."""
+        step = done.step
+        told = f"the program refuses it as {reply.get('no')} {reply.get('error')} ({step.place()})"
+        if step.event:
+            self._requests.leave([step.chip])
+            told = f"{told}; what came of the chip behind it wasn't asked"
+        return self._fault(told, done.seat, step.chip, step.at)
 
     def _differences(self, done: Done, text: str) -> list[str]:
         """In what a line's reply isn't the program's. What of a step of a device nobody looks at isn't in memory."""
@@ -181,6 +208,8 @@ class Answers:
         for it in (it for it in self._store.seats.values() if it.customer == self._customer):
             done, text = self._last.get(it.name, (None, ""))
             if done is None or done.step.number != it.last:
+                if self._requests.aside or self._requests.lacking:
+                    continue
                 last = done.step.number if done else "none"
                 yield self._fault(f"its last number is {it.last} in the store, and {last} by the program", it.name)
             elif _without_later(text) != _without_later(it.reply) and not self._requests.unsure(done):
@@ -206,7 +235,7 @@ class Answers:
         for what, names in own.items():
             for name in sorted(names - stored[what] - self._given("WHERE g.chip IS NOT NULL")):
                 yield self._fault(f"{what} {name} isn't in the store as it was asked for")
-            for name in sorted(stored[what] - names) if what != "the order" else ():
+            for name in sorted(stored[what] - names) if what != "the order" or self._requests.lent else ():
                 yield self._fault(f"no line asked for {what} {name}, which the store has")
 
     def _given(self, where: str) -> set[str]:
@@ -224,11 +253,12 @@ class Answers:
             if customer == self._customer:
                 yield from self._held(seat, f"order?name={name}", {**row, "next": self._store.next_of(row)})
         devices = (it for it in self._store.devices() if it["customer"] == self._customer)
-        for chip, device in ((it["chip"], it) for it in devices):
+        aside = self._requests.aside
+        for chip, device in ((it["chip"], it) for it in devices if it["chip"] not in aside):
             yield from self._held(seat, f"device?chip={chip}", device, chip)
             yield from self._held(seat, f"ledger?chip={chip}", {"chip": chip, "entries": ledgers[chip]}, chip)
         for customer, record in self._store.records("WHERE g.chip IS NOT NULL"):
-            if customer == self._customer:
+            if customer == self._customer and record["chip"] not in aside:
                 yield from self._held(seat, f"identity?chip={record['chip']}", record, record["chip"])
 
     def _held(self, seat: str, target: str, row: Mapping[str, Any], chip: str = "") -> Iterator[Found]:
@@ -243,6 +273,28 @@ class Answers:
                 yield self._fault(f"the entry {own['n']} of the chip {chip}: {told}", chip=chip)
         for told in _differences(reply, row, "store", ()):
             yield self._fault(f"the {what}: {told}", chip=chip)
+
+
+def _shown(block: int) -> str:
+    return f"its block {block} shows something else than its ledger comes to"
+
+
+def _numbers(first: int, last: int) -> str:
+    return f"the number {first}" if first == last else f"the numbers {first} to {last}"
+
+
+def _named(step: Step) -> str:
+    """An order, a map or an import by its name."""
+    if step.path == IMPORT:
+        return f"{len(imported_by(step))} imported numbers of {step.asked['issuer']}"
+    return f"the order {step.asked['name']}" if step.path == ORDER else f"the map {step.digest_of_text()}"
+
+
+def _some(names: Sequence[str]) -> str:
+    """So many names as a page has, and how many more."""
+    more = [f"{len(names) - MOST_NAMED} more"] if len(names) > MOST_NAMED else []
+    *some, last = [*names[:MOST_NAMED], *more]
+    return f"{', '.join(some)} and {last}" if some else last
 
 
 def _without_later(text: str) -> str:
@@ -262,18 +314,11 @@ def _is_near(reply: Mapping[str, Any], said: Mapping[str, Any], unsure: int) -> 
 def _differences(reply: Mapping[str, Any], own: Mapping[str, Any], where: str, but: Iterable[str]) -> Iterator[str]:
     """In which members of the program's something else stands; all but some have to be there."""
     for name, it in reply.items():
-        said = _loaded(own.get(name)) if name in WORKS else own.get(name)
+        said = loaded(own.get(name)) if name in WORKS else own.get(name)
         is_later = name == LATER and it is None
         if (name in own or not is_later) and name not in but and said != it:
             stands = _brief(said) if name in own else "missing"
             yield f"{name} is {stands} in the {where}, and {_brief(it)} by the program"
-
-
-def _loaded(it: Any) -> Any:
-    """A part of a reply, which may be in memory as its text."""
-    with contextlib.suppress(TypeError, ValueError, RecursionError):
-        return json.loads(it)
-    return it
 
 
 def _brief(it: Any) -> str:

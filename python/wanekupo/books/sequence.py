@@ -9,20 +9,29 @@ from __future__ import annotations
 
 from collections import defaultdict, deque
 from dataclasses import dataclass, replace
-from functools import lru_cache
-from itertools import count
-from typing import Iterable, Iterator, Mapping, Optional, Sequence
+from typing import Any, Container, Iterable, Iterator, Mapping, Optional, Sequence, Union
 
 from wanekupo.books.clocks import begin_of, end_of, is_behind
+from wanekupo.books.imports import IMPORT, ORDER, ImportTimes, imported_by
 from wanekupo.books.steps import Step
-from wanekupo.books.store_rows import Books, LedgerRow, Row, StoredSeat, serial_of
+from wanekupo.books.store_rows import Books, Key, LedgerRow, Row, StoredSeat, serial_of
 from wanekupo.common.errors import StationError
-from wanekupo.seat.import_rows import rows_of
+from wanekupo.seat.import_rows import csv_of, import_parts
 
-ORDER, MAP, IMPORT = "/v1/order", "/v1/map", "/v1/import"
+MAP = "/v1/map"
 
 # The lines of each number of a seat.
 Lines = Mapping[int, list[Step]]
+
+# Numbers from the first one to the last one.
+Numbers = tuple[int, int]
+
+# A chip with an event of it.
+ChipEvent = tuple[str, str]
+
+# Where a request is that no line has, and that the store shows; and the members of an order's.
+OF_STORE = "the store"
+OF_ORDER = ("name", "issuer", "prefix", "width", "first", "quantity", "macs", "not_before")
 
 
 class NotWhole(StationError):
@@ -47,17 +56,50 @@ class Done:
     entry: Optional[LedgerRow] = None
     later: Optional[Step] = None
 
+    def is_of_store(self) -> bool:
+        return self.step.file == OF_STORE
 
-def _numbered(seat: StoredSeat, lines: Lines) -> deque[list[Step]]:
-    """The lines of each number that the store knows of a seat."""
-    lacking = next(number for number in count(1) if number not in lines)
-    if lacking <= seat.last:
-        raise NotWhole(f"these journals lack the number {lacking} of {seat.name}")
-    return deque(_candidates(seat, lines[number]) for number in range(1, seat.last + 1))
+
+class NextLines:
+    """The lines of a seat's next number, one of which was done: its steps, and the first line that is no step."""
+
+    def __init__(self, lines: Sequence[Step]):
+        self.first = lines[0]
+        self.paper = next((it for it in lines if not it.event), None)
+        self.steps: dict[ChipEvent, Step] = {}
+        for it in lines:
+            if it.event:
+                self.steps.setdefault((it.chip, it.event), it)
+
+    def has_chip_but(self, aside: Container[str]) -> bool:
+        """Whether any of them is of a chip that isn't left aside."""
+        while self.steps:
+            key, step = self.steps.popitem()
+            if key[0] not in aside:
+                self.steps[key] = step
+                return True
+        return False
+
+
+def _of_numbers(seat: StoredSeat, lines: Lines, gone: Container[int] = ()) -> dict[int, list[Step]]:
+    """The lines of each number that the store knows of a seat, one of which was done: not a refused one, but where a
+    late copy of it was, and none of `gone`, by `id`."""
+    found = dict[int, list[Step]]()
+    for number in (it for it in sorted(lines) if 0 < it <= seat.last):
+        own = [it for it in lines[number] if it.status in (None, 200) or it.is_stored or it.digest == seat.digest]
+        if own := [it for it in own if id(it) not in gone]:
+            found[number] = _candidates(seat, own)
+    return found
+
+
+def _lacking(seat: StoredSeat, numbers: Iterable[int]) -> list[Numbers]:
+    """The numbers that the store knows of a seat, and that no line has."""
+    known = [0, *numbers, seat.last + 1]
+    return [(one + 1, other - 1) for one, other in zip(known, known[1:]) if other > one + 1]
 
 
 def _candidates(seat: StoredSeat, lines: Sequence[Step]) -> list[Step]:
-    """The lines of a number, one of which was done: the accepted one, else one without a reply, else a late copy. Of
+    """Which lines of a number may be the done one: the accepted one, else one without a reply, else a late copy. Of
     several the later one, as its station asked for the number when the earlier one wasn't done."""
     done = [it for it in lines if it.is_done()]
     other = next((it for it in done if it.digest != done[0].digest), None)
@@ -66,95 +108,179 @@ def _candidates(seat: StoredSeat, lines: Sequence[Step]) -> list[Step]:
         raise NotWhole(f"{told}, so the store became an older one")
     kept = [it for it in lines if (it.number, it.digest) == (seat.last, seat.digest)]
     bare = [it for it in reversed(lines) if it.status is None]
-    return done[:1] or kept or bare or [it for it in reversed(lines) if not it.is_stop()] or list(lines)
-
-
-@lru_cache
-def _imported(issuer: str, csv: str) -> dict[tuple[str, str], str]:
-    try:
-        return {(issuer, serial): key.lower() for serial, key in rows_of(csv)}
-    except ValueError:
-        return {}
-
-
-def imported_by(step: Step) -> Mapping[tuple[str, str], str]:
-    """The serial numbers of an import, each behind its issuer, and their keys' digests; nothing of another request."""
-    words = str(step.asked.get("issuer")), str(step.asked.get("csv"))
-    return _imported(*words) if step.path == IMPORT else {}
+    return done[:1] or kept or bare or list(lines)
 
 
 def _is_before(one: Step, other: Step) -> bool:
     return is_behind(begin_of(other), end_of(one))
 
 
-def _is_beside(one: Done, other: Done) -> bool:
-    """Whether either of two seats' requests may have been done first."""
-    is_sure = _is_before(one.step, other.step) or _is_before(other.step, one.step)
-    return one.seat != other.seat and not is_sure
+def _of_store(path: str, **asked: Any) -> Step:
+    return Step(OF_STORE, 0, "", path, {"nr": 0, **asked}, "", "", "")
+
+
+def _unasked(customer: str, store: Books, asked: Sequence[Step]) -> Iterator[Step]:
+    """The maps, imports and orders of a store that no line asked for, as the requests that they may have been."""
+    texts = {it.digest_of_text() for it in asked if it.path == MAP}
+    for text in (store.map_text(*it[:2]) for it in store.maps if it[0] == customer and it[1] not in texts):
+        yield _of_store(MAP, text=text)
+    known, rows = {row for it in asked for row in imported_by(it)}, defaultdict[str, list[Key]](list)
+    for whose, row in store.records("WHERE g.chip IS NULL AND g.mac IS NULL"):
+        if whose == customer and (row["issuer"], row["serial"]) not in known:
+            rows[row["issuer"]].append((row["serial"], row["key_sha256"]))
+    for issuer, part in ((issuer, part) for issuer, its in rows.items() for part in import_parts(its)):
+        yield _of_store(IMPORT, issuer=issuer, csv=csv_of(part))
+    names = {it.asked.get("name") for it in asked if it.path == ORDER}
+    for order in (it for (whose, name), it in store.orders.items() if whose == customer and name not in names):
+        yield _of_store(ORDER, **{name: order[name] for name in OF_ORDER})
 
 
 class Requests:
-    """A customer's requests that the store has."""
+    """A customer's requests that the store has. Where journals lack a number, and where an entry isn't its seat's next
+    line, the chips that this is about are left `aside`: they aren't asked, and what they were given is taken from the
+    store, as orders, maps and imports are that no line asked for. `bare` has the chips of which an audit found an entry
+    without its line, or a line without its entry, each with the entry's seat."""
 
-    def __init__(self, customer: str, store: Books, lines: Mapping[str, Lines]):
+    def __init__(self, customer: str, store: Books, lines: Mapping[str, Lines], bare: Sequence[Key] = ()):
         self._customer, self._store = customer, store
         seats = [it for it in store.seats.values() if it.customer == customer and it.last > 0]
         if others := [it.name for it in seats if store.site_seats.get(it.name) != customer]:
             raise NotWhole(f"the site's text, as it is read here, has no seat {others[0]} of it")
-        self._queues = {it.name: _numbered(it, lines.get(it.name, {})) for it in seats}
-        self._importers: dict[tuple[str, str], list[Done]] = defaultdict(list)
-        for it in (Done(name, lines[0]) for name, queue in self._queues.items() for lines in queue):
-            for row in imported_by(it.step):
-                self._importers[row].append(it)
+        self._maps = {digest for whose, digest, _ in store.maps if whose == customer}
+        numbers = {it.name: _of_numbers(it, lines.get(it.name, {})) for it in seats}
+        odd = {seat for _, seat in bare} | {it.name for it in seats if _lacking(it, numbers[it.name])}
+        for it in (it for it in seats if it.name in odd):
+            gone = {id(line) for own in lines.get(it.name, {}).values() for line in own if self._is_gone(line)}
+            numbers[it.name] = _of_numbers(it, lines.get(it.name, {}), gone)
+        self.lacking = {it.name: gaps for it in seats if (gaps := _lacking(it, numbers[it.name]))}
+        self._queues = {name: deque(its.values()) for name, its in numbers.items()}
+        asked = [(name, its[0]) for name, queue in self._queues.items() for its in queue if not its[0].event]
+        self._times = ImportTimes(asked)
         self._pools = [list(it) for it in store.pools.get(customer, ())]
-        self._made, self._given = set[str](), set[tuple[str, str]]()
+        self._made, self._given = set[str](), set[Key]()
         chips = store.records("WHERE g.chip IS NOT NULL")
         self._to_come = {(row["issuer"], row["serial"]) for whose, row in chips if whose == customer}
+        self._awaited = dict[int, list[Key]]()
         self._own: dict[str, deque[LedgerRow]] = defaultdict(deque)
         self._next, self._order_of = dict[str, int](), dict[str, str]()
         self._waited: dict[int, Step] = {}
+        self._fronts, self._heads = dict[str, NextLines](), dict[str, Optional[Done]]()
         self.papers, self.repeated = list[Step](), list[Step]()
+        self._bare, self.aside = frozenset(chip for chip, _ in bare), dict[str, None]()
+        self.lent = list(_unasked(customer, store, [step for _, step in asked])) if self.lacking else []
+        self._pending, self._has_moved = list(self.lent), True
+        count = sum(last - first + 1 for gaps in self.lacking.values() for first, last in gaps)
+        papers = sum(it.path != IMPORT for it in self.lent) + any(it.path == IMPORT for it in self.lent)
+        self._spare = count - papers - sum(seat in self.lacking for _, seat in bare)
+        self._is_short = self._spare < 0
+        self.leave(self._bare if self.lacking else ())
 
-    def left(self) -> int:
-        return sum(map(len, self._queues.values()))
+    def _is_gone(self, line: Step) -> bool:
+        """Whether a line without a reply asks for a paper that the store doesn't have: where lines are missing that of
+        its number is one of them."""
+        if line.event or line.status is not None:
+            return False
+        if line.path == ORDER:
+            order = self._order(str(line.asked.get("name"))) or {}
+            return any(line.asked.get(name) != order.get(name, "") for name in OF_ORDER)
+        rows = ((self._store.record(*name), key) for name, key in imported_by(line).items())
+        is_gone = any(row is None or row["key_sha256"] != key for row, key in rows)
+        return is_gone or line.path == MAP and line.digest_of_text() not in self._maps
+
+    def leave(self, chips: Iterable[str]) -> None:
+        """Leaves chips aside from here on."""
+        self.aside |= dict.fromkeys(sorted(chips))
+        self._heads.clear()
 
     def unsure(self, done: Done) -> int:
-        """How many rows that are counted in a reply another seat imported at the same time: nobody knows which came
-        first."""
-        asked, rows = done.step.asked, list(imported_by(done.step))
-        if done.step.path == ORDER:
-            issuer, prefix = str(asked.get("issuer")), str(asked.get("prefix"))
-            rows = [it for it in self._importers if it[0] == issuer and it[1].startswith(prefix)]
-        return sum(any(_is_beside(it, done) for it in self._importers[row]) for row in rows)
+        """By how many rows the counts of a reply may be others: those that another seat imported at the same time, and
+        where lines are missing any."""
+        rows = len(imported_by(done.step)) + (done.step.path == ORDER)
+        return rows if self.lacking else self._times.unsure(done.seat, done.step) if rows else 0
 
-    def in_order(self, entries: Sequence[LedgerRow]) -> Iterator[Done]:
-        """One after another, in an order in which they may have been done. `entries` come in theirs."""
-        steps = iter(entries)
+    def in_order(self, entries: Sequence[LedgerRow]) -> Iterator[Union[Done, NotLaid]]:
+        """One after another, in an order in which they may have been done, and what isn't so. `entries` come in
+        theirs."""
         for it in entries:
             self._own[it.row["seat"]].append(it)
-        entry = next(steps, None)
-        while entry or self.left():
-            found = (self._head(seat, queue[0]) for seat, queue in self._queues.items() if queue)
-            heads = [it for it in found if it]
-            free = [it for it in heads if it.entry in (None, entry)]
-            if not free:
-                raise self._not_laid(entry)
-            first = min(free, key=lambda it: (not self._is_ready(it), it.step.at))
-            self._queues[first.seat].popleft()
-            self._pass_over(heads, first)
-            yield replace(first, later=self._waited.get(id(first.step))) if self._is_ready(first) else first
-            self._take(first)
-            if first.entry:
-                self._own[first.seat].popleft()
-                entry = next(steps, None)
+        waiting = deque(entries)
+        while waiting or any(self._queues.values()):
+            yield from self._lend_next()
+            yield from self._next_done(waiting)
+        for step in self._pending:
+            yield from self._lend(step)
 
-    def _head(self, seat: str, lines: list[Step]) -> Optional[Done]:
+    def _lend_next(self) -> Iterator[Done]:
+        """What no line asked for, as soon as an order's addresses are the next ones."""
+        while self._has_moved:
+            step = next((it for it in self._pending if self._is_ready(Done("", it))), None)
+            self._has_moved = step is not None
+            if step:
+                self._pending.remove(step)
+                yield from self._lend(step)
+
+    def _lend(self, step: Step) -> Iterator[Done]:
+        done = Done(next(iter(self._queues), ""), step)
+        yield done
+        self._take(done)
+
+    def _next_done(self, waiting: deque[LedgerRow]) -> Iterator[Union[Done, NotLaid]]:
+        """What was done next, where the entries wait that aren't laid yet."""
+        entry = waiting[0] if waiting else None
+        if entry and entry.chip in self.aside:
+            yield from self._given_by(waiting.popleft())
+            return
+        heads = self._next_heads()
+        free = sorted((it for it in heads if it.entry is None or it.entry is entry), key=lambda it: it.step.at)
+        if not free:
+            yield from self._unlaid(entry) if entry or any(self._queues.values()) else ()
+            return
+        ready = next(filter(self._is_ready, free), None)
+        first = ready or free[0]
+        self._pop(first.seat)
+        self._pass_over(heads, first)
+        yield replace(first, later=self._waited.get(id(first.step))) if ready else first
+        if first.entry:
+            self._own[first.seat].popleft()
+            waiting.popleft()
+        yield from self._given_by(first.entry) if first.entry and first.step.chip in self.aside else ()
+        self._take(first)
+
+    def _pop(self, seat: str) -> None:
+        self._queues[seat].popleft()
+        self._fronts.pop(seat, None)
+        self._heads.pop(seat, None)
+
+    def _next_heads(self) -> list[Done]:
+        """Which lines of the seats' next numbers were done."""
+        for seat in (it for it in self._queues if it not in self._heads):
+            self._heads[seat] = self._head(seat)
+        return [it for it in map(self._heads.get, self._queues) if it]
+
+    def _front(self, seat: str) -> Optional[NextLines]:
+        """The lines of a seat's next number."""
+        if seat not in self._fronts and self._queues.get(seat):
+            self._fronts[seat] = NextLines(self._queues[seat][0])
+        return self._fronts.get(seat)
+
+    def _head(self, seat: str) -> Optional[Done]:
         """Which of the lines of a seat's next number was done: the one that its next entry is of, else one without an
-        entry."""
-        own = next(iter(self._own[seat]), None)
-        step = next((it for it in lines if own and (it.chip, it.event) == (own.chip, own.row["event"])), None)
-        paper = next((it for it in lines if not it.event), None)
-        return Done(seat, step, own) if step else Done(seat, paper) if paper else None
+        entry. What is of chips that are left aside is passed over."""
+        own = self._own[seat]
+        while (lines := self._front(seat)) or own:
+            entry = own[0] if own else None
+            step = lines.steps.get((entry.chip, entry.row["event"])) if entry and lines else None
+            paper = lines.paper if lines else None
+            if entry and entry.chip in self.aside and (step or not paper):
+                own.popleft()
+                self._pop(seat) if step else None
+            elif step or paper:
+                return Done(seat, step, entry) if step else Done(seat, paper) if paper else None
+            elif lines and not lines.has_chip_but(self.aside):
+                self._pop(seat)
+            else:
+                break
+        return None
 
     def _pass_over(self, heads: Iterable[Done], first: Done) -> None:
         """Notes which of the next requests were surely done before the one that is first. Entries have their order from
@@ -164,16 +290,34 @@ class Requests:
             if is_sure and it.seat != first.seat:
                 self._waited.setdefault(id(it.step), first.step)
 
-    def _not_laid(self, entry: Optional[LedgerRow]) -> NotLaid:
-        heads = {seat: queue[0][0] for seat, queue in self._queues.items() if queue}
-        if entry is None:
-            seat, step = next(iter(heads.items()))
+    def _unlaid(self, entry: Optional[LedgerRow]) -> Iterator[NotLaid]:
+        """Leaves aside what an entry is of that isn't of its seat's next line, or what that is of. Where this is of a
+        number that the journals lack nothing is found."""
+        seat = entry.row["seat"] if entry else next(name for name, queue in self._queues.items() if queue)
+        lines = self._front(seat)
+        chips = {entry.chip} if entry else set[str]()
+        if lines and not chips & self._bare:
+            chips |= {chip for chip, _ in lines.steps} - self.aside.keys()
+        self.leave(chips & self._bare or chips)
+        if seat in self.lacking and self._spare > 0:
+            self._spare -= 1
+        elif entry:
+            behind = f", which is {lines.first.place()}" if lines else ""
+            told = f"the entry {entry.row['n']}, {entry.row['event']}, isn't of the next step of {seat}{behind}"
+            yield NotLaid(told, seat, entry.chip)
+        elif lines:
+            step = lines.first
             told = f"{step.place()}, {step.event}, has no entry, and its number was given"
-            return NotLaid(told, seat, step.chip, step.at)
-        seat = entry.row["seat"]
-        behind = f", which is {heads[seat].place()}" if seat in heads else ""
-        told = f"the entry {entry.row['n']}, {entry.row['event']}, isn't of the next step of {seat}{behind}"
-        return NotLaid(told, seat, entry.chip)
+            yield NotLaid(told, seat, step.chip, step.at)
+
+    def _given_by(self, entry: LedgerRow) -> Iterator[Done]:
+        """What a chip was given that is left aside: its number and its key, as an import."""
+        device = self._store.device(self._customer, entry.chip) if entry.row["event"] == "identified" else None
+        order = self._order(device["order"]) if device else None
+        record = self._store.record(order["issuer"], entry.row["note"]) if order else None
+        if record and (record["issuer"], record["serial"]) not in self._given:
+            rows = [(record["serial"], record["key_sha256"])]
+            yield from self._lend(_of_store(IMPORT, issuer=record["issuer"], csv=csv_of(rows)))
 
     def _order(self, name: str) -> Optional[Row]:
         return self._store.orders.get((self._customer, name))
@@ -201,7 +345,10 @@ class Requests:
         if done.entry and step.event == "identified":
             return bool(self._next_of(self._order(self._order_of.get(step.chip, ""))) == done.entry.row["note"])
         if step.path == IMPORT:
-            return self._given.issuperset(it for it in imported_by(step) if it in self._to_come)
+            awaited = self._awaited.setdefault(id(step), [it for it in imported_by(step) if it in self._to_come])
+            while awaited and awaited[-1] in self._given:
+                awaited.pop()
+            return not awaited
         order = self._order(str(step.asked.get("name"))) if step.path == ORDER else None
         if order is None:
             return True
@@ -216,8 +363,8 @@ class Requests:
     def _take(self, done: Done) -> None:
         step = done.step
         order = self._order(str(step.asked.get("name"))) if step.path == ORDER else None
-        self.papers += [] if step.event else [step]
-        self.repeated += [step] if self._changes_nothing(step) else []
+        self.papers += [] if step.event or done.is_of_store() and self._is_short else [step]
+        self.repeated += [step] if self._changes_nothing(step) and not done.is_of_store() else []
         if step.event == "registered":
             self._order_of[step.chip] = str(step.asked.get("order"))
         elif done.entry and step.event == "identified":
@@ -229,6 +376,7 @@ class Requests:
             self._made.add(step.digest_of_text())
         elif order:
             self._made.add(order["name"])
+            self._has_moved = True
             if pool := self._pool_of(order):
                 size = order["quantity"] * order["macs"]
                 pool[:] = pool[0] + size, pool[1] - size

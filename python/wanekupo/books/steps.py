@@ -9,6 +9,7 @@ from __future__ import annotations
 import contextlib
 import hashlib
 import io
+import json
 import sys
 from dataclasses import dataclass, field
 from pathlib import Path
@@ -17,7 +18,7 @@ from typing import Any, Iterable, Iterator, Mapping, Optional, Union
 from wanekupo.common.errors import BadJournal, StationError
 from wanekupo.seat.forms import REPLIES, wrong_in
 from wanekupo.seat.journal import journals_of, named_members, request_digest, seat_named, whole_digest
-from wanekupo.seat.journal_lines import MOST, MOST_LINES, Folders, Line, Name, journals_below, lines_in, lines_of
+from wanekupo.seat.journal_lines import MOST, Folders, Line, Name, journals_below, lines_in, lines_of
 from wanekupo.seat.journal_lines import PACKED, SUFFIX, stations_folders
 from wanekupo.common.files import GZIP, unpacked
 from wanekupo.common.moments import moment_of
@@ -25,6 +26,13 @@ from wanekupo.common.texts import brief, compact_json
 
 # By how many seconds a station's clock may be set back without a word, as a time service does it.
 SET_BACK = 60
+
+# How many bytes of memory journals take at most where nobody says so: those of a year in which a line makes 1,000 chips
+# a day. A line is in memory as what it weighs, and with so many bytes beside it.
+MEMORY, OF_LINE = 8 << 30, 700
+
+# What a journal may have of faults: each takes as much as some lines.
+MOST_FAULTS = 100_000
 
 # How many faulty lines of a journal are told by who doesn't judge it.
 MOST_TOLD = 5
@@ -52,6 +60,9 @@ NEW["pending"] = {name: {"bits": [], "keys": {}} for name in ("batch1", "batch2"
 # Of what such a step asks, and of its reply, what is looked at.
 ASKED = frozenset(("nr", "chip", "order", "map", "wishes", "blocks"))
 REPLIED = frozenset(("chip", "state", "outcome", "serial", "order", "map", "no", "error", "expected"))
+
+# More blocks than a map has: the program refuses a request with so many.
+MOST_BLOCKS = 64
 
 # Of its reply what is kept as its text: what is burnt, or is to be burnt.
 WORKS = frozenset(("bits", "keys", "batch1", "batch2", "rest"))
@@ -81,6 +92,13 @@ def part_text(it: Any) -> str:
         return sys.intern(compact_json(it, sort_keys=True))
     except (ValueError, RecursionError):
         return "0"
+
+
+def loaded(it: Any) -> Any:
+    """A part of a request or a reply, which may be in memory as its text."""
+    with contextlib.suppress(TypeError, ValueError, RecursionError):
+        return json.loads(it)
+    return it
 
 
 def is_other_reply(one: Mapping[str, Any], other: Mapping[str, Any]) -> bool:
@@ -140,11 +158,17 @@ class Step:
         return hashlib.sha256(str(self.asked.get("text", "")).encode("utf-8", "replace")).hexdigest()
 
     def slim(self) -> None:
-        """Leaves away what nobody asks for of a step but an identity: journals are long."""
-        if self.event not in ("", "identified"):
-            self.asked = {name: _once(it) for name, it in self.asked.items() if name in ASKED}
-            works = {name: part_text(self.reply[name]) for name in WORKS & self.reply.keys()}
-            self.reply = {**{name: it for name, it in self.reply.items() if name in REPLIED}, **works}
+        """Leaves away what nobody asks for: journals are long. What is left is a text or a number, or short: whoever
+        writes a journal may nest anything, which takes many times its bytes."""
+        asked = ASKED if self.event not in ("", "identified") or self.path not in PATHS else self.asked.keys()
+        self.asked = {name: _once(it) for name, it in self.asked.items() if name in asked}
+        if "wishes" in self.asked:
+            self.asked["wishes"] = part_text(self.asked["wishes"])
+        if "blocks" in self.asked:
+            self.asked["blocks"] = self.asked["blocks"][:MOST_BLOCKS]
+        works = {name: part_text(self.reply[name]) for name in WORKS & self.reply.keys()}
+        names = REPLIED if self.event not in ("", "identified") else REPLIED | REPLIES.get(self.path, {}).keys()
+        self.reply = {**{name: _once(it) for name, it in self.reply.items() if name in names}, **works}
 
     def is_done(self) -> bool:
         return self.status == 200
@@ -154,7 +178,7 @@ class Step:
         return self.status == 409 and self.reply.get("no") in (11, 12)
 
     def place(self) -> str:
-        return f"line {self.line} of {self.file}"
+        return f"line {self.line} of {self.file}" if self.line else self.file
 
 
 @dataclass(frozen=True)
@@ -286,25 +310,24 @@ def _others(line: Members, file: Path, seats: Optional[frozenset[str]]) -> str:
 
 @dataclass
 class Room:
-    """How much of a folder's journals may still be read: all of it is in memory at once."""
+    """How much memory journals may still take: all of them are there at once."""
 
-    bytes: int = MOST
-    lines: int = MOST_LINES
+    bytes: int = MEMORY
 
-    def take(self, path: Path, size: int) -> None:
-        self.bytes, self.lines = self.bytes - size, self.lines - 1
-        if self.bytes < 0 or self.lines < 0:
-            told = f"with {path} these journals have more than {MOST >> 20} MB or {MOST_LINES} lines"
-            raise BadJournal(told, "Look whether they are their station's, and move old days away.")
+    def take(self, path: Path, weight: int) -> None:
+        self.bytes -= weight + OF_LINE
+        if self.bytes < 0:
+            told = f"with {path} these journals take more memory than they may"
+            raise BadJournal(told, "Look whether they are their station's, move old days away, or give more.")
 
 
 def _lines_of(path: Path, follows_links: bool, room: Room) -> Iterable[Line]:
     """The lines of a file, which may be compressed. One that can't be read to its end is a fault, and has none."""
     if path.suffix != PACKED:
         return lines_of(path, follows_links=follows_links)
-    data = unpacked(path, room.bytes, follows_links)
-    if len(data) > room.bytes:
-        room.take(path, len(data))
+    data = unpacked(path, min(MOST, room.bytes), follows_links)
+    if len(data) > min(MOST, room.bytes):
+        room.take(path, room.bytes)
     return [Line(0, 0, fault="is no whole file of gzip")] if data.startswith(GZIP) else lines_in(io.BytesIO(data))
 
 
@@ -314,10 +337,9 @@ def book_of(files: Iterable[Path], seats: Optional[frozenset[str]] = None, room:
     paths, room = list(files), room or Room()
     book, told = Book([str(it) for it in paths]), set[tuple[Path, str]]()
     for path in paths:
-        last, end = "", 0
+        last = ""
         for line in _lines_of(path, seats is None, room):
-            room.take(path, line.end - end)
-            end = line.end
+            room.take(path, line.weight)
             if fault := line.fault or _others(line.members, path, seats):
                 is_told = not line.fault and (path, fault) in told
                 book.faults += [] if is_told else [JournalFault(str(path), line.number, last, fault)]
@@ -325,24 +347,41 @@ def book_of(files: Iterable[Path], seats: Optional[frozenset[str]] = None, room:
             else:
                 last = line.members["at"]
                 _take(book, str(path), line.number, line.members)
+            if len(book.faults) > MOST_FAULTS:
+                raise BadJournal(f"{path} has more than {MOST_FAULTS} faults", "Look whether it is a journal.")
     return book
 
 
-def books_of(names: Iterable[Name]) -> list[Book]:
-    """The journals that files and folders are."""
-    return [book_of(files) for files in journals_of(names, endings=ENDINGS)]
+def books_of(names: Iterable[Name], memory: int = MEMORY) -> list[Book]:
+    """The journals that files and folders are, which take so many bytes of memory at most."""
+    room = Room(memory)
+    return [book_of(files, room=room) for files in journals_of(names, endings=ENDINGS)]
 
 
-def shipped_books(path: Path, folders: Folders) -> Iterator[Book]:
+def shipped_books(path: Path, folders: Folders, memory: int = MEMORY) -> list[Book]:
     """The journals of a folder of all, in which each station has its own. What one station wrote keeps nobody from
-    reading the others': a folder that can't be read is a journal with that fault."""
-    for it in stations_folders(path, folders):
-        room = Room()
+    reading the others': a folder that can't be read is a journal with that fault, and each may take as much as any
+    other; what small ones leave is the larger ones'."""
+    found, room = dict[Path, list[Book]](), Room(memory)
+    its = sorted(stations_folders(path, folders), key=_size_of)
+    for place, it in enumerate(its):
+        own, found[it] = Room(room.bytes // (len(its) - place)), []
+        room.bytes -= own.bytes
         try:
-            for group in journals_of(journals_below(it, ENDINGS), is_shipped=True):
-                yield book_of(group, folders[it.name], room)
+            groups = journals_of(journals_below(it, ENDINGS), is_shipped=True)
+            found[it] = [book_of(group, folders[it.name], own) for group in groups]
         except (StationError, OSError) as error:
-            yield Book([str(it)], faults=[JournalFault(str(it), 0, "", f"isn't read to its end: {error}")])
+            found[it] = [Book([str(it)], faults=[JournalFault(str(it), 0, "", f"isn't read to its end: {error}")])]
+            own = Room(0)
+        room.bytes += own.bytes
+    return [book for it in sorted(found) for book in found[it]]
+
+
+def _size_of(folder: Path) -> int:
+    """How many bytes a folder's journals have, as far as they can be told."""
+    with contextlib.suppress(StationError, OSError):
+        return sum(it.lstat().st_size for it in journals_below(folder, ENDINGS))
+    return 0
 
 
 @dataclass(frozen=True)

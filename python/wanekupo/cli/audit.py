@@ -14,7 +14,7 @@ from wanekupo.books.pages import write
 from wanekupo.books.program import program_named
 from wanekupo.books.replay import ask_again
 from wanekupo.books.shift import Period, period_of
-from wanekupo.books.steps import Book, books_of, shipped_books
+from wanekupo.books.steps import MEMORY, Book, books_of, shipped_books
 from wanekupo.books.store import StoreCopy
 from wanekupo.books.store_rows import Books
 from wanekupo.seat.command_line import Command
@@ -45,14 +45,17 @@ def _add_arguments(parser: argparse.ArgumentParser) -> None:
     parser.add_argument("--csv", metavar="FILE", help="write what is found as comma-separated values")
     told = "the proved program that answers the lines once more, by its path where PATH doesn't have it (%(default)s)"
     parser.add_argument("--program", default="station", metavar="P", help=told)
+    said = "how many GB of memory the journals may take (%(default)s); the rest of an audit takes about as much"
+    parser.add_argument("--memory", type=int, default=MEMORY >> 30, metavar="GB", help=said)
     add_signer(parser)
 
 
-def _journals(names: list[str], folders: Optional[Path]) -> list[Book]:
+def _journals(names: list[str], folders: Optional[Path], memory: int) -> list[Book]:
     """The journals; with a file of folders those of all stations."""
     if folders is None:
-        return books_of(names)
-    return [book for name in names for book in shipped_books(Path(name), named_folders(folders))]
+        return books_of(names, memory)
+    share = memory // len(names)
+    return [book for name in names for book in shipped_books(Path(name), named_folders(folders), share)]
 
 
 def _read(store: Path, books: Iterable[Book], program: Path) -> list[tuple[str, int, str]]:
@@ -85,7 +88,8 @@ def _audit(_: Settings, args: argparse.Namespace) -> int:
     path, signer, program = Path(args.store), signer_of(args), program_named(args.program)
     if signer and not args.html:
         raise BadSettings("there is no page to be signed", "Give --html FILE.")
-    journals, period = _journals(args.journals, args.folders), period_of(args.from_time, args.to_time)
+    journals = _journals(args.journals, args.folders, args.memory << 30)
+    period = period_of(args.from_time, args.to_time)
     with StoreCopy(path) as store:
         books = Books(store)
         site = digest_of_file(args.site) if args.site else ""

@@ -43,7 +43,7 @@ PIN_FILE, PIN = re.compile(r"[?;&]pin-source=(?:file:)?([^;&\s]+)"), "pin-value=
 # A line of openssl's errors: thread, "error", number, library, function and reason, with colons between.
 ERROR, REASON = 1, 5
 
-NO_CA = f"Make the CA first: {PAGES}/line/certificates.md has the commands."
+NO_CA = f"Make the CA first: {PAGES}/line/lots.md has the commands."
 
 
 class NotCertified(StationError):

@@ -47,12 +47,14 @@ NO_LINE = "is no line of a journal"
 
 @dataclass(frozen=True, slots=True)
 class Line:
-    """A line: its number from where reading began, the byte behind it, and its members; or what is wrong with it."""
+    """A line: its number from where reading began, the byte behind it, and its members; or what is wrong with it. Its
+    texts take at most as many bytes of memory as it weighs."""
 
     number: int
     end: int
     members: dict[str, Any] = field(default_factory=dict)
     fault: str = ""
+    weight: int = 0
 
 
 def lines_of(file: Name, start: int = 0, follows_links: bool = True) -> Iterator[Line]:
@@ -80,7 +82,10 @@ def _line_of(data: bytes, number: int, end: int) -> Line:
     except (ValueError, RecursionError):
         found = None
     fault = form_fault(found)
-    return Line(number, end, fault=fault) if fault else Line(number, end, found)
+    if fault:
+        return Line(number, end, fault=fault)
+    is_wide = not data.isascii() or data.count(b"\\u") > data.count(b"\\u00")  # a text with such a letter is four times
+    return Line(number, end, found, weight=len(data) * (4 if is_wide else 1))
 
 
 # The form of a line.

@@ -1,6 +1,6 @@
 """A fault of a text: its number, which is the program's, the line, the member, and the cause in words.
 
-docs/reference/files.md has the numbers. Which one a text has is the program's to say, and where a site has it, too; of
+station.toml(5) has the numbers. Which one a text has is the program's to say, and where a site has it, too; of
 a map the program says the number alone.
 """
 
