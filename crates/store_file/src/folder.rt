@@ -146,6 +146,9 @@ impl Stage {
 /// The folder of a store. A call that changes something is made in its turn alone, and tells how far
 /// the making has come. None of them but `rename` changes what lies at the store's name.
 pub trait Folder {
+    ghost use Rattle.store_file.specs.declared.folder.Stage.{Stage};
+    ghost use Rattle.store_file.specs.declared.folder.Stage.TheVariants as at;
+
     /// How far the making of a store's file has come.
     ghost stage: { Self → Stage };
 
@@ -156,76 +159,76 @@ pub trait Folder {
 
     /// What lies where a link at the store's name leads.
     fn follow(&mut self) -> io::Result<Found>
-        requires { stage self.old ≡ Stage.Begun }
+        requires { stage self.old ≡ at.Begun }
         ensures ok { IfOk result (λ found.
-            stage self.new ≡ cond (has_bytes found) Stage.There Stage.Begun) }
-        ensures err { OnErr result (stage self.new ≡ Stage.Begun) };
+            stage self.new ≡ cond (has_bytes found) at.There at.Begun) }
+        ensures err { OnErr result (stage self.new ≡ at.Begun) };
 
     /// Makes a file with the other name, for its owner alone. Whatever has that name makes it fail.
     fn make(&mut self) -> io::Result<()>
-        requires { stage self.old ≡ Stage.Begun }
-        ensures ok { OnOk result (stage self.new ≡ Stage.Opened) }
-        ensures err { OnErr result (stage self.new ≡ Stage.Begun) };
+        requires { stage self.old ≡ at.Begun }
+        ensures ok { OnOk result (stage self.new ≡ at.Opened) }
+        ensures err { OnErr result (stage self.new ≡ at.Begun) };
 
     /// Opens the file with the other name.
     fn open(&mut self) -> io::Result<()>
-        requires { stage self.old ≡ Stage.Begun }
-        ensures ok { OnOk result (stage self.new ≡ Stage.Opened) }
-        ensures err { OnErr result (stage self.new ≡ Stage.Begun) };
+        requires { stage self.old ≡ at.Begun }
+        ensures ok { OnOk result (stage self.new ≡ at.Opened) }
+        ensures err { OnErr result (stage self.new ≡ at.Begun) };
 
     /// Takes the lock of the open file, until this making ends.
     fn lock(&mut self) -> io::Result<()>
-        requires { stage self.old ≡ Stage.Opened }
-        ensures ok { OnOk result (stage self.new ≡ Stage.Locked) }
-        ensures err { OnErr result (stage self.new ≡ Stage.Opened) };
+        requires { stage self.old ≡ at.Opened }
+        ensures ok { OnOk result (stage self.new ≡ at.Locked) }
+        ensures err { OnErr result (stage self.new ≡ at.Opened) };
 
     /// What is open, and what lies at the other name.
     fn compare(&mut self) -> io::Result<Compared>
-        requires { stage self.old ≡ Stage.Locked }
+        requires { stage self.old ≡ at.Locked }
         ensures ok { IfOk result (λ found. stage self.new
-            ≡ cond (is_left found.held found.named) Stage.Alone Stage.Locked) }
-        ensures err { OnErr result (stage self.new ≡ Stage.Locked) };
+            ≡ cond (is_left found.held found.named) at.Alone at.Locked) }
+        ensures err { OnErr result (stage self.new ≡ at.Locked) };
 
     /// Lets the open file's owner alone read and write it.
     fn restrict(&mut self) -> io::Result<()>
-        requires { stage self.old ≡ Stage.Alone }
-        ensures ok { OnOk result (stage self.new ≡ Stage.Private) }
-        ensures err { OnErr result (stage self.new ≡ Stage.Alone) };
+        requires { stage self.old ≡ at.Alone }
+        ensures ok { OnOk result (stage self.new ≡ at.Private) }
+        ensures err { OnErr result (stage self.new ≡ at.Alone) };
 
     /// Cuts the open file to no bytes.
     fn cut(&mut self) -> io::Result<()>
-        requires { stage self.old ≡ Stage.Private }
-        ensures ok { OnOk result (stage self.new ≡ Stage.Cut) }
-        ensures err { OnErr result (stage self.new ≡ Stage.Private) };
+        requires { stage self.old ≡ at.Private }
+        ensures ok { OnOk result (stage self.new ≡ at.Cut) }
+        ensures err { OnErr result (stage self.new ≡ at.Private) };
 
     /// Writes the page of an empty database into the open file.
     fn write(&mut self, page: &[u8; PAGE_BYTES]) -> io::Result<()>
-        requires turn { stage self.old ≡ Stage.Cut }
+        requires turn { stage self.old ≡ at.Cut }
         requires page { IsPage page.now }
-        ensures ok { OnOk result (stage self.new ≡ Stage.Written) }
-        ensures err { OnErr result (stage self.new ≡ Stage.Cut) };
+        ensures ok { OnOk result (stage self.new ≡ at.Written) }
+        ensures err { OnErr result (stage self.new ≡ at.Cut) };
 
     /// Syncs the open file.
     fn sync(&mut self) -> io::Result<()>
-        requires { stage self.old ≡ Stage.Written }
-        ensures ok { OnOk result (stage self.new ≡ Stage.Synced) }
-        ensures err { OnErr result (stage self.new ≡ Stage.Written) };
+        requires { stage self.old ≡ at.Written }
+        ensures ok { OnOk result (stage self.new ≡ at.Synced) }
+        ensures err { OnErr result (stage self.new ≡ at.Written) };
 
     /// Gives the open file the name of the store.
     fn rename(&mut self) -> io::Result<()>
-        requires { stage self.old ≡ Stage.Vacant }
-        ensures ok { OnOk result (stage self.new ≡ Stage.Named) }
-        ensures err { OnErr result (stage self.new ≡ Stage.Vacant) };
+        requires { stage self.old ≡ at.Vacant }
+        ensures ok { OnOk result (stage self.new ≡ at.Named) }
+        ensures err { OnErr result (stage self.new ≡ at.Vacant) };
 
     /// Syncs the folder.
     fn sync_folder(&mut self) -> io::Result<()>
-        requires { stage self.old ≡ Stage.Named }
-        ensures ok { OnOk result (stage self.new ≡ Stage.Kept) }
-        ensures err { OnErr result (stage self.new ≡ Stage.Named) };
+        requires { stage self.old ≡ at.Named }
+        ensures ok { OnOk result (stage self.new ≡ at.Kept) }
+        ensures err { OnErr result (stage self.new ≡ at.Named) };
 
     /// Removes the file with the other name.
     fn remove(&mut self) -> io::Result<()>
         requires { IsTrue (is_ours (stage self.old)) }
-        ensures ok { OnOk result (stage self.new ≡ Stage.Removed) }
-        ensures err { OnErr result (stage self.new ≡ Stage.Left) };
+        ensures ok { OnOk result (stage self.new ≡ at.Removed) }
+        ensures err { OnErr result (stage self.new ≡ at.Left) };
 }

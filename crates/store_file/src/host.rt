@@ -1,9 +1,9 @@
 // The folder of a store, by the calls of the system.
 ghost use Rattle.std.specs.Prelude.{◌≡◌, IfOk};
+ghost use Rattle.store_file.specs.Names.{NamesNoFile};
 
 use crate::folder::{Compared, FileFacts, Folder, Found, Name, Stage};
 use crate::making::make;
-use crate::names::may_name_file;
 use crate::page::PAGE_BYTES;
 use std::alloc::Global;
 use std::fs::{self, File, Metadata, OpenOptions, Permissions};
@@ -195,10 +195,9 @@ impl Folder for HostFolder<'_> {
 ///
 /// # Errors
 ///
-/// Those of `make`; the path names no file; and memory runs out.
-pub fn make_store_file(rt: &HostRuntime, alloc: Global, path: &str) -> io::Result<()> {
-    if !may_name_file(path) {
-        return Err(ErrorKind::InvalidInput.into());
-    }
+/// Those of `make`, and want of memory.
+pub fn make_store_file(rt: &HostRuntime, alloc: Global, path: &str) -> io::Result<()>
+    requires { ¬ NamesNoFile path.now }
+{
     make(&mut HostFolder::new(rt, alloc, path)?)
 }

@@ -1,5 +1,6 @@
 // The making of a store's file, in a folder.
 ghost use Rattle.std.specs.Prelude.{◌≡◌, ◌⊎◌, cond, IfOk, IsTrue, OnErr, OnOk};
+ghost use Rattle.store_file.specs.declared.folder.Stage.TheVariants as at;
 ghost use Rattle.store_file.specs.Stages.{is_ours, IsGivenUp, IsUnheld};
 
 use crate::folder::{Folder, Found, Name};
@@ -8,8 +9,8 @@ use std::io::{self, ErrorKind};
 
 /// Whether no log lies there that has something in it.
 fn is_without_log<F: Folder>(folder: &mut F) -> io::Result<bool>
-    requires { F.stage folder.old ≡ Stage.Begun }
-    ensures { F.stage folder.new ≡ Stage.Begun }
+    requires { F.stage folder.old ≡ at.Begun }
+    ensures { F.stage folder.new ≡ at.Begun }
 {
     match folder.look(Name::Log)? {
         Found::Nothing => Ok(true),
@@ -21,10 +22,10 @@ fn is_without_log<F: Folder>(folder: &mut F) -> io::Result<bool>
 /// Whether a file is to be made in this folder: nothing has the store's name, or a file of no bytes. Where a
 /// link has it, a store has to be where it leads.
 fn is_wanted<F: Folder>(folder: &mut F) -> io::Result<bool>
-    requires { F.stage folder.old ≡ Stage.Begun }
+    requires { F.stage folder.old ≡ at.Begun }
     ensures ok { IfOk result (λ is_wanted.
-        F.stage folder.new ≡ cond is_wanted Stage.Begun Stage.There) }
-    ensures err { OnErr result (F.stage folder.new ≡ Stage.Begun) }
+        F.stage folder.new ≡ cond is_wanted at.Begun at.There) }
+    ensures err { OnErr result (F.stage folder.new ≡ at.Begun) }
 {
     let found = folder.look(Name::Store)?;
     if found.has_bytes() {
@@ -49,9 +50,9 @@ fn is_wanted<F: Folder>(folder: &mut F) -> io::Result<bool>
 
 /// Opens the file with the other name. No link at the name is followed.
 fn open_left<F: Folder>(folder: &mut F) -> io::Result<()>
-    requires { F.stage folder.old ≡ Stage.Begun }
-    ensures ok { OnOk result (F.stage folder.new ≡ Stage.Opened) }
-    ensures err { OnErr result (F.stage folder.new ≡ Stage.Begun) }
+    requires { F.stage folder.old ≡ at.Begun }
+    ensures ok { OnOk result (F.stage folder.new ≡ at.Opened) }
+    ensures err { OnErr result (F.stage folder.new ≡ at.Begun) }
 {
     match folder.look(Name::Unfinished)? {
         Found::File(_) => folder.open(),
@@ -61,9 +62,9 @@ fn open_left<F: Folder>(folder: &mut F) -> io::Result<()>
 
 /// Makes a file with the other name, or opens the one that is there.
 fn open_or_make<F: Folder>(folder: &mut F) -> io::Result<()>
-    requires { F.stage folder.old ≡ Stage.Begun }
-    ensures ok { OnOk result (F.stage folder.new ≡ Stage.Opened) }
-    ensures err { OnErr result (F.stage folder.new ≡ Stage.Begun) }
+    requires { F.stage folder.old ≡ at.Begun }
+    ensures ok { OnOk result (F.stage folder.new ≡ at.Opened) }
+    ensures err { OnErr result (F.stage folder.new ≡ at.Begun) }
 {
     match folder.make() {
         Ok(()) => Ok(()),
@@ -80,8 +81,8 @@ fn open_or_make<F: Folder>(folder: &mut F) -> io::Result<()>
 /// Another making has it, or had it and gave it the store's name, or it has another name too, or more
 /// bytes than a making could leave.
 fn hold<F: Folder>(folder: &mut F) -> io::Result<()>
-    requires { F.stage folder.old ≡ Stage.Begun }
-    ensures ok { OnOk result (F.stage folder.new ≡ Stage.Alone) }
+    requires { F.stage folder.old ≡ at.Begun }
+    ensures ok { OnOk result (F.stage folder.new ≡ at.Alone) }
     ensures err { OnErr result (IsUnheld (F.stage folder.new)) }
 {
     open_or_make(folder)?;
@@ -95,8 +96,8 @@ fn hold<F: Folder>(folder: &mut F) -> io::Result<()>
 
 /// Writes the page of an empty database into the file that is held, and syncs it.
 fn fill<F: Folder>(folder: &mut F) -> io::Result<()>
-    requires { F.stage folder.old ≡ Stage.Alone }
-    ensures ok { OnOk result (F.stage folder.new ≡ Stage.Synced) }
+    requires { F.stage folder.old ≡ at.Alone }
+    ensures ok { OnOk result (F.stage folder.new ≡ at.Synced) }
     ensures err { OnErr result (IsTrue (is_ours (F.stage folder.new))) }
 {
     folder.restrict()?;
@@ -107,8 +108,8 @@ fn fill<F: Folder>(folder: &mut F) -> io::Result<()>
 
 /// Gives the file that is held the name of the store, where nothing has it that this would take away.
 fn take_name<F: Folder>(folder: &mut F) -> io::Result<()>
-    requires { F.stage folder.old ≡ Stage.Synced }
-    ensures ok { OnOk result (F.stage folder.new ≡ Stage.Named) }
+    requires { F.stage folder.old ≡ at.Synced }
+    ensures ok { OnOk result (F.stage folder.new ≡ at.Named) }
     ensures err { OnErr result (IsTrue (is_ours (F.stage folder.new))) }
 {
     // The lock is held: only who holds it makes a file with the store's name.
@@ -121,8 +122,8 @@ fn take_name<F: Folder>(folder: &mut F) -> io::Result<()>
 
 /// Fills the file that is held, and gives it the name of the store.
 fn finish<F: Folder>(folder: &mut F) -> io::Result<()>
-    requires { F.stage folder.old ≡ Stage.Alone }
-    ensures ok { OnOk result (F.stage folder.new ≡ Stage.Named) }
+    requires { F.stage folder.old ≡ at.Alone }
+    ensures ok { OnOk result (F.stage folder.new ≡ at.Named) }
     ensures err { OnErr result (IsTrue (is_ours (F.stage folder.new))) }
 {
     fill(folder)?;
@@ -146,9 +147,9 @@ fn finish<F: Folder>(folder: &mut F) -> io::Result<()>
 /// What lay at the store's name is there, unless another process made a store, or the folder alone
 /// failed to sync.
 pub fn make<F: Folder>(folder: &mut F) -> io::Result<()>
-    requires { F.stage folder.old ≡ Stage.Begun }
-    ensures ok { OnOk result ((F.stage folder.new ≡ Stage.There)
-        ⊎ (F.stage folder.new ≡ Stage.Kept)) }
+    requires { F.stage folder.old ≡ at.Begun }
+    ensures ok { OnOk result ((F.stage folder.new ≡ at.There)
+        ⊎ (F.stage folder.new ≡ at.Kept)) }
     ensures err { OnErr result (IsGivenUp (F.stage folder.new)) }
 {
     if !is_wanted(folder)? {
