@@ -9,6 +9,7 @@ use std::test::Fail;
 
 /// A file of no bytes, and one of the page.
 const EMPTY: Lies = Lies::File(Content::Empty);
+
 const PAGE: Lies = Lies::File(Content::Page);
 
 /// A store that is there.
@@ -76,23 +77,67 @@ fn folders() -> [(&'static str, Trial, Outcome); 20] {
         ("nothing", CALM, MADE),
         ("a file of no bytes", some(EMPTY, none, none), MADE),
         ("a store", some(STORE, none, none), left(true, STORE, none)),
-        ("a store, and a file", some(STORE, long, none), left(true, STORE, long)),
+        (
+            "a store, and a file",
+            some(STORE, long, none),
+            left(true, STORE, long),
+        ),
         ("two names", some(twin, none, none), left(false, twin, none)),
         ("a link to nothing", leads(None), left(false, other, none)),
-        ("a link to no bytes", leads(Some(0)), left(false, other, none)),
-        ("a link to a store", leads(Some(4096)), left(true, other, none)),
-        ("a log alone", some(none, none, Lies::File(Content::Bytes(41))), left(false, none, none)),
-        ("a log beside no bytes", some(EMPTY, none, STORE), left(false, EMPTY, none)),
-        ("a log that is a link", some(none, none, other), left(false, none, none)),
+        (
+            "a link to no bytes",
+            leads(Some(0)),
+            left(false, other, none),
+        ),
+        (
+            "a link to a store",
+            leads(Some(4096)),
+            left(true, other, none),
+        ),
+        (
+            "a log alone",
+            some(none, none, Lies::File(Content::Bytes(41))),
+            left(false, none, none),
+        ),
+        (
+            "a log beside no bytes",
+            some(EMPTY, none, STORE),
+            left(false, EMPTY, none),
+        ),
+        (
+            "a log that is a link",
+            some(none, none, other),
+            left(false, none, none),
+        ),
         ("an empty log", some(none, none, EMPTY), MADE),
         ("begun", some(none, EMPTY, none), MADE),
         ("half", some(EMPTY, Lies::File(half), none), MADE),
         ("whole", some(none, PAGE, none), MADE),
-        ("a byte more", some(none, long, none), left(false, none, long)),
-        ("a link at the other name", some(none, other, none), left(false, none, other)),
-        ("two other names", some(none, Lies::Twin(half), none), left(false, none, Lies::Twin(half))),
-        ("locked", some(none, Lies::Locked(half), none), left(false, none, Lies::Locked(half))),
-        ("locked, no bytes", some(EMPTY, Lies::Locked(half), none), left(false, EMPTY, Lies::Locked(half))),
+        (
+            "a byte more",
+            some(none, long, none),
+            left(false, none, long),
+        ),
+        (
+            "a link at the other name",
+            some(none, other, none),
+            left(false, none, other),
+        ),
+        (
+            "two other names",
+            some(none, Lies::Twin(half), none),
+            left(false, none, Lies::Twin(half)),
+        ),
+        (
+            "locked",
+            some(none, Lies::Locked(half), none),
+            left(false, none, Lies::Locked(half)),
+        ),
+        (
+            "locked, no bytes",
+            some(EMPTY, Lies::Locked(half), none),
+            left(false, EMPTY, Lies::Locked(half)),
+        ),
     ]
 }
 
@@ -120,7 +165,13 @@ fn the_calls_come_in_their_order(rt: HostRuntime) -> Result<(), Fail> {
         let (_, calls) = made_in(&rt, Trial { store, ..CALM })?;
         assert_eq!(rt; calls.as_slice(), CALLS.as_slice());
     }
-    let (_, calls) = made_in(&rt, Trial { store: STORE, ..CALM })?;
+    let (_, calls) = made_in(
+        &rt,
+        Trial {
+            store: STORE,
+            ..CALM
+        },
+    )?;
     assert_eq!(rt; calls.as_slice(), [Call::Look(Name::Store)].as_slice());
     Ok(())
 }
@@ -139,7 +190,12 @@ fn unfinished_at(place: usize, is_dead: bool) -> Lies {
 
 #[test]
 fn a_refused_call_leaves_nothing_or_the_whole_store(rt: HostRuntime) -> Result<(), Fail> {
-    for (store, is_dead) in [(Lies::Nothing, false), (Lies::Nothing, true), (EMPTY, false), (EMPTY, true)] {
+    for (store, is_dead) in [
+        (Lies::Nothing, false),
+        (Lies::Nothing, true),
+        (EMPTY, false),
+        (EMPTY, true),
+    ] {
         for place in 0..CALLS.len() {
             let trial = Trial {
                 store,
@@ -156,7 +212,11 @@ fn a_refused_call_leaves_nothing_or_the_whole_store(rt: HostRuntime) -> Result<(
                     ..MADE
                 };
             }
-            assert_eq!(rt; outcome, wanted, "call {place} over {store:?}, and all behind it: {is_dead}");
+            assert_eq!(rt;
+                outcome,
+                wanted,
+                "call {place} over {store:?}, and all behind it: {is_dead}"
+            );
         }
     }
     Ok(())
@@ -167,8 +227,14 @@ fn meanwhile() -> [(usize, Act, Trial, Outcome); 12] {
     let none = Lies::Nothing;
     let theirs = Lies::File(THEIRS);
     let locked = Lies::Locked(THEIRS);
-    let empty = Trial { store: EMPTY, ..CALM };
-    let begun = Trial { unfinished: EMPTY, ..CALM };
+    let empty = Trial {
+        store: EMPTY,
+        ..CALM
+    };
+    let begun = Trial {
+        unfinished: EMPTY,
+        ..CALM
+    };
     [
         (0, Act::Makes, CALM, left(true, theirs, none)),
         (1, Act::Makes, empty, left(false, theirs, none)),
