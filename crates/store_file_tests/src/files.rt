@@ -1,8 +1,8 @@
 //! The making of a store's file by the calls of the system.
-use crate::{empty_database, make_store_file, may_name_file};
 use std::fs::{self, Permissions};
 use std::os::unix::fs::{PermissionsExt, symlink};
 use std::test::Fail;
+use store_file::{empty_database, make_store_file, may_name_file};
 
 /// Makes a folder with nothing in it.
 fn make_empty_folder(rt: &HostRuntime, name: &str) -> Result<(), Fail> {

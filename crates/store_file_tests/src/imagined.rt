@@ -1,10 +1,9 @@
 //! A folder in memory, which can refuse a call, and have another process act before one.
 ghost use Rattle.std.specs.Prelude.{◌≡◌};
 
-use crate::folder::{Compared, FileFacts, Folder, Found, Name, Stage};
-use crate::page::{PAGE_BYTES, empty_database};
 use std::alloc::Global;
 use std::io::{self, ErrorKind};
+use store_file::{Compared, FileFacts, Folder, Found, Name, PAGE_BYTES, Stage, empty_database};
 
 /// A call of the making.
 #[derive(Clone, Copy, Debug, PartialEq, Eq)]

@@ -1,11 +1,7 @@
-//! The making of a store's file over a folder in memory, and over the system's.
-mod host;
-mod imagined;
-
-use crate::folder::{Folder, Name};
-use crate::making::make;
-use imagined::{Act, CALM, Call, Content, Imagined, Lies, Outcome, THEIRS, Trial};
+//! The making of a store's file over a folder in memory.
+use crate::imagined::{Act, CALM, Call, Content, Imagined, Lies, Outcome, THEIRS, Trial};
 use std::test::Fail;
+use store_file::{Name, make};
 
 /// A file of no bytes, and one of the page.
 const EMPTY: Lies = Lies::File(Content::Empty);
