@@ -1,19 +1,25 @@
 -- How far the making of a store's file has come, by what the calls answered, and what is left of it.
-use Rattle.std.specs.Prelude.{◌≡◌, ◌⊎◌, ◌&&◌, ◌==◌, nat_lt, nat_le, Bool, true, false, cond}
+use Rattle.std.specs.Prelude.{◌&&◌, ◌||◌, ◌==◌, nat_lt, nat_le, Bool, true, false, cond}
 use Rattle.store_file.specs.declared.folder.FileFacts.{FileFacts}
 use Rattle.store_file.specs.declared.folder.Found.{Found}
 use Rattle.store_file.specs.declared.folder.Found.TheVariants.{Nothing, File, Other}
 use Rattle.store_file.specs.declared.folder.Name.{Name}
-use Rattle.store_file.specs.declared.folder.Name.TheVariants.{Store}
+use Rattle.store_file.specs.declared.folder.Name.TheVariants.{Store, Log}
 use Rattle.store_file.specs.declared.folder.Stage.{Stage}
-use Rattle.store_file.specs.declared.folder.Stage.TheVariants.{Begun, There, Opened, Locked, Alone, Private, Cut, Written, Synced, Vacant, Named, Removed, Left}
+use Rattle.store_file.specs.declared.folder.Stage.TheVariants.{Begun, There, Free, Wanted, Opened, Locked, Alone, Private}
+use Rattle.store_file.specs.declared.folder.Stage.TheVariants.{Cut, Written, Synced, Vacant, Named, Removed, Left}
 use Rattle.store_file.specs.declared.page.TheConstants.{PAGE_BYTES}
 
 -- a file that has bytes
 abbrev pub has_bytes : Found → Bool
 has_bytes (File facts) = nat_lt 0 facts.bytes
-has_bytes Nothing = false
-has_bytes Other = false
+has_bytes found = false
+
+-- no file, or one of no bytes
+abbrev pub has_nothing : Found → Bool
+has_nothing Nothing = true
+has_nothing (File facts) = facts.bytes == 0
+has_nothing Other = false
 
 -- nothing that a store in its place could take away: no file, or one of no bytes that has no other name
 abbrev pub is_vacant : Found → Bool
@@ -32,7 +38,8 @@ is_left held named = false
 
 -- how far it has come once this was found at a name
 abbrev pub looked : Name → Stage → Found → Stage
-looked Store Begun found = cond (has_bytes found) There Begun
+looked Store Begun found = cond (has_bytes found) There (cond (is_vacant found) Free Begun)
+looked Log Free found = cond (has_nothing found) Wanted Free
 looked Store Synced found = cond (is_vacant found) Vacant Synced
 looked name stage found = stage
 
@@ -47,11 +54,18 @@ is_ours Vacant = true
 is_ours stage = false
 
 -- no file is this making's
-abbrev pub IsUnheld : Stage → Type 0
-IsUnheld stage = (stage ≡ Begun) ⊎ (stage ≡ Opened) ⊎ (stage ≡ Locked)
+abbrev pub is_unheld : Stage → Bool
+is_unheld Begun = true
+is_unheld Free = true
+is_unheld Wanted = true
+is_unheld Opened = true
+is_unheld Locked = true
+is_unheld stage = false
 
--- What is left of a making that failed. At the store's name lies what lay there before, and the file with the other
--- name was another's (`Opened`, `Locked`), or is removed, or couldn't be. Or the whole page lies at the store's name, as long
--- as no power is cut.
-abbrev pub IsGivenUp : Stage → Type 0
-IsGivenUp stage = IsUnheld stage ⊎ (stage ≡ Removed) ⊎ (stage ≡ Left) ⊎ (stage ≡ Named)
+-- What is left of a making that failed. At the store's name lies what lay there before, and no file was opened, or it may
+-- be another's, or it is removed, or couldn't be. Or the whole page lies at the store's name, as long as no power is cut.
+abbrev pub is_given_up : Stage → Bool
+is_given_up Removed = true
+is_given_up Left = true
+is_given_up Named = true
+is_given_up stage = is_unheld stage

@@ -1,7 +1,7 @@
 // The folder of a store, as the making of its file sees it.
 ghost use Rattle.std.specs.Prelude.{◌≡◌, cond, IfOk, IsTrue, OnErr, OnOk};
 ghost use Rattle.store_file.specs.Page.{IsPage};
-ghost use Rattle.store_file.specs.Stages.{has_bytes, is_left, is_ours, is_same_file, is_vacant, looked};
+ghost use Rattle.store_file.specs.Stages.{has_bytes, has_nothing, is_left, is_ours, is_same_file, is_vacant, looked};
 
 use crate::page::PAGE_BYTES;
 use std::io;
@@ -49,6 +49,17 @@ impl Found {
         match self {
             Found::File(facts) => facts.bytes > 0,
             Found::Nothing | Found::Other => false,
+        }
+    }
+
+    /// Whether there is no file, or one of no bytes.
+    pub fn has_nothing(self) -> bool
+        ensures { result ≡ has_nothing self }
+    {
+        match self {
+            Found::Nothing => true,
+            Found::File(facts) => facts.bytes == 0,
+            Found::Other => false,
         }
     }
 
@@ -104,6 +115,10 @@ pub enum Stage {
     Begun,
     /// A store is there, or something else that has bytes.
     There,
+    /// Nothing was found at the store's name that a store would take away.
+    Free,
+    /// Nor a log with something in it: a store is to be made.
+    Wanted,
     /// The file with the other name is open, and may be another's.
     Opened,
     /// No other making has the lock of the open file.
@@ -137,6 +152,8 @@ impl Stage {
     {
         match (name, self) {
             (Name::Store, Stage::Begun) if found.has_bytes() => Stage::There,
+            (Name::Store, Stage::Begun) if found.is_vacant() => Stage::Free,
+            (Name::Log, Stage::Free) if found.has_nothing() => Stage::Wanted,
             (Name::Store, Stage::Synced) if found.is_vacant() => Stage::Vacant,
             _ => self,
         }
@@ -166,15 +183,15 @@ pub trait Folder {
 
     /// Makes a file with the other name, for its owner alone. Whatever has that name makes it fail.
     fn make(&mut self) -> io::Result<()>
-        requires { stage self.old ≡ at.Begun }
+        requires { stage self.old ≡ at.Wanted }
         ensures ok { OnOk result (stage self.new ≡ at.Opened) }
-        ensures err { OnErr result (stage self.new ≡ at.Begun) };
+        ensures err { OnErr result (stage self.new ≡ at.Wanted) };
 
     /// Opens the file with the other name.
     fn open(&mut self) -> io::Result<()>
-        requires { stage self.old ≡ at.Begun }
+        requires { stage self.old ≡ at.Wanted }
         ensures ok { OnOk result (stage self.new ≡ at.Opened) }
-        ensures err { OnErr result (stage self.new ≡ at.Begun) };
+        ensures err { OnErr result (stage self.new ≡ at.Wanted) };
 
     /// Takes the lock of the open file, until this making ends.
     fn lock(&mut self) -> io::Result<()>

@@ -1,47 +1,44 @@
 // The making of a store's file, in a folder.
 ghost use Rattle.std.specs.Prelude.{◌≡◌, ◌⊎◌, cond, IfOk, IsTrue, OnErr, OnOk};
 ghost use Rattle.store_file.specs.declared.folder.Stage.TheVariants as at;
-ghost use Rattle.store_file.specs.Stages.{is_ours, IsGivenUp, IsUnheld};
+ghost use Rattle.store_file.specs.Stages.{is_given_up, is_ours, is_unheld};
 
 use crate::folder::{Folder, Found, Name};
 use crate::page::empty_database;
 use std::io::{self, ErrorKind};
 
-/// Whether no log lies there that has something in it.
-fn is_without_log<F: Folder>(folder: &mut F) -> io::Result<bool>
+/// Whether a file is to be made where a link, or what is no file, has the store's name: it isn't, and where it
+/// leads a store has to be.
+fn is_wanted_behind<F: Folder>(folder: &mut F) -> io::Result<bool>
     requires { F.stage folder.old ≡ at.Begun }
-    ensures { F.stage folder.new ≡ at.Begun }
+    ensures ok { IfOk result (λ is_wanted. F.stage folder.new ≡ cond is_wanted at.Wanted at.There) }
+    ensures err { OnErr result (F.stage folder.new ≡ at.Begun) }
 {
-    match folder.look(Name::Log)? {
-        Found::Nothing => Ok(true),
-        Found::File(facts) => Ok(facts.bytes == 0),
-        Found::Other => Ok(false),
+    if folder.follow()?.has_bytes() {
+        Ok(false)
+    } else {
+        Err(ErrorKind::Unsupported.into())
     }
 }
 
-/// Whether a file is to be made in this folder: nothing has the store's name, or a file of no bytes. Where a
-/// link has it, a store has to be where it leads.
+/// Whether a file is to be made in this folder: nothing has the store's name, or a file of no bytes that
+/// has no other name, and no log lies there with something in it.
 fn is_wanted<F: Folder>(folder: &mut F) -> io::Result<bool>
     requires { F.stage folder.old ≡ at.Begun }
-    ensures ok { IfOk result (λ is_wanted.
-        F.stage folder.new ≡ cond is_wanted at.Begun at.There) }
-    ensures err { OnErr result (F.stage folder.new ≡ at.Begun) }
+    ensures ok { IfOk result (λ is_wanted. F.stage folder.new ≡ cond is_wanted at.Wanted at.There) }
+    ensures err { OnErr result (IsTrue (is_unheld (F.stage folder.new))) }
 {
     let found = folder.look(Name::Store)?;
     if found.has_bytes() {
         return Ok(false);
     }
-    if found == Found::Other {
-        return if folder.follow()?.has_bytes() {
-            Ok(false)
-        } else {
-            Err(ErrorKind::Unsupported.into())
+    if !found.is_vacant() {
+        return match found {
+            Found::Other => is_wanted_behind(folder),
+            _ => Err(ErrorKind::Unsupported.into()),
         };
     }
-    if !found.is_vacant() {
-        return Err(ErrorKind::Unsupported.into());
-    }
-    if is_without_log(folder)? {
+    if folder.look(Name::Log)?.has_nothing() {
         Ok(true)
     } else {
         Err(ErrorKind::AlreadyExists.into())
@@ -50,9 +47,9 @@ fn is_wanted<F: Folder>(folder: &mut F) -> io::Result<bool>
 
 /// Opens the file with the other name. No link at the name is followed.
 fn open_left<F: Folder>(folder: &mut F) -> io::Result<()>
-    requires { F.stage folder.old ≡ at.Begun }
+    requires { F.stage folder.old ≡ at.Wanted }
     ensures ok { OnOk result (F.stage folder.new ≡ at.Opened) }
-    ensures err { OnErr result (F.stage folder.new ≡ at.Begun) }
+    ensures err { OnErr result (F.stage folder.new ≡ at.Wanted) }
 {
     match folder.look(Name::Unfinished)? {
         Found::File(_) => folder.open(),
@@ -62,9 +59,9 @@ fn open_left<F: Folder>(folder: &mut F) -> io::Result<()>
 
 /// Makes a file with the other name, or opens the one that is there.
 fn open_or_make<F: Folder>(folder: &mut F) -> io::Result<()>
-    requires { F.stage folder.old ≡ at.Begun }
+    requires { F.stage folder.old ≡ at.Wanted }
     ensures ok { OnOk result (F.stage folder.new ≡ at.Opened) }
-    ensures err { OnErr result (F.stage folder.new ≡ at.Begun) }
+    ensures err { OnErr result (F.stage folder.new ≡ at.Wanted) }
 {
     match folder.make() {
         Ok(()) => Ok(()),
@@ -81,9 +78,9 @@ fn open_or_make<F: Folder>(folder: &mut F) -> io::Result<()>
 /// Another making has it, or had it and gave it the store's name, or it has another name too, or more
 /// bytes than a making could leave.
 fn hold<F: Folder>(folder: &mut F) -> io::Result<()>
-    requires { F.stage folder.old ≡ at.Begun }
+    requires { F.stage folder.old ≡ at.Wanted }
     ensures ok { OnOk result (F.stage folder.new ≡ at.Alone) }
-    ensures err { OnErr result (IsUnheld (F.stage folder.new)) }
+    ensures err { OnErr result (IsTrue (is_unheld (F.stage folder.new))) }
 {
     open_or_make(folder)?;
     folder.lock()?;
@@ -150,7 +147,7 @@ pub fn make<F: Folder>(folder: &mut F) -> io::Result<()>
     requires { F.stage folder.old ≡ at.Begun }
     ensures ok { OnOk result ((F.stage folder.new ≡ at.There)
         ⊎ (F.stage folder.new ≡ at.Kept)) }
-    ensures err { OnErr result (IsGivenUp (F.stage folder.new)) }
+    ensures err { OnErr result (IsTrue (is_given_up (F.stage folder.new))) }
 {
     if !is_wanted(folder)? {
         return Ok(());
