@@ -12,7 +12,7 @@
 //!   synced (`ok`). Else what lay at the store's name lies there, and the file with the other name is
 //!   removed or couldn't be, or was another's; or the folder alone wasn't synced (`err`).
 //!
-//! No clause says these, and tests over a folder in memory show them (`store_file_tests`):
+//! No clause says these, and tests over a folder in memory show them:
 //!
 //! - which calls are made, and that none is left out;
 //! - what a cut of power leaves at each call, and each refused call;
