@@ -18,8 +18,8 @@ which it made or renamed has its name once it has synced the folder. It renames 
 removes none: a call on the files that isn't known here is an error.
 
 The file of a new store has to be the page of an empty database as C's SQLite makes it, but for the number of SQLite's
-release in its header. A cut has to leave at that name what was there before, or this page whole, until something else is
-written into it; and behind each run nothing has the name `STORE-new`.
+release in its header. A cut has to leave at that name what was there before, or this page whole, until something else
+is written into it; and behind each run nothing has the name `STORE-new`.
 
 Of what is left the program has to show, and to keep as rows (read with sqlite3 from a copy), the books before the
 request that the cut took the reply of, or those after it: so every request whose reply was written is there. From the

@@ -37,7 +37,8 @@ store are read: they have to be those of the undisturbed run.
 Right behind a start that was refused its rows are read in the same way. They have to be those of before it, or, where
 the store is made, upgraded or grown, those of behind it, whole. The next start has to leave those of behind it, and
 has to show the books of an undisturbed one; a map or a site that was refused is read again. A making that was refused
-ends with `station: store fault 3`, and leaves what was there until the renaming is done, and behind it an empty database; nothing has the name `STORE-new` behind the next start.
+ends with `station: store fault 3`. It leaves what was there until the renaming is done, and behind it an empty
+database; nothing has the name `STORE-new` behind the next start.
 
 With --write and -k 'not 97' the row of docs/reference/tests.md says what was found.
 """
@@ -263,7 +264,7 @@ class Bench:
         return f"{outcome} with the rows {'of before' if rows == opening.before else 'of behind'}"
 
     def make_refused(self, call, opening, is_empty):
-        """What came of the making of a store, over an empty file or none, to which one call of the system is refused."""
+        """What came of a making, over an empty file or none, to which one call of the system is refused."""
         name, number, is_named = call
         with tempfile.TemporaryDirectory(dir=self.folder) as folder:
             path = new_place(folder, is_empty)
