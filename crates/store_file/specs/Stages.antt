@@ -7,7 +7,7 @@ use Rattle.store_file.specs.declared.folder.Name.{Name}
 use Rattle.store_file.specs.declared.folder.Name.TheVariants.{Store, Log}
 use Rattle.store_file.specs.declared.folder.Stage.{Stage}
 use Rattle.store_file.specs.declared.folder.Stage.TheVariants.{Begun, There, Free, Wanted, Opened, Locked, Alone, Private}
-use Rattle.store_file.specs.declared.folder.Stage.TheVariants.{Cut, Written, Synced, Vacant, Named, Removed, Left}
+use Rattle.store_file.specs.declared.folder.Stage.TheVariants.{Cut, Written, Synced, Emptied, Vacant, Named, Removed, Left}
 use Rattle.store_file.specs.declared.page.TheConstants.{PAGE_BYTES}
 
 -- a file that has bytes
@@ -36,11 +36,17 @@ abbrev pub is_left : Found → Found → Bool
 is_left (File held) (File named) = is_same_file held named && (held.names == 1) && nat_le held.bytes PAGE_BYTES
 is_left held named = false
 
+-- the held file is the one at the name, and a store in its place would take nothing away
+abbrev pub is_replaceable : Found → Found → Bool
+is_replaceable (File held) (File named) = is_same_file held named && is_vacant (File held)
+is_replaceable held named = false
+
 -- how far it has come once this was found at a name
 abbrev pub looked : Name → Stage → Found → Stage
 looked Store Begun found = cond (has_bytes found) There (cond (is_vacant found) Free Begun)
 looked Log Free found = cond (has_nothing found) Wanted Free
-looked Store Synced found = cond (is_vacant found) Vacant Synced
+looked Store Synced Nothing = Vacant
+looked Store Synced (File facts) = cond (is_vacant (File facts)) Emptied Synced
 looked name stage found = stage
 
 -- the file with the other name is this making's
@@ -50,6 +56,7 @@ is_ours Private = true
 is_ours Cut = true
 is_ours Written = true
 is_ours Synced = true
+is_ours Emptied = true
 is_ours Vacant = true
 is_ours stage = false
 

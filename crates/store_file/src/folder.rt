@@ -1,7 +1,7 @@
 // The folder of a store, as the making of its file sees it.
 ghost use Rattle.std.specs.Prelude.{◌≡◌, cond, IfOk, IsTrue, OnErr, OnOk};
 ghost use Rattle.store_file.specs.Page.{IsPage};
-ghost use Rattle.store_file.specs.Stages.{has_bytes, has_nothing, is_left, is_ours, is_same_file, is_vacant, looked};
+ghost use Rattle.store_file.specs.Stages.{has_bytes, has_nothing, is_left, is_ours, is_replaceable, is_same_file, is_vacant, looked};
 
 use crate::page::PAGE_BYTES;
 use std::io;
@@ -105,6 +105,18 @@ impl Compared {
             _ => false,
         }
     }
+
+    /// Whether the open file is the one at its name, and a store in its place would take nothing away.
+    pub fn is_replaceable(self) -> bool
+        ensures { result ≡ is_replaceable self.held self.named }
+    {
+        match (self.held, self.named) {
+            (Found::File(held), Found::File(named)) => {
+                is_same_file(held, named) && self.held.is_vacant()
+            }
+            _ => false,
+        }
+    }
 }
 
 /// How far the making of a store's file has come, by what the calls answered. A call that fails is
@@ -133,7 +145,9 @@ pub enum Stage {
     Written,
     /// It has the page, whatever is cut.
     Synced,
-    /// Nothing was found since at the store's name that it would take away.
+    /// A file of no bytes was found since at the store's name.
+    Emptied,
+    /// Nothing was found since at the store's name, or no other process has the file of no bytes.
     Vacant,
     /// It has the name of the store, as long as no power is cut.
     Named,
@@ -154,7 +168,8 @@ impl Stage {
             (Name::Store, Stage::Begun) if found.has_bytes() => Stage::There,
             (Name::Store, Stage::Begun) if found.is_vacant() => Stage::Free,
             (Name::Log, Stage::Free) if found.has_nothing() => Stage::Wanted,
-            (Name::Store, Stage::Synced) if found.is_vacant() => Stage::Vacant,
+            (Name::Store, Stage::Synced) if found == Found::Nothing => Stage::Vacant,
+            (Name::Store, Stage::Synced) if found.is_vacant() => Stage::Emptied,
             _ => self,
         }
     }
@@ -230,6 +245,14 @@ pub trait Folder {
         requires { stage self.old ≡ at.Written }
         ensures ok { OnOk result (stage self.new ≡ at.Synced) }
         ensures err { OnErr result (stage self.new ≡ at.Written) };
+
+    /// Opens the file of no bytes at the store's name, and takes the lock by which a server has a store,
+    /// until this making ends. What is open, and what lies at that name then.
+    fn guard(&mut self) -> io::Result<Compared>
+        requires { stage self.old ≡ at.Emptied }
+        ensures ok { IfOk result (λ found. stage self.new
+            ≡ cond (is_replaceable found.held found.named) at.Vacant at.Emptied) }
+        ensures err { OnErr result (stage self.new ≡ at.Emptied) };
 
     /// Gives the open file the name of the store.
     fn rename(&mut self) -> io::Result<()>

@@ -5,15 +5,22 @@ ghost use Rattle.store_file.specs.Names.{NamesNoFile};
 use crate::folder::{Compared, FileFacts, Folder, Found, Name, Stage};
 use crate::making::make;
 use crate::page::PAGE_BYTES;
+use os::RangeLock;
 use std::alloc::Global;
 use std::fs::{self, File, Metadata, OpenOptions, Permissions};
 use std::io::{self, ErrorKind, Write};
+use std::os::fd::AsRawFd;
 use std::os::unix::fs::{MetadataExt, OpenOptionsExt, PermissionsExt};
 
 /// What the file's owner may do, and nobody else: read and write.
 const OWNER_ALONE: u32 = 0o600;
 
-/// The folder of a store. Each call of `Folder` makes the call of the system that it tells, or the two
+/// The bytes of a file that SQLite locks.
+const LOCKED_FROM: u64 = 1 << 30;
+
+const LOCKED_BYTES: u64 = 512;
+
+/// The folder of a store. Each call of `Folder` makes the call of the system that it tells, or the few
 /// by which it compares, and no other.
 #[derive(Drop)]
 struct HostFolder<'a> {
@@ -23,6 +30,8 @@ struct HostFolder<'a> {
     log: String,
     /// The file with the other name, once it is open.
     file: Option<File>,
+    /// The file of no bytes at the store's name, once this making has its lock.
+    guarded: Option<File>,
     stage: Stage,
 }
 
@@ -50,6 +59,21 @@ fn folder_of(path: &str) -> &str {
     }
 }
 
+/// Takes the lock by which a server has a store: SQLite's, on its pending, reserved and shared bytes.
+fn lock_as_store(file: &File) -> io::Result<()> {
+    if os::try_lock_range(
+        file.as_raw_fd(),
+        RangeLock::Exclusive,
+        LOCKED_FROM,
+        LOCKED_BYTES,
+    ) == 0
+    {
+        Ok(())
+    } else {
+        Err(io::Error::from_raw_os_error(os::errno()))
+    }
+}
+
 impl<'a> HostFolder<'a> {
     /// The folder of the store at this path.
     fn new(rt: &'a HostRuntime, alloc: Global, path: &'a str) -> io::Result<HostFolder<'a>>
@@ -61,6 +85,7 @@ impl<'a> HostFolder<'a> {
             unfinished: format!(in alloc; "{path}-new")?,
             log: format!(in alloc; "{path}-wal")?,
             file: None,
+            guarded: None,
             stage: Stage::Begun,
         })
     }
@@ -163,6 +188,23 @@ impl Folder for HostFolder<'_> {
         self.held()?.sync_all()?;
         self.stage = Stage::Synced;
         Ok(())
+    }
+
+    fn guard(&mut self) -> io::Result<Compared> {
+        let file = OpenOptions::new()
+            .read(true)
+            .write(true)
+            .open(self.rt, self.store)?;
+        lock_as_store(&file)?;
+        let compared = Compared {
+            held: found_by(file.metadata())?,
+            named: found_by(fs::symlink_metadata(self.rt, self.store))?,
+        };
+        self.guarded = Some(file);
+        if compared.is_replaceable() {
+            self.stage = Stage::Vacant;
+        }
+        Ok(compared)
     }
 
     fn rename(&mut self) -> io::Result<()> {

@@ -103,6 +103,20 @@ fn fill<F: Folder>(folder: &mut F) -> io::Result<()>
     folder.sync()
 }
 
+/// Gives the file that is held the name of the store, in place of a file of no bytes that no other process
+/// has, as a server, a restore or `sqlite3`.
+fn replace_empty<F: Folder>(folder: &mut F) -> io::Result<()>
+    requires { F.stage folder.old ≡ at.Emptied }
+    ensures ok { OnOk result (F.stage folder.new ≡ at.Named) }
+    ensures err { OnErr result (IsTrue (is_ours (F.stage folder.new))) }
+{
+    if folder.guard()?.is_replaceable() {
+        folder.rename()
+    } else {
+        Err(ErrorKind::AlreadyExists.into())
+    }
+}
+
 /// Gives the file that is held the name of the store, where nothing has it that this would take away.
 fn take_name<F: Folder>(folder: &mut F) -> io::Result<()>
     requires { F.stage folder.old ≡ at.Synced }
@@ -110,10 +124,11 @@ fn take_name<F: Folder>(folder: &mut F) -> io::Result<()>
     ensures err { OnErr result (IsTrue (is_ours (F.stage folder.new))) }
 {
     // The lock is held: only who holds it makes a file with the store's name.
-    if folder.look(Name::Store)?.is_vacant() {
-        folder.rename()
-    } else {
-        Err(ErrorKind::AlreadyExists.into())
+    let found = folder.look(Name::Store)?;
+    match found {
+        Found::Nothing => folder.rename(),
+        Found::File(_) if found.is_vacant() => replace_empty(folder),
+        _ => Err(ErrorKind::AlreadyExists.into()),
     }
 }
 
@@ -139,7 +154,8 @@ fn finish<F: Folder>(folder: &mut F) -> io::Result<()>
 /// - A log with something in it lies alone, or beside a file of no bytes, as of a store whose file was
 ///   lost. Its frames would be taken for those of the new file.
 /// - What has the other name is nothing that a crash left.
-/// - The file of no bytes has another name, or is where a link leads; or no file is where it leads.
+/// - The file of no bytes has another name, or another process has it, or it is where a link leads; or
+///   no file is where it leads.
 ///
 /// What lay at the store's name is there, unless another process made a store, or the folder alone
 /// failed to sync.

@@ -1,5 +1,7 @@
 //! The making of a store's file by the calls of the system.
-use std::fs::{self, Permissions};
+use os::RangeLock;
+use std::fs::{self, File, Permissions};
+use std::os::fd::AsRawFd;
 use std::os::unix::fs::{PermissionsExt, symlink};
 use std::test::Fail;
 use store_file::{empty_database, make_store_file, may_name_file};
@@ -74,5 +76,19 @@ fn nothing_is_made_for_what_is_opened_as_no_file(rt: HostRuntime) -> Result<(), 
         assert_eq!(rt; made_over(&rt, path, "none")?, (false, 0), "{path}");
     }
     assert_eq!(rt; made_over(&rt, "none/file:", "none")?, (true, 1));
+    Ok(())
+}
+
+/// A file of no bytes that a server has, a restore or `sqlite3`, by SQLite's lock, isn't replaced.
+#[test]
+fn a_file_of_no_bytes_that_another_has_stays(rt: HostRuntime) -> Result<(), Fail> {
+    make_empty_folder(&rt, "had")?;
+    let file = File::create(&rt, "had/s")?;
+    let locked = os::try_lock_range(file.as_raw_fd(), RangeLock::Exclusive, 1 << 30, 512);
+    assert_eq!(rt; locked, 0);
+    assert_eq!(rt; made_over(&rt, "had/s", "had")?, (false, 1));
+    drop(file);
+    assert_eq!(rt; made_over(&rt, "had/s", "had")?, (true, 1));
+    assert_eq!(rt; fs::metadata(&rt, "had/s")?.len(), 1024);
     Ok(())
 }

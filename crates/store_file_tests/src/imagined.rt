@@ -18,6 +18,7 @@ pub enum Call {
     Cut,
     Write,
     Sync,
+    Guard,
     Rename,
     SyncFolder,
     Remove,
@@ -58,6 +59,8 @@ pub enum Act {
     Begins,
     /// It puts a file at the store's name, whatever is locked.
     Puts,
+    /// It writes into the file at the store's name.
+    Fills,
     /// It puts a link to its own file at the other name.
     Links,
 }
@@ -237,7 +240,9 @@ impl World {
     fn is_safe_at(&self, place: Option<usize>) -> bool {
         match self.node(place) {
             None => self.trial.store == Lies::Nothing,
-            Some(node) if place == Some(0) => node == node_of(self.trial.store),
+            Some(node) if place == Some(0) && node.content != THEIRS => {
+                node == node_of(self.trial.store)
+            }
             Some(node) => node.is_synced
                 && (node.content == Content::Page || node.content == THEIRS),
         }
@@ -264,6 +269,7 @@ impl World {
                 self.now.store = Some(OTHERS);
                 self.disk = self.now;
             }
+            Act::Fills => self.nodes[0].content = THEIRS,
             Act::Links => {
                 self.nodes[1].is_file = false;
                 self.now.unfinished = Some(1);
@@ -436,6 +442,22 @@ impl Folder for Imagined {
         self.world.held()?.is_synced = true;
         self.stage = Stage::Synced;
         Ok(())
+    }
+
+    fn guard(&mut self) -> io::Result<Compared> {
+        self.world.begin(Call::Guard)?;
+        let place = self.world.now.store;
+        if self.world.node(place).is_some_and(|node| node.is_locked) {
+            return Err(ErrorKind::WouldBlock.into());
+        }
+        let compared = Compared {
+            held: self.world.found(place),
+            named: self.world.found(self.world.now.store),
+        };
+        if compared.is_replaceable() {
+            self.stage = Stage::Vacant;
+        }
+        Ok(compared)
     }
 
     fn rename(&mut self) -> io::Result<()> {

@@ -1,5 +1,6 @@
 //! The making of a store's file over a folder in memory.
 use crate::imagined::{Act, CALM, Call, Content, Imagined, Lies, Outcome, THEIRS, Trial};
+use std::alloc::Global;
 use std::test::Fail;
 use store_file::{Name, make};
 
@@ -11,8 +12,9 @@ const PAGE: Lies = Lies::File(Content::Page);
 /// A store that is there.
 const STORE: Lies = Lies::File(Content::Bytes(4096));
 
-/// The calls by which a store is made where nothing disturbs.
-const CALLS: [Call; 12] = [
+/// The calls by which a store is made over a file of no bytes where nothing disturbs. The lock of that file comes behind
+/// the second look at its name; where there is no such file that call isn't made.
+const CALLS: [Call; 13] = [
     Call::Look(Name::Store),
     Call::Look(Name::Log),
     Call::Make,
@@ -23,6 +25,7 @@ const CALLS: [Call; 12] = [
     Call::Write,
     Call::Sync,
     Call::Look(Name::Store),
+    Call::Guard,
     Call::Rename,
     Call::SyncFolder,
 ];
@@ -53,7 +56,7 @@ fn left(is_ok: bool, store: Lies, unfinished: Lies) -> Outcome {
 
 /// What lies in a folder, and what a making comes to. What a crash left of a making is written anew, and what it
 /// can't have left stays, and so does whatever has the store's name.
-fn folders() -> [(&'static str, Trial, Outcome); 20] {
+fn folders() -> [(&'static str, Trial, Outcome); 21] {
     let (none, other) = (Lies::Nothing, Lies::Other);
     let half = Content::Bytes(512);
     let long = Lies::File(Content::Bytes(1025));
@@ -64,6 +67,7 @@ fn folders() -> [(&'static str, Trial, Outcome); 20] {
         ..CALM
     };
     let twin = Lies::Twin(Content::Empty);
+    let had = Lies::Locked(Content::Empty);
     let leads = |behind| Trial {
         store: other,
         behind,
@@ -79,6 +83,11 @@ fn folders() -> [(&'static str, Trial, Outcome); 20] {
             left(true, STORE, long),
         ),
         ("two names", some(twin, none, none), left(false, twin, none)),
+        (
+            "another has it",
+            some(had, none, none),
+            left(false, had, none),
+        ),
         ("a link to nothing", leads(None), left(false, other, none)),
         (
             "a link to no bytes",
@@ -154,12 +163,24 @@ fn a_store_is_made_where_nothing_is_taken_away(rt: HostRuntime) -> Result<(), Fa
     Ok(())
 }
 
+/// The calls by which a store is made over this where nothing disturbs.
+fn calls_over(alloc: Global, store: Lies) -> Result<Vec<Call>, Fail> {
+    let mut calls = Vec::new(alloc);
+    for call in CALLS {
+        if call != Call::Guard || store != Lies::Nothing {
+            calls.push(call)?;
+        }
+    }
+    Ok(calls)
+}
+
 /// A sync comes before the renaming, and that of the folder behind it; and a store that is there is looked at alone.
 #[test]
 fn the_calls_come_in_their_order(rt: HostRuntime) -> Result<(), Fail> {
     for store in [Lies::Nothing, EMPTY] {
         let (_, calls) = made_in(&rt, Trial { store, ..CALM })?;
-        assert_eq!(rt; calls.as_slice(), CALLS.as_slice());
+        let wanted = calls_over(rt.alloc(), store)?;
+        assert_eq!(rt; calls.as_slice(), wanted.as_slice());
     }
     let (_, calls) = made_in(
         &rt,
@@ -172,16 +193,29 @@ fn the_calls_come_in_their_order(rt: HostRuntime) -> Result<(), Fail> {
     Ok(())
 }
 
-/// What lies at the other name where the call of this place is refused, or it and all behind it. The file that was made
+/// What lies at the other name where this call is refused, at this place, or it and all behind it. The file that was made
 /// stays where its lock wasn't had, or it couldn't be removed.
-fn unfinished_at(place: usize, is_dead: bool) -> Lies {
-    match place {
-        0..=2 | 11 => Lies::Nothing,
-        3 | 4 => EMPTY,
-        5..=7 if is_dead => EMPTY,
-        _ if is_dead => PAGE,
-        _ => Lies::Nothing,
+fn unfinished_by(call: Call, place: usize, is_dead: bool) -> Lies {
+    match call {
+        _ if place < 3 => Lies::Nothing,
+        Call::Lock | Call::Compare => EMPTY,
+        Call::SyncFolder => Lies::Nothing,
+        _ if !is_dead => Lies::Nothing,
+        Call::Restrict | Call::Cut | Call::Write => EMPTY,
+        _ => PAGE,
     }
+}
+
+/// What a making comes to over this where the call of this place is refused, or it and all behind it.
+fn refused_at(store: Lies, call: Call, place: usize, is_dead: bool) -> Outcome {
+    if call == Call::SyncFolder {
+        return Outcome {
+            is_ok: false,
+            is_kept: false,
+            ..MADE
+        };
+    }
+    left(false, store, unfinished_by(call, place, is_dead))
 }
 
 #[test]
@@ -192,7 +226,8 @@ fn a_refused_call_leaves_nothing_or_the_whole_store(rt: HostRuntime) -> Result<(
         (EMPTY, false),
         (EMPTY, true),
     ] {
-        for place in 0..CALLS.len() {
+        let calls = calls_over(rt.alloc(), store)?;
+        for (place, call) in calls.as_slice().iter().enumerate() {
             let trial = Trial {
                 store,
                 refused: Some(place),
@@ -200,18 +235,11 @@ fn a_refused_call_leaves_nothing_or_the_whole_store(rt: HostRuntime) -> Result<(
                 ..CALM
             };
             let (outcome, _) = made_in(&rt, trial)?;
-            let mut wanted = left(false, store, unfinished_at(place, is_dead));
-            if place == 11 {
-                wanted = Outcome {
-                    is_ok: false,
-                    is_kept: false,
-                    ..MADE
-                };
-            }
+            let wanted = refused_at(store, *call, place, is_dead);
             assert_eq!(rt;
                 outcome,
                 wanted,
-                "call {place} over {store:?}, and all behind it: {is_dead}"
+                "{call:?} over {store:?}, and all behind it: {is_dead}"
             );
         }
     }
@@ -219,7 +247,7 @@ fn a_refused_call_leaves_nothing_or_the_whole_store(rt: HostRuntime) -> Result<(
 }
 
 /// Where a second process acts, what it does, in which folder, and what the making comes to.
-fn meanwhile() -> [(usize, Act, Trial, Outcome); 12] {
+fn meanwhile() -> [(usize, Act, Trial, Outcome); 14] {
     let none = Lies::Nothing;
     let theirs = Lies::File(THEIRS);
     let locked = Lies::Locked(THEIRS);
@@ -242,6 +270,8 @@ fn meanwhile() -> [(usize, Act, Trial, Outcome); 12] {
         (2, Act::Begins, CALM, left(false, none, locked)),
         (9, Act::Puts, CALM, left(false, theirs, none)),
         (9, Act::Puts, empty, left(false, theirs, none)),
+        (10, Act::Puts, empty, left(false, theirs, none)),
+        (10, Act::Fills, empty, left(false, theirs, none)),
         (4, Act::Links, begun, left(false, none, Lies::Other)),
         (5, Act::Links, begun, left(false, none, Lies::Other)),
     ]
