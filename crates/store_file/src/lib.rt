@@ -6,8 +6,9 @@
 //!
 //! - What is written is the page of an empty database (`IsPage`), into a file that this making made or
 //!   found as a crash left it, that no other making has, and that has no other name.
-//! - It gets the store's name once it was synced, and once nothing was found behind that at this name
-//!   but a file of no bytes. Nothing else changes what lies at the store's name.
+//! - It gets the store's name once it was synced, and once nothing was found behind that at this name,
+//!   or a file of no bytes with no other name, whose lock as a store this making took. Nothing else
+//!   changes what lies at the store's name, and no file is made where a log lies with something in it.
 //! - `make` ends well where a store is there, or where the file got its name and then the folder was
 //!   synced (`ok`). Else what lay at the store's name lies there, and the file with the other name is
 //!   removed or couldn't be, or was another's; or the folder alone wasn't synced (`err`).
