@@ -1,5 +1,5 @@
 -- How far the making of a store's file has come, by what the calls answered, and what is left of it.
-use Rattle.std.specs.Prelude.{◌&&◌, ◌||◌, ◌==◌, nat_lt, nat_le, Bool, true, false, cond}
+use Rattle.std.specs.Prelude.{◌&&◌, ◌==◌, nat_lt, nat_le, Bool, true, false, cond}
 use Rattle.store_file.specs.declared.folder.FileFacts.{FileFacts}
 use Rattle.store_file.specs.declared.folder.Found.{Found}
 use Rattle.store_file.specs.declared.folder.Found.TheVariants.{Nothing, File, Other}
