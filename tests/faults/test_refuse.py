@@ -83,6 +83,7 @@ MAKING = {
     "openat": "EACCES",
     "statx": "EACCES",
     "flock": "ENOLCK",
+    "fcntl": "EAGAIN",
     "fchmod": "EPERM",
     "ftruncate": "EIO",
     "write": "ENOSPC",
