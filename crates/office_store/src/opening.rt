@@ -116,6 +116,40 @@ fn close<D: Disk + Drop>(conn: Connection<FileStore<D>>) -> Files<D>
     conn.into_store().close()
 }
 
+/// Opens the store of a site in the file at this path, for which what comes before was done.
+fn open_file<S: Start>(
+    rt: &HostRuntime,
+    alloc: Global,
+    path: &str,
+    start: S,
+    site: &SiteText,
+    absent: Absent,
+) -> Result<SqlKeep<FileStore<FileFrom<S>>>, Refused<FileFrom<S>>>
+    ensures opened { IfOk result (IsOpenedFor over_files site.now absent
+        (FilesHeld (image_at S.Start))) }
+    ensures taken { IfOk result (IsTakenFrom (image_at S.Start) site.now) }
+    ensures refused { IfErr result (IsRefusal ⟦<FileFrom<S> as Disk>⟧ (image_at S.Start) absent
+        site.now path.now) }
+{
+    match Connection::open_from(rt, path, false, start) {
+        Ok(conn) => match prepare_or_hand_back(alloc, conn, site, absent) {
+            Ok(keep) => Ok(keep),
+            Err((fault, conn)) => Err(Refused {
+                fault,
+                files: Some(close(conn)),
+            }),
+        },
+        Err((_, Some(left))) => Err(Refused {
+            fault: OpenFault::Failed,
+            files: Some(left.into_files()),
+        }),
+        Err((_, None)) => Err(Refused {
+            fault: OpenFault::Failed,
+            files: None,
+        }),
+    }
+}
+
 /// Opens the store of a site: the database in the file at this path, with the log beside it in
 /// `<path>-wal`. Where there is no such file, or one of no bytes, `absent` says whether one is made
 /// (`make_store_file`), before it is opened. An empty database gets the tables of the office and the
@@ -151,25 +185,9 @@ pub fn open_or_hand_back<S: Start>(
     ensures unnamed { NamesNoFile path.now
         → IsErrAnd result (λ e. e.fault ≡ OpenFault.Failed) }
 {
-    if let Err(fault) = prepare_file(rt, alloc, path, absent) {
-        return Err(Refused { fault, files: None });
-    }
-    match Connection::open_from(rt, path, false, start) {
-        Ok(conn) => match prepare_or_hand_back(alloc, conn, site, absent) {
-            Ok(keep) => Ok(keep),
-            Err((fault, conn)) => Err(Refused {
-                fault,
-                files: Some(close(conn)),
-            }),
-        },
-        Err((_, Some(left))) => Err(Refused {
-            fault: OpenFault::Failed,
-            files: Some(left.into_files()),
-        }),
-        Err((_, None)) => Err(Refused {
-            fault: OpenFault::Failed,
-            files: None,
-        }),
+    match prepare_file(rt, alloc, path, absent) {
+        Ok(()) => open_file(rt, alloc, path, start, site, absent),
+        Err(fault) => Err(Refused { fault, files: None }),
     }
 }
 
