@@ -1,9 +1,10 @@
 """Cuts the power between any two calls that a run makes on its store's files, and compares what the program makes of
 what is left with an undisturbed run.
 
-The run is the life of a chip of docs/tutorial/first-chip.md over a new store, `replay --db`: where nothing is, or over a
-file of no bytes. strace records its calls on the store's file, on the file as which it is made (`STORE-new`) and on the log beside it, with their bytes, and each
-reply that is written. A cut is between two of these calls, each place in its turn, and leaves of each file for itself:
+The run is the life of a chip of docs/tutorial/first-chip.md over a new store, `replay --db`: where nothing is, or over
+a file of no bytes. strace records its calls on the store's file, on the file as which it is made (`STORE-new`) and on
+the log beside it, with their bytes, and each reply that is written. A cut is between two of these calls, each place in
+its turn, and leaves of each file for itself:
 
 - what it held when a sync of it last came back;
 - of each later write nothing, all, a front, any bytes, or any of the sectors of 512 bytes, each byte below the old end
