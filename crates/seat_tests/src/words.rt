@@ -1,12 +1,12 @@
 //! What a station does and what it is then, in words.
 
 use seat_core::{Act, Outcome, Place, Station, Trouble};
-use std::alloc::Global;
-use std::fmt::{self, Write};
+use std::alloc::{AllocError, Global};
+use std::fmt::Write;
 use std::test::Fail;
 
 /// Tells what became of a request.
-fn tell_outcome(told: &mut String, outcome: Outcome) -> fmt::Result {
+fn tell_outcome(told: &mut String, outcome: Outcome) -> Result<(), AllocError> {
     match outcome {
         Outcome::Done(reply) => write!(told, " done {reply}"),
         Outcome::NotDone(no) => write!(told, " not {no}"),
@@ -14,7 +14,7 @@ fn tell_outcome(told: &mut String, outcome: Outcome) -> fmt::Result {
 }
 
 /// Tells what is shown to a person.
-fn tell_trouble(told: &mut String, trouble: Trouble) -> fmt::Result {
+fn tell_trouble(told: &mut String, trouble: Trouble) -> Result<(), AllocError> {
     match trouble {
         Trouble::Waits => write!(told, "show waits"),
         Trouble::Unsure(no) => write!(told, "show unsure {no}"),
@@ -25,7 +25,7 @@ fn tell_trouble(told: &mut String, trouble: Trouble) -> fmt::Result {
 }
 
 /// Tells an act.
-pub fn tell_act(told: &mut String, act: Act) -> fmt::Result {
+pub fn tell_act(told: &mut String, act: Act) -> Result<(), AllocError> {
     match act {
         Act::LogRequest(sent) => write!(told, "log {} {}", sent.number, sent.request),
         Act::LogOutcome(number, outcome) => {
@@ -58,7 +58,7 @@ pub fn acts_words(alloc: Global, acts: &[Act]) -> Result<String, Fail> {
 }
 
 /// Tells where a seat's requests stand.
-fn tell_place(told: &mut String, place: Place) -> fmt::Result {
+fn tell_place(told: &mut String, place: Place) -> Result<(), AllocError> {
     match place {
         Place::Unknown => write!(told, "unknown"),
         Place::Free(number) => write!(told, "free {number}"),
