@@ -5,4 +5,5 @@ pub mod Starts
 pub mod Replies
 pub mod Refusals
 pub mod Events
+pub mod Safety
 pub mod Prelude

@@ -5,3 +5,4 @@ pub use Rattle.seat_core.specs.Starts.{started, wanted, looked, numbered}
 pub use Rattle.seat_core.specs.Replies.{untried_request, missed, given_up, done, found, accepted}
 pub use Rattle.seat_core.specs.Refusals.{let_go, stopped, try_kept, refused_once, refused_again, refused_kept, refused}
 pub use Rattle.seat_core.specs.Events.{step_of}
+pub use Rattle.seat_core.specs.Safety.{IsAside, IsSafe, MaySend, sent_in, writes, writes_first}

@@ -10,17 +10,22 @@
 //! The definitions are those of the page on the API, "The protocol of a seat" and "A late copy".
 //! What is stated there of a person's work (a lost file, an older copy) is no event here: it is
 //! another file.
+//!
+//! A law over the definitions alone, `what_is_sent_is_written`: whatever befalls a station, nothing is
+//! sent that its file doesn't have by then, with the same number.
 #![tactic(auto)]
 
 mod act;
 mod aside;
 mod event;
+mod laws;
 mod request;
 mod station;
 
 pub use act::{Act, Acts, MOST_ACTS, Trouble};
 pub use aside::{KeptAside, MOST_ASIDE};
 pub use event::Event;
+pub use laws::what_is_sent_is_written;
 pub use request::{Answered, Outcome, Sent, Stop};
 pub use station::{
     GREATEST_NUMBER, OTHER_BODY, Place, SeatFile, Station, UNKEPT, WRONG_NUMBER, Waiting,
