@@ -6,3 +6,4 @@ pub use Rattle.seat_core.specs.Replies.{untried_request, missed, given_up, done,
 pub use Rattle.seat_core.specs.Refusals.{let_go, stopped, try_kept, refused_once, refused_again, refused_kept, refused}
 pub use Rattle.seat_core.specs.Events.{step_of}
 pub use Rattle.seat_core.specs.Safety.{IsAside, IsSafe, MaySend, sent_in, writes, writes_first}
+pub use Rattle.seat_core.specs.Refused.{IsSure, is_sure, number_of, with_request}

@@ -1,5 +1,5 @@
 -- A reply came, or none (the API's page, "The protocol of a seat" and "A late copy").
-use Rattle.std.specs.Prelude.{ℕ, ◌-◌, Bool, List, [], ◌∷◌, length, Option, None, Some, slice_get}
+use Rattle.std.specs.Prelude.{ℕ, ◌-◌, List, [], ◌∷◌, length, Option, None, Some, slice_get}
 use Rattle.seat_core.specs.declared.act.Act.TheVariants.{Write, LogRequest, LogOutcome, Pause, Send, AskNumber, Tell, Show}
 use Rattle.seat_core.specs.declared.act.Trouble.TheVariants.{LateCopy, Waits}
 use Rattle.seat_core.specs.declared.request.Outcome.TheVariants.{Done, NotDone}

@@ -1,5 +1,5 @@
 -- What a step of a station is.
-use Rattle.std.specs.Prelude.{◌≡◌, ℕ, ◌+◌, nat_le, if◌then◌else◌, List, [], Option, None}
+use Rattle.std.specs.Prelude.{◌≡◌, ℕ, ◌+◌, nat_le, if◌then◌else◌, List, [], None}
 use Rattle.seat_core.specs.declared.act.Act.{Act}
 use Rattle.seat_core.specs.declared.station.Place.TheVariants.{Unknown}
 use Rattle.seat_core.specs.declared.station.Station.{Station}

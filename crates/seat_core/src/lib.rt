@@ -11,8 +11,13 @@
 //! What is stated there of a person's work (a lost file, an older copy) is no event here: it is
 //! another file.
 //!
-//! A law over the definitions alone, `what_is_sent_is_written`: whatever befalls a station, nothing is
-//! sent that its file doesn't have by then, with the same number.
+//! Laws over the definitions alone:
+//!
+//! - `what_is_sent_is_written`: whatever befalls a station, nothing is sent that its file doesn't have
+//!   by then, with the same number.
+//! - `a_refusal_takes_no_number`: behind a refusal the number is the same. A request that may have
+//!   been sent before is still under way or kept aside, and is in the log as not done only where the
+//!   refusal says so.
 #![tactic(auto)]
 
 mod act;
@@ -25,7 +30,7 @@ mod station;
 pub use act::{Act, Acts, MOST_ACTS, Trouble};
 pub use aside::{KeptAside, MOST_ASIDE};
 pub use event::Event;
-pub use laws::what_is_sent_is_written;
+pub use laws::{a_refusal_takes_no_number, what_is_sent_is_written};
 pub use request::{Answered, Outcome, Sent, Stop};
 pub use station::{
     GREATEST_NUMBER, OTHER_BODY, Place, SeatFile, Station, UNKEPT, WRONG_NUMBER, Waiting,
