@@ -1,9 +1,10 @@
 """Cuts the power between any two calls that a run makes on its store's files, and compares what the program makes of
 what is left with an undisturbed run.
 
-The run is the life of a chip of docs/first-chip.md over a new store, `replay --db`. strace records its calls
-on the store's file, on the file as which it is made (`STORE-new`) and on the log beside it, with their bytes, and each
-reply that is written. A cut is between two of these calls, each place in its turn, and leaves of each file for itself:
+The run is the life of a chip of docs/first-chip.md over a new store, `replay --db`: where nothing is, or over
+a file of no bytes. strace records its calls on the store's file, on the file as which it is made (`STORE-new`) and on
+the log beside it, with their bytes, and each reply that is written. A cut is between two of these calls, each place in
+its turn, and leaves of each file for itself:
 
 - what it held when a sync of it last came back;
 - of each later write nothing, all, a front, any bytes, or any of the sectors of 512 bytes, each byte below the old end
@@ -18,8 +19,8 @@ which it made or renamed has its name once it has synced the folder. It renames 
 removes none: a call on the files that isn't known here is an error.
 
 The file of a new store has to be the page of an empty database as C's SQLite makes it, but for the number of SQLite's
-release in its header. A cut has to leave no file of that name, or this page whole, until something else is written into
-it; and behind each run nothing has the name `STORE-new`.
+release in its header. A cut has to leave at that name what was there before, or this page whole, until something else
+is written into it; and behind each run nothing has the name `STORE-new`.
 
 Of what is left the program has to show, and to keep as rows (read with sqlite3 from a copy), the books before the
 request that the cut took the reply of, or those after it: so every request whose reply was written is there. From the
@@ -168,12 +169,13 @@ def hex_of(path):
 @dataclass
 class File:
     """One of the files: whether it is there, and what it may be called on the disk in place of its name, where the
-    empty name is none; what a sync saw of it, and the calls since."""
+    empty name is none; what a sync saw of it, and the calls since; and what had its name before it, if anything did."""
 
     is_there: bool = False
     others: list = field(default_factory=list)
     kept: bytes = b""
     later: list = field(default_factory=list)
+    before: bytes | None = None
 
     def sync(self):
         for call in self.later:
@@ -190,8 +192,9 @@ def files_after(image, calls, are_syncs_ignored):
         if call.name == "made":
             files[call.file].is_there, files[call.file].others = True, [""]
         elif call.name == "renamed":
-            files["file"], files["new"] = files["new"], File()
+            before, files["file"], files["new"] = files["file"], files["new"], File()
             files["file"].others.append("new")
+            files["file"].before = before.kept if before.is_there else None
         elif call.name == "folder":
             for each in files.values():
                 each.others = []
@@ -215,6 +218,8 @@ class Chance:
             found = self.random.choice([name, *file.others]) if file.is_there else ""
             if found:
                 left[found] = self.contents(file)
+            if file.before is not None and name not in left:
+                left[name] = file.before
         return left
 
     def contents(self, file):
@@ -287,16 +292,19 @@ class Bench:
         self.program, self.folder, self.seed, self.kept = program, Path(folder), seed, kept
         self.are_syncs_ignored = are_syncs_ignored
         self.run = undisturbed(program, folder)
-        self.calls = self.going_on({}, 0, self.folder / "calls", True)
-        self.page = self.made()
+        images = {"missing": {}, "empty": {"file": b""}}
+        self.starts = [(image, self.going_on(image, 0, self.folder / name, True)) for name, image in images.items()]
+        self.page = self.made(self.starts[0][1])
+        if self.made(self.starts[1][1]) != self.page:
+            raise Failed("a missing file and one of no bytes become other stores")
 
-    def made(self):
-        """The page as which the store is made, which has to be SQLite's."""
-        names = [call.name for call in self.calls]
+    def made(self, calls):
+        """The page as which the store is made by these calls, which has to be SQLite's."""
+        names = [call.name for call in calls]
         if "renamed" not in names:
             raise Failed("the store's file isn't renamed")
-        calls = self.calls[: names.index("renamed")]
-        page = b"".join(call.data for call in calls if call.name == "write" and call.file == "new")
+        made = calls[: names.index("renamed")]
+        page = b"".join(call.data for call in made if call.name == "write" and call.file == "new")
         if without_release(page) != without_release(empty_page(len(page))):
             raise Failed("the page of a new store isn't that of SQLite")
         return page
@@ -311,9 +319,10 @@ class Bench:
         return path
 
     def look_whole(self, before, calls, image):
-        """What was made, and isn't written into since, has to be the page where it is there."""
+        """What was made, and isn't written into since, has to be the page, or what was there."""
         is_written = any(call.name == "write" and call.file == "file" for call in calls)
-        if "file" not in before and not is_written and image.get("file", self.page) != self.page:
+        goods = (self.page, before.get("file", self.page))
+        if not before.get("file") and not is_written and image.get("file", self.page) not in goods:
             raise Wrong("half made", f"the store has {len(image['file'])} bytes, which aren't the page")
 
     def looked(self, image, least, most, folder):
@@ -365,7 +374,7 @@ class Bench:
     def cut(self, number):
         """Makes a cut, and perhaps others after it. Returns what they left, and what was wrong."""
         chance = Chance(f"{self.seed} {number}")
-        image, calls, answered, least, told = {}, self.calls, 0, 0, []
+        (image, calls), answered, least, told = chance.random.choice(self.starts), 0, 0, []
         place = number % (len(calls) + 1)
         while True:
             files = files_after(image, calls[:place], self.are_syncs_ignored)
@@ -439,7 +448,7 @@ def test_cuts(program, folder, tmp_path, size, seed, is_written):
     assert wrong[:20] == []
     assert counts["before"] and counts["after"] and counts["more"]
     line = (
-        f"{size} runs cut at {len(bench.calls) + 1} places, {counts['more']} of them again after it, "
+        f"{size} runs cut at {len(bench.starts[0][1]) + 1} places, {counts['more']} of them again after it, "
         f"{counts['all']} cuts: {counts['before']} left the books before the request, {counts['after']} after it; "
         f"{len(wrong)} wrong; seed {seed}"
     )

@@ -17,8 +17,9 @@ loader's own. What is refused:
     killed store    opening a store whose program was killed behind the whole life, so that it stands in the log
     schema 1, 2     opening one with these rows of an earlier schema, which is upgraded
     grown site      opening the full store with a site that has one customer more, which it takes
-    making          each call of the system by which the file of a new store is made: a folder or a file that can't be
-                    written, a full disk, a lock, a sync and a renaming that fail (by strace, which injects the error)
+    making          each call of the system by which the file of a new store is made, where there is none or one of no
+                    bytes: a folder or a file that can't be written, a full disk, a lock, a sync and a renaming that
+                    fail (by strace, which injects the error)
 
 Each run has to end with status 0 and nothing on standard error, or, before its first reply, with status 1 and
 `station: no memory` or, over a store, `station: store fault 3`. Each reply is that of the undisturbed run or a 503,
@@ -36,8 +37,8 @@ store are read: they have to be those of the undisturbed run.
 Right behind a start that was refused its rows are read in the same way. They have to be those of before it, or, where
 the store is made, upgraded or grown, those of behind it, whole. The next start has to leave those of behind it, and
 has to show the books of an undisturbed one; a map or a site that was refused is read again. A making that was refused
-ends with `station: store fault 3`, and leaves no file of the store's name until the renaming is done, and behind it an
-empty database; nothing has the name `STORE-new` behind the next start.
+ends with `station: store fault 3`. It leaves what was there until the renaming is done, and behind it an empty
+database; nothing has the name `STORE-new` behind the next start.
 
 With --write and -k 'not 97' the row of docs/proof/tried.md says what was found.
 """
@@ -82,6 +83,7 @@ MAKING = {
     "openat": "EACCES",
     "statx": "EACCES",
     "flock": "ENOLCK",
+    "fcntl": "EAGAIN",
     "fchmod": "EPERM",
     "ftruncate": "EIO",
     "write": "ENOSPC",
@@ -144,6 +146,14 @@ def copied(file, folder):
     for old, new in zip(store_at(file) if file else [], store_at(path)):
         if old.exists():
             shutil.copy(old, new)
+    return path
+
+
+def new_place(folder, is_empty):
+    """The place of a store that is to be made, at which nothing is or a file of no bytes."""
+    path = copied(None, folder)
+    if is_empty:
+        path.touch()
     return path
 
 
@@ -254,33 +264,35 @@ class Bench:
             return outcome
         return f"{outcome} with the rows {'of before' if rows == opening.before else 'of behind'}"
 
-    def make_refused(self, call, opening):
-        """What came of the making of a store to which one call of the system is refused."""
+    def make_refused(self, call, opening, is_empty):
+        """What came of a making, over an empty file or none, to which one call of the system is refused."""
         name, number, is_named = call
         with tempfile.TemporaryDirectory(dir=self.folder) as folder:
-            path = copied(None, folder)
+            path = new_place(folder, is_empty)
             words = replay_words(self.program, path)
             inject = f"inject={name}:error={MAKING[name]}:when={number}"
             disturbed = [*STRACE, "-o", f"{folder}/calls", "-e", f"trace={name}", "-e", inject, *words]
             outcome = alone(disturbed, None, SECONDS, {STORE_FAULT}, b"")
-            if outcome == DONE or path.exists() != is_named:
-                raise Failed(f"{outcome}, and {'a' if path.exists() else 'no'} file")
+            sizes = [path.stat().st_size] if path.exists() else []
+            if outcome == DONE or sizes != ([1024] if is_named else [0] * is_empty):
+                raise Failed(f"{outcome}, and files of {sizes} bytes")
             self.look(path, words, opening, outcome)
             if unfinished(path).exists():
                 raise Failed("behind the next start the file as which a store is made is there")
             return outcome
 
-    def refuse_making(self):
-        """Refuses each call of the system by which a new store's file is made. Returns how many there are."""
+    def refuse_making(self, is_empty):
+        """Refuses each call of the system by which a new store's file is made, over an empty file or none. Returns how
+        many there are."""
         with tempfile.TemporaryDirectory(dir=self.folder) as folder:
-            path, out = copied(None, folder), Path(folder) / "calls"
+            path, out = new_place(folder, is_empty), Path(folder) / "calls"
             trace = [*STRACE, "-o", str(out), "-e", f"trace={','.join(MAKING)}"]
             served([*trace, *replay_words(self.program, path)], b"", SECONDS)
             calls = making_calls(out.read_text(encoding="utf-8").splitlines(), path)
         opening = self.opening(None)
         for call in calls:
             try:
-                self.counts.outcomes[self.make_refused(call, opening)] += 1
+                self.counts.outcomes[self.make_refused(call, opening, is_empty)] += 1
             except (Failed, subprocess.TimeoutExpired) as failure:
                 self.counts.wrong.append(f"making, {call[0]} {call[1]}: {failure}")
         self.counts.targets += 1
@@ -435,6 +447,6 @@ def test_allocations(bench, target, every):
 
 def test_making(bench, is_written):
     """Behind all others, as it writes the row."""
-    expect_none_wrong(bench, bench.refuse_making())
-    if is_written and bench.counts.targets == len(TARGETS) + 1:
+    expect_none_wrong(bench, bench.refuse_making(is_empty=False) and bench.refuse_making(is_empty=True))
+    if is_written and bench.counts.targets == len(TARGETS) + 2:
         put_row("faults/test_refuse.py", f"-k 'not {FEW}'", bench.counts.line())

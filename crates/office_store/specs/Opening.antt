@@ -1,5 +1,5 @@
 -- What a store shows once it is opened, by what was there before, and why an opening is refused.
-use Rattle.std.specs.Prelude.{◌≡◌, ◌≢◌, ◌⊎◌, ℕ, false, List, [], ◌++◌, codes, IsTrue, Result, Ok, Err}
+use Rattle.std.specs.Prelude.{◌≡◌, ◌≢◌, ◌⊎◌, ℕ, false, List, IsTrue, Result, Ok, Err}
 use Rattle.site_core.specs.Prelude.{TextOfSite}
 use Rattle.sqlite.specs.Recovery.{Image}
 use Rattle.sqlite.specs.Tree.{Trees}
@@ -18,6 +18,7 @@ use Rattle.office_store.specs.declared.fault.OpenFault.TheVariants.{OtherTables,
 use Rattle.office_store.specs.declared.opening.Absent.{Absent}
 use Rattle.office_store.specs.declared.opening.Absent.TheVariants.{Refuse}
 use Rattle.office_store.specs.Adopting.{IsOtherSchema, IsPreparedFor, IsRefusedFor, IsTakenFor, IsUntouched}
+use Rattle.store_file.specs.Names.{NamesNoFile}
 use Rattle.store_inspection.specs.Meta.{IsOurs}
 use Rattle.office_store.specs.Kept.{Kept}
 use Rattle.office_store.specs.Stores.{IsTaken, LacksStore}
@@ -50,11 +51,6 @@ pub record IsOpenedFor {S : Type 0} (g : Ghosts S) (site : TextOfSite) (absent :
       → Was (λ before. ShowsOpening site absent before (state g keep.conn).now.trees)
   pub left : HasCleanDisk (state g keep.conn) → (db : Trees)
       → (state g keep.conn).may_leave db → db ≡ (state g keep.conn).now.trees
-
--- a path that is opened as no file
-abbrev pub NamesNoFile : List ℕ → Type 0
-NamesNoFile path =
-    (path ≡ []) ⊎ (path ≡ codes ":memory:") ⊎ ((rest : List ℕ) × (path ≡ codes "file:" ++ rest))
 
 -- Why a connection is handed back, and how: where it lacks a store, for other tables and as it was;
 -- else for what it shows, and for other tables where its schema is another. No committed row is changed,

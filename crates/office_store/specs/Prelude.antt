@@ -10,7 +10,7 @@ pub use Rattle.office_store.specs.Bringing.{Brings, CanBring, first_step_of, IsB
 pub use Rattle.office_store.specs.Making.{HasNothing, IsBegun, IsFresh}
 pub use Rattle.office_store.specs.Making.{new_meta}
 pub use Rattle.office_store.specs.Opening.{FilesHeld, HasTablesOf, IsFoundAndTurnedAway, IsFoundOver, IsOpenedFor, IsTakenFrom, IsTurnedAway}
-pub use Rattle.office_store.specs.Opening.{IsUnopened, NamesNoFile, ShowsOpening, TellsWhy}
+pub use Rattle.office_store.specs.Opening.{IsUnopened, ShowsOpening, TellsWhy}
 pub use Rattle.office_store.specs.Refusing.{AreTurnedAway, AreUnconnected, IsDatabaseThat, IsKept, IsRefusal, IsSameOrPrepared, IsSpared, IsToldFor, ReadAs}
 pub use Rattle.office_store.specs.Remaking.{AreKept, entry_row, HasFirstTables, IsCleared, IsSchemaBeforeV1, IsKeptBy, IsPutBack, IsRemade}
 pub use Rattle.office_store.specs.Remaking.{IsUnderWay, LooksAt, PutsBack, PutsKept, PutsRows, ReplacesRows, SeesBeforeV1}

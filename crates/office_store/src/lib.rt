@@ -51,7 +51,8 @@
 //! text which is held writes nothing.
 //!
 //! `open_or_hand_back` opens a file by `open_from` of the kit and tests what it found, without a
-//! second audit. Its keeper is as that record says, of what the files held (`opened`). It has the
+//! second audit. Where there is no file, or one of no bytes, it has that of a store made first, or
+//! refuses (`prepare_file`). What names no file is a failure (`unnamed`). Its keeper is as that record says, of what the files held (`opened`). It has the
 //! tables of the database that the files held, or none where they held none. They are without
 //! beginnings where that was of schema 1, and with addresses that are apart. The keeper is open and
 //! of this site, and holds its text, a growth of the one that the files held. They held a store of

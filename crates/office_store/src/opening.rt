@@ -1,5 +1,5 @@
 // A store in files.
-ghost use Rattle.std.specs.Prelude.{◌≡◌, ◌↔◌, false, codes, IsTrue, IfOk, IfErr, IsErrAnd};
+ghost use Rattle.std.specs.Prelude.{◌≡◌, ◌↔◌, IsTrue, IfOk, IfErr, IsErrAnd};
 ghost use Rattle.sqlite.specs.Files.{file_state, over_files, HoldsDatabase};
 ghost use Rattle.sqlite.specs.Recovery.{Image};
 ghost use Rattle.sqlite.specs.Tree.{Trees};
@@ -8,8 +8,8 @@ ghost use Rattle.sqlite.specs.State.{HasCleanDisk, Survives};
 ghost use Rattle.sqlite.specs.WalFiles.{image_at, outcomes};
 ghost use Rattle.sqlite.specs.WalReads.{AreClean};
 ghost use Rattle.office_store.specs.Prelude.{CanPrepareTables, FilesHeld, IsOpenedFor, IsPreparedFor, IsRefusal, IsTakenFrom, IsTurnedAway, LacksStore};
-ghost use Rattle.office_store.specs.Prelude.{NamesNoFile, TellsWhy};
-ghost use Rattle.office_store.specs.declared.opening.Absent.TheVariants.{Refuse};
+ghost use Rattle.office_store.specs.Prelude.{IsUnopened, TellsWhy};
+ghost use Rattle.store_file.specs.Names.{NamesNoFile};
 
 use crate::SqlKeep;
 use crate::adopting::prepare_tables;
@@ -20,6 +20,7 @@ use sqlite_disk::{Disk, Start};
 use std::alloc::Global;
 use std::fs;
 use std::io::ErrorKind;
+use store_file::{make_store_file, may_name_file};
 use store_inspection::is_empty_schema;
 
 /// What becomes of a path at which there is no store yet.
@@ -31,24 +32,35 @@ pub enum Absent {
     Refuse,
 }
 
-/// Whether a path may be the name of a file.
-fn may_name_file(path: &str) -> bool
-    ensures { NamesNoFile path.now → result ≡ false }
-{
-    !path.is_empty() && path != ":memory:" && !path.starts_with("file:")
-}
-
-/// Whether there is no file of this name, or one of no bytes, where no store is to be made.
-fn is_missing(rt: &HostRuntime, path: &str, absent: Absent) -> bool
-    ensures refuses { IsTrue result → absent ≡ Refuse }
-    ensures named { IsTrue result → ¬ NamesNoFile path.now }
-{
-    if matches!(absent, Absent::Make) || !may_name_file(path) {
-        return false;
-    }
+/// Whether there is no file of this name, or one of no bytes.
+fn is_missing(rt: &HostRuntime, path: &str) -> bool {
     match fs::metadata(rt, path) {
         Ok(file) => file.is_file() && file.len() == 0,
         Err(error) => error.kind() == ErrorKind::NotFound,
+    }
+}
+
+/// What comes before a path is opened: where there is no file, or one of no bytes, that of a store is
+/// made, or the path is refused where none is to be made. A path that names no file is refused.
+fn prepare_file(
+    rt: &HostRuntime,
+    alloc: Global,
+    path: &str,
+    absent: Absent,
+) -> Result<(), OpenFault>
+    ensures refused { IfErr result (IsUnopened path.now absent) }
+    ensures unnamed { NamesNoFile path.now → result ≡ Err OpenFault.Failed }
+{
+    if !may_name_file(path) {
+        return Err(OpenFault::Failed);
+    }
+    match absent {
+        Absent::Make => match make_store_file(rt, alloc, path) {
+            Ok(()) => Ok(()),
+            Err(_) => Err(OpenFault::Failed),
+        },
+        Absent::Refuse if is_missing(rt, path) => Err(OpenFault::OtherTables),
+        Absent::Refuse => Ok(()),
     }
 }
 
@@ -104,26 +116,8 @@ fn close<D: Disk + Drop>(conn: Connection<FileStore<D>>) -> Files<D>
     conn.into_store().close()
 }
 
-/// Opens the store of a site: the database in the file at this path, with the log beside it in
-/// `<path>-wal`. Where there are no such files it makes them. An empty database gets the tables of
-/// the office and the site's text. One of an earlier version must be of this text, and gets what it
-/// lacks. One of this version holds the text of a site of which this one must be a growth, and then
-/// holds this text. Where there is no store, `absent` says whether one is made.
-///
-/// `start` stands for what the files held before, of which the clauses speak. It also says how a
-/// crash is read. A program passes `Unknown`, which supposes that a torn write leaves each byte old
-/// or new, or `Wary`, which supposes less.
-///
-/// # Errors
-///
-/// - `OtherSite` where the database is another site's.
-/// - `OtherTables` where its tables aren't the office's, or where there is no store and none is to
-///   be made.
-/// - `Failed` where a file can't be opened, read or written, where the path is empty, is `:memory:`
-///   or begins with `file:`, and where there is no memory.
-///
-/// The files come back closed, where they were opened, and hold each row that was committed.
-pub fn open_or_hand_back<S: Start>(
+/// Opens the store of a site in the file at this path, for which what comes before was done.
+fn open_file<S: Start>(
     rt: &HostRuntime,
     alloc: Global,
     path: &str,
@@ -136,15 +130,7 @@ pub fn open_or_hand_back<S: Start>(
     ensures taken { IfOk result (IsTakenFrom (image_at S.Start) site.now) }
     ensures refused { IfErr result (IsRefusal ⟦<FileFrom<S> as Disk>⟧ (image_at S.Start) absent
         site.now path.now) }
-    ensures memory { path.now ≡ codes ":memory:"
-        → IsErrAnd result (λ e. e.fault ≡ OpenFault.Failed) }
 {
-    if is_missing(rt, path, absent) {
-        return Err(Refused {
-            fault: OpenFault::OtherTables,
-            files: None,
-        });
-    }
     match Connection::open_from(rt, path, false, start) {
         Ok(conn) => match prepare_or_hand_back(alloc, conn, site, absent) {
             Ok(keep) => Ok(keep),
@@ -161,6 +147,47 @@ pub fn open_or_hand_back<S: Start>(
             fault: OpenFault::Failed,
             files: None,
         }),
+    }
+}
+
+/// Opens the store of a site: the database in the file at this path, with the log beside it in
+/// `<path>-wal`. Where there is no such file, or one of no bytes, `absent` says whether one is made
+/// (`make_store_file`), before it is opened. An empty database gets the tables of the office and the
+/// site's text. One of an earlier version must be of this text, and gets what it lacks. One of this
+/// version holds the text of a site of which this one must be a growth, and then holds this text.
+///
+/// `start` stands for what the files held as they were opened, of which the clauses speak. It also says how a
+/// crash is read. A program passes `Unknown`, which supposes that a torn write leaves each byte old
+/// or new, or `Wary`, which supposes less.
+///
+/// # Errors
+///
+/// - `OtherSite` where the database is another site's.
+/// - `OtherTables` where its tables aren't the office's, or where there is no store and none is to
+///   be made.
+/// - `Failed` where a file can't be made, opened, read or written, where the path is empty, is
+///   `:memory:` or begins with `file:`, and where there is no memory.
+///
+/// The files come back closed, where they were opened, and hold each row that was committed.
+pub fn open_or_hand_back<S: Start>(
+    rt: &HostRuntime,
+    alloc: Global,
+    path: &str,
+    start: S,
+    site: &SiteText,
+    absent: Absent,
+) -> Result<SqlKeep<FileStore<FileFrom<S>>>, Refused<FileFrom<S>>>
+    ensures opened { IfOk result (IsOpenedFor over_files site.now absent
+        (FilesHeld (image_at S.Start))) }
+    ensures taken { IfOk result (IsTakenFrom (image_at S.Start) site.now) }
+    ensures refused { IfErr result (IsRefusal ⟦<FileFrom<S> as Disk>⟧ (image_at S.Start) absent
+        site.now path.now) }
+    ensures unnamed { NamesNoFile path.now
+        → IsErrAnd result (λ e. e.fault ≡ OpenFault.Failed) }
+{
+    match prepare_file(rt, alloc, path, absent) {
+        Ok(()) => open_file(rt, alloc, path, start, site, absent),
+        Err(fault) => Err(Refused { fault, files: None }),
     }
 }
 
@@ -182,7 +209,7 @@ pub fn open<S: Start>(
         (FilesHeld (image_at S.Start))) }
     ensures taken { IfOk result (IsTakenFrom (image_at S.Start) site.now) }
     ensures refused { TellsWhy (image_at S.Start) path.now absent site.now result }
-    ensures memory { path.now ≡ codes ":memory:" → result ≡ Err OpenFault.Failed }
+    ensures unnamed { NamesNoFile path.now → result ≡ Err OpenFault.Failed }
 {
     match open_or_hand_back(rt, alloc, path, start, site, absent) {
         Ok(keep) => Ok(keep),

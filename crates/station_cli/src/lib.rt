@@ -55,10 +55,6 @@
 //! request was read already (`is_turn_over`); the program's bounds are its numbers (`AreOfProgram`).
 //! What is done where accepting a connection fails is one too (`next_accept`).
 //!
-//! Where a store is wanted that isn't there, its file is made before it is opened, as the page of an
-//! empty database (`make_store_file`). No clause says what the system's calls do; the clauses over a
-//! store's files begin where it is opened, by what the file holds then.
-//!
 //! No clause says these:
 //!
 //! - That each connection that was given is served and not dropped, and when. Tests show both, over
@@ -74,12 +70,10 @@ mod duplex;
 mod ends;
 mod failure;
 mod file_text;
-mod first_page;
 mod job;
 mod lives;
 mod map_file;
 mod patience;
-mod private;
 mod reporting;
 mod running;
 mod serving;
@@ -91,11 +85,9 @@ mod telling;
 pub use arrivals::ConnectionCount;
 pub use duplex::Duplex;
 pub use failure::Failure;
-pub use first_page::{PAGE_BYTES, empty_database};
 pub use job::{Job, StoreName, VERSION, WordsFault, job_from_env, read_job};
 pub use lives::{later_starts_are_of_growths, replays_are_starts, served_files_have_lives};
 pub use patience::Bounds;
-pub use private::make_store_file;
 pub use reporting::report;
 pub use running::{Finished, run};
 pub use serving::{listen, serve_connections};

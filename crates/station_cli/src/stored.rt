@@ -8,7 +8,6 @@ ghost use Rattle.station_api.specs.Prelude.{ServesOver};
 
 use crate::failure::Failure;
 use crate::job::StoreName;
-use crate::private::make_store_file;
 use crate::site_file::site_of_file;
 use office_core::Keep;
 use office_store::{Absent, Closed, OpenFault, Refused, SqlKeep, close, open_or_hand_back};
@@ -168,9 +167,8 @@ impl<'a, S: Drop> StoreFile<'a, S> {
     }
 }
 
-/// Opens the store of a site, with the limit of steps for each statement. Where there is none and one
-/// is to be made, its file is made first, as an empty database; where that fails nothing is opened,
-/// and the fault is `Failed`. A fault comes with what is left of the files.
+/// Opens the store of a site, with the limit of steps for each statement. A fault comes with what is left
+/// of the files.
 pub fn open_limited<S: Start>(
     rt: &HostRuntime,
     alloc: Global,
@@ -186,12 +184,6 @@ pub fn open_limited<S: Start>(
         absent,
         start,
     } = store;
-    if matches!(absent, Absent::Make) && make_store_file(rt, alloc, name).is_err() {
-        return Err(Refused {
-            fault: OpenFault::Failed,
-            files: None,
-        });
-    }
     match open_or_hand_back(rt, alloc, name, start, site, absent) {
         Ok(mut keep) => {
             keep.set_steps(STATEMENT_STEPS);

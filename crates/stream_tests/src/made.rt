@@ -3,12 +3,13 @@
 use crate::names::make_empty_folder;
 use crate::refused::all_rows_in;
 use crate::serving::done_by;
-use station_cli::{PAGE_BYTES, empty_database, make_store_file};
 use std::alloc::Global;
-use std::fs;
+use std::fs::{self, Permissions};
 use std::os::unix::fs::PermissionsExt;
 use std::test::Fail;
+use store_file::PAGE_BYTES;
 use test_fixtures::samples::SITE;
+use test_fixtures::streams::ORDER;
 
 /// What is found where a store was made over no request.
 const MADE: &str = "0 : pages of 1024, mode 600, 2 files";
@@ -33,11 +34,14 @@ const BESIDE: &[(&str, &str, usize, &str, &str)] = &[
     ("made_unwanted_log", "-wal", 41, "--existing", NOT_WANTED),
 ];
 
-/// Names at which no file can be made: in no folder, in a file, and in a folder that takes none.
-const NO_PLACES: &[&str] = &["made_no/such/file", "made_nowhere.toml/file", "/proc/file"];
-
-/// Paths that are opened as no file.
-const NO_FILES: &[&str] = &["", ":memory:", "file:made_by_uri.db"];
+/// Names at which no file can be made: in no folder, in a file, and in a folder that takes none; and what names no file.
+const NO_PLACES: &[&str] = &[
+    "made_no/such/file",
+    "made_nowhere.toml/file",
+    "/proc/file",
+    ":memory:",
+    "file:made_by_uri.db",
+];
 
 /// How many bytes a page of a database has, by its header.
 fn page_bytes(rt: &HostRuntime, name: &str) -> Result<u16, Fail> {
@@ -95,16 +99,38 @@ fn a_store_is_made_past_what_a_crash_left_alone(rt: HostRuntime) -> Result<(), F
     Ok(())
 }
 
-/// A database that the kit made has its pages, and so has the one that it makes of a file of no bytes.
+/// A database that the kit made has its pages.
 #[test]
 fn a_file_that_is_there_keeps_its_pages(rt: HostRuntime) -> Result<(), Fail> {
     fs::write(&rt, "made_kept.toml", SITE)?;
     all_rows_in(&rt, "made_bare.db", "")?;
-    fs::write(&rt, "made_empty.db", "")?;
-    for name in ["made_bare.db", "made_empty.db"] {
-        let told = told_over(&rt, rt.alloc(), name)?;
-        assert_eq!(rt; told.as_str(), "0 : pages of 4096, left: false", "{name}");
-    }
+    let told = told_over(&rt, rt.alloc(), "made_bare.db")?;
+    assert_eq!(rt; told.as_str(), "0 : pages of 4096, left: false");
+    Ok(())
+}
+
+/// Has an order made over a store: its file then, and what is found in its folder.
+fn ordered_in(rt: &HostRuntime, folder: &str) -> Result<(Vec<u8>, String), Fail> {
+    let alloc = rt.alloc();
+    let name = format!(in alloc; "{folder}/s")?;
+    let words = format!(in alloc; "replay --site made_same.toml --db {}", name.as_str())?;
+    drop(done_by(rt, alloc, words.as_str(), ORDER)?);
+    let found = found_in(rt, folder, name.as_str())?;
+    Ok((fs::read(rt, name.as_str())?, found))
+}
+
+#[test]
+fn a_missing_file_and_an_empty_one_become_the_same_store(rt: HostRuntime) -> Result<(), Fail> {
+    fs::write(&rt, "made_same.toml", SITE)?;
+    make_empty_folder(&rt, "made_missing")?;
+    make_empty_folder(&rt, "made_empty")?;
+    fs::write(&rt, "made_empty/s", "")?;
+    fs::set_permissions(&rt, "made_empty/s", Permissions::from_mode(0o644))?;
+    let (of_missing, found_missing) = ordered_in(&rt, "made_missing")?;
+    let (of_empty, found_empty) = ordered_in(&rt, "made_empty")?;
+    assert_eq!(rt; of_missing.as_slice() == of_empty.as_slice(), true);
+    assert_eq!(rt; found_missing.as_str(), "pages of 1024, mode 600, 2 files");
+    assert_eq!(rt; found_empty.as_str(), found_missing.as_str());
     Ok(())
 }
 
@@ -115,35 +141,7 @@ fn where_no_file_can_be_made_the_fault_is_told(rt: HostRuntime) -> Result<(), Fa
         let words = format!(in rt.alloc(); "replay --site made_nowhere.toml --db {name}")?;
         let done = done_by(&rt, rt.alloc(), words.as_str(), "")?;
         assert_eq!(rt; done.as_str(), "1 station: store fault 3\n", "{name}");
-    }
-    Ok(())
-}
-
-/// The file has the page of an empty database before it is opened; what is there then isn't made again.
-#[test]
-fn the_file_is_the_page_of_an_empty_database(rt: HostRuntime) -> Result<(), Fail> {
-    let alloc = rt.alloc();
-    make_empty_folder(&rt, "made_page")?;
-    make_store_file(&rt, alloc, "made_page/s")?;
-    let bytes = fs::read(&rt, "made_page/s")?;
-    assert_eq!(rt; bytes.as_slice() == empty_database().as_slice(), true);
-    let found = found_in(&rt, "made_page", "made_page/s")?;
-    assert_eq!(rt; found.as_str(), "pages of 1024, mode 600, 1 files");
-    fs::write(&rt, "made_page/s", "x")?;
-    make_store_file(&rt, alloc, "made_page/s")?;
-    let kept = fs::read(&rt, "made_page/s")?;
-    assert_eq!(rt; kept.as_slice() == b"x".as_slice(), true);
-    Ok(())
-}
-
-#[test]
-fn nothing_is_made_for_what_is_opened_as_no_file(rt: HostRuntime) -> Result<(), Fail> {
-    for &path in NO_FILES {
-        make_store_file(&rt, rt.alloc(), path)?;
-        let unfinished = format!(in rt.alloc(); "{path}-new")?;
-        let is_there = !path.is_empty() && fs::exists(&rt, path)?;
-        let is_left = fs::exists(&rt, unfinished.as_str())?;
-        assert_eq!(rt; is_there || is_left, false, "{path}");
+        assert!(rt; !fs::exists(&rt, *name).unwrap_or(false), "{name}");
     }
     Ok(())
 }

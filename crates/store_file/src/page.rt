@@ -1,5 +1,6 @@
 //! The page that an empty database is (SQLite's file format, sections 1.3 and 1.6).
-ghost use Rattle.std.specs.Prelude.{◌≡◌, ◌*◌, ◌+◌, All, drop, slice_index, take};
+ghost use Rattle.std.specs.Prelude.{◌≡◌, ◌*◌, ◌+◌, slice_index};
+ghost use Rattle.store_file.specs.Page.{IsPage};
 ghost use Rattle.sqlite_pool.specs.Header.{IsHeader, first_trunk, free_count, stated_page_count};
 
 /// How many bytes a page of a new store has: a power of two from 512 to 32,768. A store that is there keeps the
@@ -28,8 +29,7 @@ const HEAD: [u8; HEAD_BYTES] = [
 
 /// The page of an empty database, which is the whole file.
 pub fn empty_database() -> [u8; PAGE_BYTES]
-    ensures head { take HEAD_BYTES result ≡ HEAD }
-    ensures zeros { All (λ byte. byte ≡ 0) (drop HEAD_BYTES result) }
+    ensures page { IsPage result }
 
     // The kit's store can keep a file with this header, of one page and no free one.
     ensures header { IsHeader PAGE_BYTES HEAD }

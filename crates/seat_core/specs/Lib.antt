@@ -1,0 +1,10 @@
+-- The definitions that the contracts of this crate cite.
+pub mod Aside
+pub mod Steps
+pub mod Starts
+pub mod Replies
+pub mod Refusals
+pub mod Events
+pub mod Safety
+pub mod Refused
+pub mod Prelude

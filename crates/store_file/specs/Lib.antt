@@ -1,0 +1,4 @@
+-- What the contracts of this crate are made of.
+pub mod Names
+pub mod Page
+pub mod Stages
