@@ -136,10 +136,13 @@ def test_journals_that_begin_later(folder, program):
 
 
 def accepted(folder):
-    """Each accepted request of the plant: its file, its number, and its chip."""
+    """Each accepted request of the plant: its file, its number, and what its page names without it. The import of a2
+    changed nothing."""
     for file in sorted(folder.glob("*/*.journal")):
-        lines = [json.loads(it) for it in file.read_text().splitlines()]
-        yield from ((file, asked["asked"]["nr"], asked["asked"].get("chip")) for asked in lines if "asked" in asked)
+        for line in (it for it in map(json.loads, file.read_text().splitlines()) if "asked" in it):
+            chip, is_idle = line["asked"].get("chip"), (file.stem, line["path"]) == ("a2", "/v1/import")
+            told = f"; its chips {chip} weren't asked for." if chip else "." if is_idle else "; the store alone has "
+            yield file, line["asked"]["nr"], told
 
 
 def without(file, number):
@@ -151,13 +154,12 @@ def without(file, number):
 def test_each_line_that_may_be_gone(folder, program, tmp_path):
     """Without any one line, with its reply, the program answers all but what rests on it, and nobody is accused. What
     isn't asked is named: the number, and the chip or the paper."""
-    for file, number, chip in accepted(folder):
+    for file, number, told in accepted(folder):
         other = shutil.copytree(folder, tmp_path / f"{file.stem}-{number}")
         without(other / file.relative_to(folder), number)
         status, text, rows = audited(other, program)
         assert (rows, "Nothing found" in text, status > 0) == ([], False, True), (number, text)
-        assert f"isn't replayed whole, as these journals lack the number {number} of {file.stem}" in text, text
-        assert (f"; its chips {chip} weren't asked for." if chip else "; the store alone has ") in text, (number, text)
+        assert f"isn't replayed whole, as these journals lack the number {number} of {file.stem}{told}" in text, text
 
 
 @pytest.mark.parametrize("name", ["a wish for no field", "why a chip is quarantined", "the kept reply of a plan"])

@@ -159,7 +159,7 @@ class Laid:
     def bare_chips(self) -> Iterator[tuple[str, str, str]]:
         yield from ((it.customer, it.chip, it.seat) for it in self.left)
         yield from ((it.customer, it.chip, "") for it in self.faults)
-        yield from ((it.customer, it.chip, "") for it, *_ in self.odd)
+        yield from ((it.customer, it.chip, "") for it, _, kind, _ in self.odd if kind in ("other_seat", "exchanged"))
 
     def found(self) -> Iterator[Found]:
         """The lines without an entry, and the pairs that differ."""

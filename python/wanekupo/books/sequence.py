@@ -172,7 +172,7 @@ class Requests:
         count = sum(last - first + 1 for gaps in self.lacking.values() for first, last in gaps)
         papers = sum(it.path != IMPORT for it in self.lent) + any(it.path == IMPORT for it in self.lent)
         self._spare = count - papers - sum(seat in self.lacking for _, seat in bare)
-        self._is_short = self._spare < 0
+        self._is_short, self._is_loose = self._spare < 0, self._spare > 0 or any(it.path == IMPORT for it in self.lent)
         self.leave(self._bare if self.lacking else ())
 
     def _is_gone(self, line: Step) -> bool:
@@ -194,9 +194,10 @@ class Requests:
 
     def unsure(self, done: Done) -> int:
         """By how many rows the counts of a reply may be others: those that another seat imported at the same time, and
-        where lines are missing any."""
+        where lines of imports or chips are missing any."""
         rows = len(imported_by(done.step)) + (done.step.path == ORDER)
-        return rows if self.lacking else self._times.unsure(done.seat, done.step) if rows else 0
+        is_loose = self.lacking and (self._is_loose or self.aside)
+        return rows if is_loose else self._times.unsure(done.seat, done.step) if rows else 0
 
     def in_order(self, entries: Sequence[LedgerRow]) -> Iterator[Union[Done, NotLaid]]:
         """One after another, in an order in which they may have been done, and what isn't so. `entries` come in
