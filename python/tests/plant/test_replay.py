@@ -230,6 +230,15 @@ def test_what_is_found_of_a_seat_hides_no_other():
         *(("a1", "reply") for _ in range(5)), ("b1", "a"), ("a1", "4")]  # fmt: skip
 
 
+@pytest.mark.parametrize(("lacking", "number", "found"), [({}, 18, 1), ({"a1": [(4, 4)]}, 18, 0), ({"a1": [(4, 4)]}, 9, 1)])
+def test_a_full_order(lacking, number, found):
+    """Where a chip isn't asked for since lines are missing its scrapping may have freed the place of another one."""
+    requests = SimpleNamespace(repeated=[], lacking=lacking, aside={"d": None}, leave=lambda chips: None)
+    answers = Answers("acme", SimpleNamespace(unread_maps=lambda: ()), requests, None)
+    step = line(1, "06:00", "device", chip="c")
+    assert len(list(answers._refused(Done("a1", step), {"no": number, "error": "e"}))) == found
+
+
 def test_a_long_ledger(tmp_path):
     """A bench that reads a chip back again and again for some days makes a ledger longer than other replies."""
     head, length = "HTTP/1.1 200 OK\\r\\nContent-Length: 5000000\\r\\n\\r\\n", 5_000_000

@@ -36,6 +36,9 @@ MOST_TOLD, MOST_NAMED = 5, 200
 # How many seconds the program has for each line, beside an hour.
 FOR_A_LINE = 0.1
 
+# The refusal of a registration where each place of its order is taken.
+QUANTITY_REACHED = 18
+
 # A member that replies of earlier servers lack where it is null, and those that depend on imports.
 LATER, COUNTED = "not_before", ("added", "present", "next")
 
@@ -172,20 +175,22 @@ class Answers:
             if it.later:
                 yield self._clock_fault(it, it.later)
             if status != 200:
-                yield self._refused(it, json.loads(text))
+                yield from self._refused(it, json.loads(text))
                 continue
             self._numbers[it.seat] += 1
             if not it.is_of_store():
                 self._last[it.seat], self.count = (it, text), self.count + 1
 
-    def _refused(self, done: Done, reply: Mapping[str, Any]) -> Found:
-        """A line that the program refuses. What of its chip came behind it would be refused too."""
-        step = done.step
+    def _refused(self, done: Done, reply: Mapping[str, Any]) -> Iterator[Found]:
+        """A line that the program refuses. What of its chip came behind it would be refused too. Where journals lack
+        numbers a full order is none: the scrapping of a chip that isn't asked for may have freed a place."""
+        step, is_full = done.step, reply.get("no") == QUANTITY_REACHED and bool(self._requests.aside)
         told = f"the program refuses it as {reply.get('no')} {reply.get('error')} ({step.place()})"
         if step.event:
             self._requests.leave([step.chip])
             told = f"{told}; what came of the chip behind it wasn't asked"
-        return self._fault(told, done.seat, step.chip, step.at)
+        if not (is_full and self._requests.lacking):
+            yield self._fault(told, done.seat, step.chip, step.at)
 
     def _differences(self, done: Done, text: str) -> list[str]:
         """In what a line's reply isn't the program's. What of a step of a device nobody looks at isn't in memory."""
