@@ -34,7 +34,8 @@ def test_package(program: Path) -> None:
 
 
 @pytest.mark.slow
-@pytest.mark.needs("debootstrap", "podman", "buildah", "crun", "iptables", "curl", "openssl")
+@pytest.mark.needs("debootstrap", "podman", "buildah", "crun", "catatonit", "/usr/lib/podman/netavark")
+@pytest.mark.needs("iptables", "curl", "openssl")
 def test_image(program: Path) -> None:
     run(HERE / "image.sh", "--program", program, "--base", CACHE / "wanekupo-image")
 
