@@ -6,10 +6,10 @@
 #
 #   image [--program P] [--base FOLDER] [--keep FOLDER] [--prepare]
 #
-# As root, with podman, buildah, crun, netavark, iptables, debootstrap, curl and openssl. With --base the Debian base is kept in FOLDER,
-# with --keep podman's store, and a next run takes them from there. podman works without systemd, by control groups of
-# version 1 (`cgroupfs`), with its store as plain folders (`vfs`). With --prepare the packages are made, and what needs
-# no podman is tried. The status is 1 where anything is otherwise.
+# As root, with podman, buildah, crun, netavark, catatonit, iptables, debootstrap, curl and openssl. With --base the
+# Debian base is kept in FOLDER, with --keep podman's store, and a next run takes them from there. podman works without
+# systemd, by control groups of version 1 (`cgroupfs`), with its store as plain folders (`vfs`). With --prepare the
+# packages are made, and what needs no podman is tried. The status is 1 where anything is otherwise.
 # shellcheck disable=SC2016  # what other shells and awk expand is in quotes
 set -euo pipefail
 top=$(cd "$(dirname "$0")/../.." && pwd)

@@ -22,18 +22,25 @@ PLACE = Path("/run/station-backup")
 NAME = "station_backup"
 
 # Runs station-backup, and kills it before the call with this number: of a command, of a sync, of a new name. With
-# `all` what it started dies with it, and with `machine` the machine starts anew, without a sync. With `asked` it is
-# asked to end, in the middle of a command of root's. With `count` it prints how many calls there are.
+# `all` root's process and what it started die, and with `machine` the machine starts anew, without a sync: a thread of
+# root's does both, as the call may be one of the store's user, who can do neither. With `asked` it is asked to end, in
+# the middle of a command of root's. With `count` it prints how many calls there are.
 KILLED = """
-import mmap, os, runpy, signal, subprocess, sys
-count, last, who = mmap.mmap(-1, 1), int(sys.argv[1]), sys.argv[2]  # of all processes together
-# Opened as root: the call may be one of the store's user.
-reset = os.open("/proc/sysrq-trigger", os.O_WRONLY) if who == "machine" else None
-def end():
+import mmap, os, runpy, signal, subprocess, sys, threading, time
+count, is_over = mmap.mmap(-1, 1), mmap.mmap(-1, 1)  # of all processes together
+last, who = int(sys.argv[1]), sys.argv[2]
+def end_all():
+    while not is_over[0]:
+        time.sleep(0.001)
     if who == "machine":
-        os.write(reset, b"b")
-    number = signal.SIGTERM if who == "asked" else signal.SIGKILL
-    os.killpg(0, number) if who == "all" else os.kill(os.getpid(), number)
+        with open("/proc/sysrq-trigger", "w") as trigger:
+            trigger.write("b")
+    os.killpg(0, signal.SIGKILL)
+def end():
+    if who in ("all", "machine"):
+        is_over[0] = 1
+        time.sleep(60)
+    os.kill(os.getpid(), signal.SIGTERM if who == "asked" else signal.SIGKILL)
 def counted(call, is_command=False):
     def wrapped(*words, **named):
         count[0] += 1
@@ -45,6 +52,8 @@ def counted(call, is_command=False):
             end()
         return done
     return wrapped
+if who in ("all", "machine"):
+    threading.Thread(target=end_all, daemon=True).start()
 for name in ("fsync", "replace", "rename", "fork"):
     setattr(os, name, counted(getattr(os, name)))
 subprocess.Popen.__init__ = counted(subprocess.Popen.__init__, True)

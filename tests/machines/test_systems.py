@@ -34,7 +34,8 @@ def test_package(program: Path) -> None:
 
 
 @pytest.mark.slow
-@pytest.mark.needs("debootstrap", "podman", "buildah", "crun", "iptables", "curl", "openssl")
+@pytest.mark.needs("debootstrap", "podman", "buildah", "crun", "catatonit", "/usr/lib/podman/netavark")
+@pytest.mark.needs("iptables", "curl", "openssl")
 def test_image(program: Path) -> None:
     run(HERE / "image.sh", "--program", program, "--base", CACHE / "wanekupo-image")
 
@@ -49,10 +50,11 @@ BTRFS = [test.__name__ for _, tests in snapshots.TESTS["btrfs"] for test in test
 
 
 @pytest.mark.needs("mkfs.btrfs", "sqlite3", "setpriv")
-@pytest.mark.sizes(20, 1)
+@pytest.mark.sizes(4, 1)
 @pytest.mark.parametrize("name", BTRFS)
 def test_snapshots(program: Path, open_folder: Path, size: int, name: str) -> None:
-    """On Btrfs here; a backup is killed before each `size`th call."""
+    """On Btrfs here; a backup is killed before each `size`th call. Root removes a snapshot by four calls or more, so a
+    step of four has a kill among them."""
     words = ["--program", program, "--only", "btrfs", "-k", name, "--stride", size]
     run("env", f"TMPDIR={open_folder}", PYTHON, "-B", "-m", "machines.snapshots", *words)
 
@@ -60,7 +62,7 @@ def test_snapshots(program: Path, open_folder: Path, size: int, name: str) -> No
 @pytest.mark.qemu
 @pytest.mark.slow
 @pytest.mark.needs("busybox", "cpio", "debootstrap")
-@pytest.mark.sizes(20, 4)
+@pytest.mark.sizes(4)
 @pytest.mark.parametrize("kind", ["zfs", "lvm"])
 def test_snapshots_in_a_guest(program: Path, size: int, kind: str) -> None:
     words = ["--program", program, "--only", kind, "--stride", size, "--cache", CACHE / "wanekupo-snapshots"]

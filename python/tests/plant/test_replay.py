@@ -230,7 +230,10 @@ def test_what_is_found_of_a_seat_hides_no_other():
         *(("a1", "reply") for _ in range(5)), ("b1", "a"), ("a1", "4")]  # fmt: skip
 
 
-@pytest.mark.parametrize(("lacking", "number", "found"), [({}, 18, 1), ({"a1": [(4, 4)]}, 18, 0), ({"a1": [(4, 4)]}, 9, 1)])
+GAP = {"a1": [(4, 4)]}
+
+
+@pytest.mark.parametrize(("lacking", "number", "found"), [({}, 18, 1), (GAP, 18, 0), (GAP, 9, 1)])
 def test_a_full_order(lacking, number, found):
     """Where a chip isn't asked for since lines are missing its scrapping may have freed the place of another one."""
     requests = SimpleNamespace(repeated=[], lacking=lacking, aside={"d": None}, leave=lambda chips: None)
