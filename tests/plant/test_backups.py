@@ -7,6 +7,7 @@ is noted there, and what age encrypts is the store. test_backups_root.py has wha
 tests/machines has the same under load.
 """
 
+import contextlib
 import hashlib
 import json
 import os
@@ -14,6 +15,7 @@ import re
 import shlex
 import shutil
 import signal
+import sqlite3
 import subprocess
 import time
 from pathlib import Path
@@ -133,8 +135,9 @@ def test_made(bench):
     bench.makes(new, NONE)
     old = bench.folder / "old/books.db"
     old.parent.mkdir()
-    # In a file of no bytes the program makes the pages of earlier programs.
-    old.touch()
+    with contextlib.closing(sqlite3.connect(old, isolation_level=None)) as base:
+        for pragma in ("page_size = 4096", "journal_mode = WAL"):
+            base.execute(f"PRAGMA {pragma}")
     served(replay_words(bench.program, old), b"".join(requests()))
     if page_bytes(old) != 4096 or page_bytes(new) == 4096:
         raise Failed(f"pages of {page_bytes(old)} and {page_bytes(new)} bytes")
