@@ -295,7 +295,8 @@ class Forged(BooksCase):
             ("an unknown path alone", UNSHIPPED, "a1", both(unanswered(SHIPPED, "/v1/none", {}), lambda lines: [
                 lines.pop(place_of(lines, SHIPPED)), lines.pop(place_of(lines, of("/v1/none")) + 1)]), "it as 7"),
             ("two without a reply", UNSHIPPED, "a1", unanswered(SHIPPED, "/v1/scrap", {"chip": FOUR}), "has no ent"),
-            ("a refused one beside it", UNSHIPPED, "a1", unanswered(SHIPPED, "/v1/scrap", {"chip": FOUR}, 409), "no e"),
+            ("a refused one beside it", UNSHIPPED, "a1",
+             unanswered(SHIPPED, "/v1/scrap", {"chip": FOUR}, 409), "no ledger has it"),
             ("an order asked late", (), "a1", exchanged(of("/v1/order", name="o1"), of("/v1/device")), "it as 14"),
             ("a map asked late", (), "b1", exchanged(of("/v1/map"), of("/v1/device", FOUR)), "next step of b1"),
             ("addresses of no pool", [it.format("020000000030") for it in elsewhere], "a1", both(
