@@ -1,4 +1,4 @@
-"""`tools/failures` tells each place where a 503 begins that crates/failures.txt doesn't name, and each row without one."""
+"""`tools/failures` tells each place where a 503 begins that its table doesn't name, and each row without a place."""
 
 import shutil
 import subprocess
