@@ -1,7 +1,7 @@
 -- The lines of a customer's orders.
 use Rattle.std.proofs.Common.{◌≡◌, ◌∷◌, ◌++◌, Equal, Less}
-use Rattle.text_core.proofs.Kit.{is_some, true, false, ℕ, List, [], map, refl, sym, ap, ap₂, ◌∙◌, append_assoc, append-nil, bytes_eq-Decides, nat_list_cmp_total}
-use Rattle.text_core.proofs.Kit.{tied_itself, AllByRecursion}
+use Rattle.text_core.proofs.Kit.{true, false, ℕ, List, [], map, refl, sym, ap, ap₂, ◌∙◌, append_assoc, append-nil, bytes_eq-Decides, nat_list_cmp_total}
+use Rattle.text_core.proofs.Kit.{is_some, tied_itself, AllByRecursion}
 use Rattle.std.specs.List.Sorted.{IsStrictlySortedBy}
 use Rattle.office_tables.specs.Prelude.{is_of, order_cmp, rows_of, text_cmp, IsAscending, Visits}
 use Rattle.office_tables.specs.declared.rows.Order.{Order}
