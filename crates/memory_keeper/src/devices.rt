@@ -41,7 +41,7 @@ impl TakenPlaces {
         let count = self.count(&row.customer, &row.row.order);
         let place = u64::from(!row.row.state.is_given_up());
         let Some(more) = count.checked_add(place) else {
-            return Err(Unkept);
+            return Err(Unkept::without_error());
         };
         self.counts.insert((row.customer, row.row.order), more)?;
         Ok(())
@@ -140,14 +140,14 @@ impl Devices {
         ensures err { OnErr result (self.new ≡ self.old) }
     {
         if self.get(&row.customer, &row.row.chip).is_some() {
-            return Err(Unkept);
+            return Err(Unkept::without_error());
         }
         self.places.add(row)?;
         match self.rows.insert(*row) {
             Ok(_) => Ok(()),
-            Err(_) => {
+            Err(refused) => {
                 self.places.remove(row);
-                Err(Unkept)
+                Err(Unkept::from(refused))
             }
         }
     }

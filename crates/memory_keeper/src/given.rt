@@ -58,9 +58,9 @@ impl GivenIndex {
         };
         match self.macs.insert(mac) {
             Ok(_) => Ok(()),
-            Err(_) => {
+            Err(refused) => {
                 self.serials.remove(&key);
-                Err(Unkept)
+                Err(Unkept::from(refused))
             }
         }
     }
@@ -148,14 +148,14 @@ impl GivenRows {
         ensures err { OnErr result (self.new ≡ self.old) }
     {
         if self.is_taken(row) {
-            return Err(Unkept);
+            return Err(Unkept::without_error());
         }
         self.index.add(row)?;
         match self.rows.insert_copy(row) {
             Ok(()) => Ok(()),
-            Err(_) => {
+            Err(refused) => {
                 self.index.remove(row);
-                Err(Unkept)
+                Err(Unkept::from(refused))
             }
         }
     }

@@ -72,18 +72,18 @@ impl MapRows {
         ensures err { OnErr result (self.new ≡ self.old) }
     {
         let None = self.id_of(body.as_str()) else {
-            return Err(Unkept);
+            return Err(Unkept::without_error());
         };
         let Some(id) = self.free_id() else {
-            return Err(Unkept);
+            return Err(Unkept::without_error());
         };
         let key = body.copy()?.into_string();
         self.rows.insert(MapRow { id, body })?;
         match self.ids.insert(key, id) {
             Ok(_) => Ok(id),
-            Err(_) => {
+            Err(refused) => {
                 self.rows.remove(&id);
-                Err(Unkept)
+                Err(Unkept::from(refused))
             }
         }
     }

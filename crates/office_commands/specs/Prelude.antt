@@ -7,7 +7,7 @@ unfoldable pub use Rattle.office_commands.specs.DeviceReplies.{device_body, devi
 pub use Rattle.office_commands.specs.IdentityReplies.{idevid_in, identity_data, import_data, state_data}
 unfoldable pub use Rattle.office_commands.specs.IdentityReplies.{identity_body, import_body, state_body}
 pub use Rattle.office_commands.specs.NewOrders.{IsNewOrder}
-pub use Rattle.office_commands.specs.Refusals.{numbered_body, refusal_body, refusal_number, refusal_row, refusal_status, RefusalRow, TellsNumber}
+pub use Rattle.office_commands.specs.Refusals.{numbered_body, refusal_body, refusal_number, refusal_row, refusal_status, RefusalRow, TellsNumber, unkept}
 pub use Rattle.office_commands.specs.Refusals.{told_before, told_behind}
 pub use Rattle.office_commands.specs.Replies.{acceptance, map_data, members_of, order_data, refusal, text_data, whole_data}
 unfoldable pub use Rattle.office_commands.specs.Replies.{map_body, order_body}

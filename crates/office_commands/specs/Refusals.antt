@@ -61,7 +61,11 @@ refusal_row MapDigestTaken = record { number = 39; status = Conflict; name = cod
 refusal_row Limit = record { number = 40; status = Conflict; name = codes "limit" }
 refusal_row BadReadback = record { number = 41; status = Unprocessable; name = codes "bad_readback" }
 refusal_row BadNotBefore = record { number = 42; status = Unprocessable; name = codes "bad_not_before" }
-refusal_row Unkept = record { number = 50; status = Unavailable; name = codes "unkept" }
+refusal_row (Unkept _) = record { number = 50; status = Unavailable; name = codes "unkept" }
+
+-- the refusal for want of memory or a failing store
+abbrev pub unkept : Refusal
+unkept = Unkept (record { cause = tt })
 
 -- the number of a refusal
 abbrev pub refusal_number : Refusal → ℕ

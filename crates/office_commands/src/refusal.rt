@@ -1,6 +1,6 @@
 // Why a request is refused.
 ghost use Rattle.std.specs.Prelude.{◌≡◌, []};
-ghost use Rattle.office_commands.specs.Prelude.{TellsNumber, refusal_body, refusal_number, refusal_row, refusal_status, numbered_body};
+ghost use Rattle.office_commands.specs.Prelude.{TellsNumber, refusal_body, refusal_number, refusal_row, refusal_status, numbered_body, unkept};
 ghost use Rattle.office_commands.specs.declared.refusal.Refusal.TheVariants as refusals;
 
 use fuse_plan::PlanFault;
@@ -71,30 +71,30 @@ pub enum Refusal {
     /// What is asked for as a beginning of validity is none (42).
     BadNotBefore,
     /// There is no memory for an answer, or the store failed (50).
-    Unkept,
+    Unkept(Unkept),
 }
 
 impl From<Unkept> for Refusal {
-    ghost from_gives = { λ _ refusal. refusal ≡ refusals.Unkept };
+    ghost from_gives = { λ _ refusal. refusal ≡ unkept };
 
-    fn from(_: Unkept) -> Refusal {
-        Refusal::Unkept
+    fn from(unkept: Unkept) -> Refusal {
+        Refusal::Unkept(unkept)
     }
 }
 
 impl From<AllocError> for Refusal {
-    ghost from_gives = { λ _ refusal. refusal ≡ refusals.Unkept };
+    ghost from_gives = { λ _ refusal. refusal ≡ unkept };
 
-    fn from(_: AllocError) -> Refusal {
-        Refusal::Unkept
+    fn from(error: AllocError) -> Refusal {
+        Refusal::Unkept(Unkept::from(error))
     }
 }
 
 impl<T: Drop> From<AllocFailed<T>> for Refusal {
-    ghost from_gives = { λ _ refusal. refusal ≡ refusals.Unkept };
+    ghost from_gives = { λ _ refusal. refusal ≡ unkept };
 
-    fn from(_: AllocFailed<T>) -> Refusal {
-        Refusal::Unkept
+    fn from(refused: AllocFailed<T>) -> Refusal {
+        Refusal::Unkept(Unkept::from(refused))
     }
 }
 
@@ -184,7 +184,7 @@ impl Refusal {
             Refusal::Limit => row!(40, Conflict, "limit"),
             Refusal::BadReadback => row!(41, Unprocessable, "bad_readback"),
             Refusal::BadNotBefore => row!(42, Unprocessable, "bad_not_before"),
-            Refusal::Unkept => row!(50, Unavailable, "unkept"),
+            Refusal::Unkept(_) => row!(50, Unavailable, "unkept"),
         }
     }
 

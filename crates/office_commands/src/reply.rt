@@ -3,7 +3,7 @@ ghost use Rattle.std.specs.Prelude.{◌≡◌, IfOk, option_map, string_bytes};
 ghost use Rattle.serde_json.specs.View.{view};
 ghost use Rattle.http_replies.specs.Prelude.{answer_of, bytes_of_body, kind_of_body};
 ghost use Rattle.http_replies.specs.declared.Kind.{Kind};
-ghost use Rattle.office_commands.specs.Prelude.{refusal_body, acceptance, refusal, text_data, order_data, map_data};
+ghost use Rattle.office_commands.specs.Prelude.{refusal_body, acceptance, refusal, text_data, order_data, map_data, unkept};
 ghost use Rattle.id_ranges.specs.Prelude.{mac_text};
 ghost use Rattle.office_commands.specs.Replies as replies;
 
@@ -11,7 +11,7 @@ use crate::Refusal;
 use crate::refusal::RefusalRow;
 use http_replies::{Body, Reply, Status};
 use id_ranges::{Mac, NotBefore};
-use office_tables::Order;
+use office_tables::{Order, Unkept};
 use serde_json::{Value, json};
 use std::alloc::{AllocError, Global};
 use text_core::Digest;
@@ -42,10 +42,10 @@ fn constant(row: RefusalRow) -> Reply
 
 /// The reply to a request that finds no memory or a failing store: status 503 with a constant. It
 /// takes no memory.
-pub fn unavailable() -> Reply
-    ensures { answer_of result ≡ refusal Refusal.Unkept }
+pub fn unavailable(cause: Unkept) -> Reply
+    ensures { answer_of result ≡ refusal unkept }
 {
-    constant(Refusal::Unkept.row())
+    constant(Refusal::Unkept(cause).row())
 }
 
 /// The reply to a request without the token of a caller: status 401 with a constant. It takes no

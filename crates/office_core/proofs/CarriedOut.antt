@@ -10,7 +10,7 @@ use Rattle.office_tables.specs.declared.rows.SeatState.{SeatState}
 use Rattle.office_tables.specs.declared.rows.Write.TheVariants.{PutSeat}
 use Rattle.office_tables.specs.Prelude.{Tables, Written, with_seat}
 use Rattle.office_tables.specs.declared.keep.Keep.{Ghosts}
-use Rattle.office_tables.specs.declared.keep.Unkept.{Unkept}
+use Rattle.office_tables.specs.declared.unkept.Unkept.{Unkept}
 use Rattle.office_tables.proofs.Writing.{Written_last}
 use Rattle.office_commands.specs.declared.command.Request.{Request}
 use Rattle.office_commands.specs.Prelude.{acceptance, refusal}

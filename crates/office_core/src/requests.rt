@@ -150,7 +150,7 @@ pub fn replay_parts<K: Keep>(
         (exchanges_of_parts parts.now replies.items)) }
 {
     let Some(count) = count_requests(parts) else {
-        return Err(Unkept);
+        return Err(Unkept::without_error());
     };
     let mut replies = Vec::with_capacity(alloc, count)?;
     for part in parts {

@@ -1,7 +1,7 @@
 -- What a page holds once a list of devices was met.
 use Rattle.std.proofs.Common.{◌≡◌, ◌<◌, ◌≤◌, ◌+◌, ◌++◌, ◌∷◌}
 use Rattle.std.proofs.lemmas.List.{take-append-le}
-use Rattle.text_core.proofs.Kit.{ℕ, suc, true, false, List, [], map, Option, Some, None, refl, sym, ap, ◌∙◌, length, take, take_all, subst, arith}
+use Rattle.text_core.proofs.Kit.{ℕ, suc, is_some, true, false, List, [], map, Option, Some, None, refl, sym, ap, ◌∙◌, length, take, take_all, subst, arith}
 use Rattle.text_core.proofs.Kit.{append-nil, append_assoc, length-append, nat_lt, le-ltb, lt-ltb}
 use Rattle.office_judges.proofs.Types.{OfCustomer, Device, PageScan}
 use Rattle.office_tables.specs.Prelude.{rows_of, text_cmp, Visits}
@@ -20,7 +20,7 @@ met customer None rows = refl
 met customer (Some chip) rows = filter_own customer (λ d. is_lt (text_cmp chip d.chip)) rows
 
 -- a walk that didn't run out of memory has filled the page
-pub page_shown : (old : PageScan) (rows : List (OfCustomer Device)) (new : PageScan) → Visits GathersPage old rows new → new.has_no_memory ≡ false
+pub page_shown : (old : PageScan) (rows : List (OfCustomer Device)) (new : PageScan) → Visits GathersPage old rows new → is_some new.failed ≡ false
     → length old.devices.items ≤ page_limit
     → new.devices.items ≡ take page_limit (old.devices.items ++ devices_in rows)
 page_shown old [] new v room low =
@@ -33,13 +33,13 @@ page_shown old (row ∷ rows) new (true, mid, taken, later) room low =
     page_shown mid rows new later room short
     ∙ ap (take page_limit) (ap (λ l. l ++ devices_in rows) (taken.devices refl) ∙ append_assoc old.devices.items (row.row ∷ []) (devices_in rows))
 page_shown old (row ∷ rows) new (false, mid, taken, later) room low =
-    let fits = sym (ap (λ (s : PageScan). s.has_no_memory) later) ∙ room in
+    let fits = sym (ap (λ (s : PageScan). is_some s.failed) later) ∙ room in
     ap (λ (s : PageScan). s.devices.items) later ∙ taken.kept refl fits
     ∙ sym (take-append-le page_limit old.devices.items (devices_in (row ∷ rows)) (taken.full refl fits)
     ∙ take_all page_limit old.devices.items low)
 
 -- a walk that didn't run out of memory knows whether it leaves devices behind the page
-pub page_left : (old : PageScan) (rows : List (OfCustomer Device)) (new : PageScan) → Visits GathersPage old rows new → new.has_no_memory ≡ false
+pub page_left : (old : PageScan) (rows : List (OfCustomer Device)) (new : PageScan) → Visits GathersPage old rows new → is_some new.failed ≡ false
     → length old.devices.items ≤ page_limit → old.has_more ≡ false
     → new.has_more ≡ nat_lt page_limit (length (old.devices.items ++ devices_in rows))
 page_left old [] new v room low none =
@@ -53,7 +53,7 @@ page_left old (row ∷ rows) new (true, mid, taken, later) room low none =
     ∙ ap (λ l. nat_lt page_limit (length l)) (ap (λ l. l ++ devices_in rows) (taken.devices refl)
     ∙ append_assoc old.devices.items (row.row ∷ []) (devices_in rows))
 page_left old (row ∷ rows) new (false, mid, taken, later) room low none =
-    let fits = sym (ap (λ (s : PageScan). s.has_no_memory) later) ∙ room in
+    let fits = sym (ap (λ (s : PageScan). is_some s.failed) later) ∙ room in
     let place : length (old.devices.items ++ devices_in (row ∷ rows)) ≡ length old.devices.items + suc (length (devices_in rows)) =
     length-append old.devices.items (devices_in (row ∷ rows)) in
     let high = taken.full refl fits in

@@ -2,12 +2,12 @@
 use Rattle.std.proofs.Common.{◌≡◌, ◌⊎◌, inl, inr, Option, Result, Some, None, Ok, Err, refl}
 use Rattle.text_core.specs.Prelude.{first_that_holds}
 use Rattle.office_commands.specs.declared.refusal.Refusal.{Refusal}
-use Rattle.office_commands.specs.declared.refusal.Refusal.TheVariants.{Unkept}
+use Rattle.office_commands.specs.Prelude.{unkept}
 use Rattle.office_rules.specs.Prelude.{unless_refused, Refusals}
 use Rattle.office_judges.specs.Prelude.{IsUnlessRefused}
 
 pub refuses : {found all : Option Refusal} {e : Refusal} → (found ≡ Some e → all ≡ Some e)
-    → (found ≡ Some e) ⊎ (e ≡ Unkept) → (all ≡ Some e) ⊎ (e ≡ Unkept)
+    → (found ≡ Some e) ⊎ (e ≡ unkept) → (all ≡ Some e) ⊎ (e ≡ unkept)
 refuses more (inl holds) = inl (more holds)
 refuses more (inr out) = inr out
 

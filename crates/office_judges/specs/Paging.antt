@@ -1,6 +1,6 @@
 -- What one device adds to a page, and what a page holds of the devices behind its beginning.
 use Rattle.std.specs.Prelude.{◌≡◌, ◌<◌, ◌≤◌, ◌++◌, Bool, true, false, List, [], ◌∷◌, filter, length}
-use Rattle.std.specs.Prelude.{Option, Some, None, ℕ}
+use Rattle.std.specs.Prelude.{Option, Some, None, is_some, ℕ}
 use Rattle.office_tables.specs.declared.rows.OfCustomer.{OfCustomer}
 use Rattle.office_tables.specs.declared.rows.Device.{Device}
 use Rattle.office_tables.specs.Prelude.{is_device_behind, is_of}
@@ -19,9 +19,9 @@ pub record GathersPage (old : PageScan) (row : OfCustomer Device) (goes_on : Boo
   pub room : goes_on ≡ true → length old.devices.items < page_limit
   pub devices : goes_on ≡ true → new.devices.items ≡ old.devices.items ++ row.row ∷ []
   pub same : goes_on ≡ true → new.has_more ≡ old.has_more
-  pub more : goes_on ≡ false → new.has_no_memory ≡ false → new.has_more ≡ true
-  pub full : goes_on ≡ false → new.has_no_memory ≡ false → page_limit ≤ length old.devices.items
-  pub kept : goes_on ≡ false → new.has_no_memory ≡ false → new.devices.items ≡ old.devices.items
+  pub more : goes_on ≡ false → is_some new.failed ≡ false → new.has_more ≡ true
+  pub full : goes_on ≡ false → is_some new.failed ≡ false → page_limit ≤ length old.devices.items
+  pub kept : goes_on ≡ false → is_some new.failed ≡ false → new.devices.items ≡ old.devices.items
 
 -- the page of devices
 pub record IsPage (devices : List Device) (page : Page) : Type 0 where

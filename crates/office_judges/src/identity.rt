@@ -37,7 +37,8 @@ fn order_of<K: Keep>(keep: &mut K, customer: &Customer, device: &Device) -> Resu
     ensures { ReadsOnly K.Keep keep.old keep.new result (λ t order.
         order_at customer.now.name device.now.order t ≡ Some order) }
 {
-    keep.order(&customer.name(), &device.order)?.ok_or(Unkept)
+    keep.order(&customer.name(), &device.order)?
+        .ok_or(Unkept::without_error())
 }
 
 /// Whether a device is identified from this state: a settled one is.
@@ -56,10 +57,12 @@ fn first_address(order: &Order, number: u64) -> Result<Option<Mac>, Unkept>
         return Ok(None);
     };
     let place = number.saturating_sub(order.range.first());
-    let offset = place.checked_mul(u64::from(order.macs)).ok_or(Unkept)?;
+    let offset = place
+        .checked_mul(u64::from(order.macs))
+        .ok_or(Unkept::without_error())?;
     match start.value().checked_add(offset) {
         Some(value) if value < ADDRESSES => Ok(Some(Mac::new(value))),
-        _ => Err(Unkept),
+        _ => Err(Unkept::without_error()),
     }
 }
 
@@ -73,7 +76,7 @@ fn with_number(
     ensures { IfOk result (λ n. n ≡ numbered order.now (number, serial) key) }
 {
     let mac = first_address(order, number)?;
-    let above = number.checked_add(1).ok_or(Unkept)?;
+    let above = number.checked_add(1).ok_or(Unkept::without_error())?;
     Ok(Numbered {
         idevid: IdevidRecord::of(order.issuer, serial, key, mac, order.not_before),
         cursor: Cursor {

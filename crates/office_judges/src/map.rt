@@ -11,7 +11,7 @@ use fusemap_core::{MapFault, read_map};
 use office_commands::{Change, Refusal, map_body};
 use office_tables::{Keep, Link, LinkRow, NewMap, OfCustomer, Sink, Unkept, Write};
 use site_core::Customer;
-use std::alloc::Global;
+use std::alloc::{AllocError, Global};
 use text_core::{Digest, Name, Text};
 
 /// How many maps a customer may have.
@@ -114,7 +114,7 @@ fn map_fault(alloc: Global, text: &Text) -> Result<Option<u8>, Unkept>
 {
     match read_map(alloc, text.as_str()) {
         Ok(_) => Ok(None),
-        Err(MapFault::OutOfMemory) => Err(Unkept),
+        Err(MapFault::OutOfMemory) => Err(Unkept::from(AllocError)),
         Err(fault) => Ok(Some(fault.number())),
     }
 }

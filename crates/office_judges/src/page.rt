@@ -18,7 +18,7 @@ struct PageScan {
     /// The page was full, and one more device was met.
     has_more: bool,
     /// There was no memory for a device.
-    has_no_memory: bool,
+    failed: Option<Unkept>,
 }
 
 impl Sink<DeviceRow> for PageScan {
@@ -29,8 +29,8 @@ impl Sink<DeviceRow> for PageScan {
             self.has_more = true;
             return false;
         }
-        if self.devices.push(row.row).is_err() {
-            self.has_no_memory = true;
+        if let Err(refused) = self.devices.push(row.row) {
+            self.failed = Some(Unkept::from(refused));
             return false;
         }
         true
@@ -94,15 +94,17 @@ pub(crate) fn page_behind<K: Keep>(
     let mut scan = PageScan {
         devices: Vec::new(alloc),
         has_more: false,
-        has_no_memory: false,
+        failed: None,
     };
     fill_page(keep, customer, after, &mut scan)?;
-    if scan.has_no_memory {
-        return Err(Unkept);
+    match scan.failed {
+        None => {
+            let next = next_of(&scan);
+            Ok(Page {
+                devices: scan.devices,
+                next,
+            })
+        }
+        Some(unkept) => Err(unkept),
     }
-    let next = next_of(&scan);
-    Ok(Page {
-        devices: scan.devices,
-        next,
-    })
 }

@@ -3,7 +3,7 @@ use Rattle.std.proofs.Common.{◌≡◌, List, [], ◌∷◌, true, false, refl,
 use Rattle.std.specs.List.{AllByRecursion}
 use Rattle.http_replies.specs.Prelude.{Answer, is_unavailable}
 use Rattle.site_core.specs.Prelude.{Ownership}
-use Rattle.office_laws.proofs.Types.{Refusal, Unkept}
+use Rattle.office_laws.proofs.Types.{Refusal, Unkept, unkept}
 use Rattle.office_tables.specs.Prelude.{Tables}
 use Rattle.office_commands.specs.Prelude.{refusal, refusal_status}
 use Rattle.yield_report.specs.Prelude.{order_report_in}
@@ -15,18 +15,18 @@ use Rattle.office_laws.proofs.Steps.{step_exists}
 
 -- an answer to what is wanted, by what it does
 abbrev IsAnswer : Call → Wanted → Tables → Answer → Tables → Type 0
-IsAnswer c w t reply mid = MatchBool (is_unavailable reply.status) ((reply ≡ refusal Unkept) × (mid ≡ t)) (FulfilsWanted c w t reply mid)
+IsAnswer c w t reply mid = MatchBool (is_unavailable reply.status) ((reply ≡ refusal unkept) × (mid ≡ t)) (FulfilsWanted c w t reply mid)
 
 -- it is 503 for what was refused so as it came alone
 abbrev IsServed : Wanted → Answer → Type 0
-IsServed w reply = is_unavailable reply.status ≡ true → w ≡ refused Unkept
+IsServed w reply = is_unavailable reply.status ≡ true → w ≡ refused unkept
 
 refused_is : (c : Call) (t : Tables) (reason : Refusal) → IsAnswer c (refused reason) t (refusal reason) t
-refused_is c t Unkept = (refl, refl)
+refused_is c t (Unkept _) = (refl, refl)
 refused_is c t _ = (refl, refl)
 
-refused_served : (reason : Refusal) → is_unavailable (refusal_status reason) ≡ true → refused reason ≡ refused Unkept
-refused_served Unkept is = refl
+refused_served : (reason : Refusal) → is_unavailable (refusal_status reason) ≡ true → refused reason ≡ refused unkept
+refused_served (Unkept _) is = refl
 refused_served _ is = cc
 
 answer_exists : {site : Ownership} (t : Tables) → IsSound site t → (c : Call) (w : Wanted)

@@ -4,7 +4,7 @@ use Rattle.text_core.proofs.Kit.{◌∙◌, ℕ, inl, inr, arith, Bool, true, fa
 use Rattle.text_core.proofs.Kit.{is_some, nat_lt, not, IfSome, MatchBool, AllByRecursion, and_parts, nat_tests, same_text, filter_agree}
 use Rattle.http_replies.specs.Prelude.{code_of, is_unavailable}
 use Rattle.site_core.specs.Prelude.{Ownership}
-use Rattle.office_laws.proofs.Types.{Given, OfCustomer, SeatState, NewIdentity, Unkept}
+use Rattle.office_laws.proofs.Types.{Given, OfCustomer, SeatState, NewIdentity, unkept}
 use Rattle.office_tables.specs.Prelude.{Tables, given_at, is_serial_of}
 use Rattle.office_commands.specs.Prelude.{refusal}
 use Rattle.office_rules.specs.Prelude.{row_of}
@@ -40,7 +40,7 @@ module _ {site : Ownership} (t mid : Tables) (sound : IsSound site t) (later : I
   available = grind (arith, nat_tests, accepted)
 
   meets : FulfilsWanted x.0 x.0.wanted t x.1 mid
-  meets = let p : MatchBool (is_unavailable x.1.status) ((x.1 ≡ refusal Unkept) × (mid ≡ t))
+  meets = let p : MatchBool (is_unavailable x.1.status) ((x.1 ≡ refusal unkept) × (mid ≡ t))
       (FulfilsWanted x.0 x.0.wanted t x.1 mid) = passes in rw available at p
 
   of_wanted : (w : Wanted) (i : NewIdentity) → identity_wanted w ≡ Some i

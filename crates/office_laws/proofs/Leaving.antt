@@ -3,7 +3,7 @@ use Rattle.std.proofs.Common.{◌≡◌, ◌⊎◌, ◌∷◌, ◌++◌}
 use Rattle.text_core.proofs.Kit.{inl, inr, true, false, List, [], append_assoc, refl, sym, ap, subst, MatchBool, not, and_right, append-nil, AllByRecursion}
 use Rattle.http_replies.specs.Prelude.{Answer, is_unavailable}
 use Rattle.office_tables.specs.Prelude.{Tables}
-use Rattle.office_laws.proofs.Types.{Request, Unkept}
+use Rattle.office_laws.proofs.Types.{Request, unkept}
 use Rattle.office_commands.specs.Prelude.{refusal}
 use Rattle.office_rules.specs.Prelude.{Step}
 use Rattle.office_laws.specs.Prelude.{Call, Exchange, FulfilsWanted, Passes, asks, IsInDoubt, IsLeft, StaysInDoubt, Leaves, LeavesAfter, Session}
@@ -63,7 +63,7 @@ one_more : (xs : List Exchange) (x : Exchange) (r : Request) (t t2 : Tables)
 one_more xs x r t t2 Before After Opened asked passes before opened answered crash left leaves =
     elim (is_unavailable x.1.status) as
     (λ b. is_unavailable x.1.status ≡ b
-    → MatchBool b ((x.1 ≡ refusal Unkept) × (t2 ≡ t)) (FulfilsWanted x.0 x.0.wanted t x.1 t2)
+    → MatchBool b ((x.1 ≡ refusal unkept) × (t2 ≡ t)) (FulfilsWanted x.0 x.0.wanted t x.1 t2)
     → MatchBool b (Unit {0}) Opened → Leaves (xs ++ x ∷ []) t2 left) [
       | true ↦ λ is same _. subst (λ (m : Tables). Leaves (xs ++ x ∷ []) m left) (sym same.1)
           (by is (crash left leaves))

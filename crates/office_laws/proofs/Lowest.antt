@@ -6,7 +6,7 @@ use Rattle.sha2.specs.Sha256.{sha256}
 use Rattle.text_core.specs.Prelude.{first_that_holds}
 use Rattle.fusemap_core.specs.Prelude.{Map}
 use Rattle.site_core.specs.Prelude.{Section}
-use Rattle.office_laws.proofs.Types.{Device, Action, MakeOrder, ImportMap, RegisterDevice, Act, Identify, Import, Refusal, BadMap, Unkept, Change, FoundDevice}
+use Rattle.office_laws.proofs.Types.{Device, Action, MakeOrder, ImportMap, RegisterDevice, Act, Identify, Import, Refusal, BadMap, Change, FoundDevice, unkept}
 use Rattle.office_commands.specs.declared.command.Action.TheVariants.{Plan}
 use Rattle.office_commands.specs.declared.refusal.Refusal.TheVariants.{ImportConflict}
 use Rattle.office_commands.specs.Prelude.{refusal_number}
@@ -17,15 +17,15 @@ use Rattle.office_laws.proofs.Identity.{number_and_key_refusals}
 -- each number is above the one before it, the first above n, and below that of 503
 abbrev ascends : ℕ → Refusals → Bool
 ascends n [] = true
-ascends n (c ∷ cs) = nat_lt n (refusal_number c.1) && nat_lt (refusal_number c.1) (refusal_number Unkept)
+ascends n (c ∷ cs) = nat_lt n (refusal_number c.1) && nat_lt (refusal_number c.1) (refusal_number unkept)
     && ascends (refusal_number c.1) cs
 
 ascends_on : (n : ℕ) (c : Bool × Refusal) (cs : Refusals) → ascends n (c ∷ cs) ≡ true
-    → (n < refusal_number c.1) × (refusal_number c.1 < refusal_number Unkept) × (ascends (refusal_number c.1) cs ≡ true)
+    → (n < refusal_number c.1) × (refusal_number c.1 < refusal_number unkept) × (ascends (refusal_number c.1) cs ≡ true)
 ascends_on n c cs up =
-    let all = and_parts (nat_lt n (refusal_number c.1) && nat_lt (refusal_number c.1) (refusal_number Unkept))
+    let all = and_parts (nat_lt n (refusal_number c.1) && nat_lt (refusal_number c.1) (refusal_number unkept))
     (ascends (refusal_number c.1) cs) up in
-    let first = and_parts (nat_lt n (refusal_number c.1)) (nat_lt (refusal_number c.1) (refusal_number Unkept)) all.0 in
+    let first = and_parts (nat_lt n (refusal_number c.1)) (nat_lt (refusal_number c.1) (refusal_number unkept)) all.0 in
     (grind (arith, nat_tests, first.0), grind (arith, nat_tests, first.1), all.1)
 
 -- then all are above n
@@ -37,14 +37,14 @@ above n m (c ∷ cs) low up =
 
 -- the first refusal that holds has a number below that of 503
 pub found_below : (n : ℕ) (cs : Refusals) (r : Refusal) → ascends n cs ≡ true → first_that_holds cs ≡ Some r
-    → refusal_number r < refusal_number Unkept
+    → refusal_number r < refusal_number unkept
 found_below n [] r up e = cc
 found_below n (c ∷ cs) r up e =
     let first = ascends_on n c cs up in by c.0 first.1 (found_below (refusal_number c.1) cs r first.2) e
   where
-    by : (holds : Bool) → refusal_number c.1 < refusal_number Unkept
-        → (first_that_holds cs ≡ Some r → refusal_number r < refusal_number Unkept)
-        → (if holds then Some c.1 else first_that_holds cs) ≡ Some r → refusal_number r < refusal_number Unkept
+    by : (holds : Bool) → refusal_number c.1 < refusal_number unkept
+        → (first_that_holds cs ≡ Some r → refusal_number r < refusal_number unkept)
+        → (if holds then Some c.1 else first_that_holds cs) ≡ Some r → refusal_number r < refusal_number unkept
     by true low later e = let same : c.1 ≡ r = cc in rw (← same) low
     by false low later e = later e
 

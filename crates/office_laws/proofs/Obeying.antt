@@ -6,7 +6,7 @@ use Rattle.http_replies.specs.Prelude.{Answer}
 use Rattle.site_core.specs.Prelude.{PoolsDisjoint, IsSection, Ownership, Section}
 use Rattle.office_tables.specs.Prelude.{Tables}
 use Rattle.office_commands.specs.Prelude.{IsAsked, refusal}
-use Rattle.office_laws.proofs.Types.{Request, Unkept}
+use Rattle.office_laws.proofs.Types.{Request, unkept}
 use Rattle.office_rules.specs.Prelude.{Step}
 use Rattle.office_laws.specs.Prelude.{alone, call_by, Grows, SoloState, IsSound, view}
 use Rattle.office_laws.proofs.Machine.{step_own}
@@ -30,6 +30,6 @@ module _ {owners : Ownership} {t : Tables} (sound : IsSound owners t) (s : Secti
       record {
         sound = lasts.sound;
         grows = lasts.grows;
-        own = sym (ap (λ made. unwrap_or made (refusal Unkept, view s.name t)) views.0);
+        own = sym (ap (λ made. unwrap_or made (refusal unkept, view s.name t)) views.0);
         other = views.1;
       }

@@ -6,7 +6,7 @@ use Rattle.text_core.proofs.Kit.{same_text, text_itself}
 use Rattle.sha2.specs.Sha256.{sha256}
 use Rattle.http_replies.specs.Prelude.{Answer, code_of}
 use Rattle.office_laws.proofs.Types.{ImportRow, SeatState, Change as Changing, MakeOrder, ImportMap, RegisterDevice, Act, Identify, Import, Command, Request}
-use Rattle.office_laws.proofs.Types.{Refusal, Unkept, Show, Repeats, Next}
+use Rattle.office_laws.proofs.Types.{Refusal, Unkept, Show, Repeats, Next, unkept}
 use Rattle.office_rules.specs.declared.retry.Retry.TheVariants.{Differs, Skips}
 use Rattle.site_core.specs.Prelude.{Section}
 use Rattle.office_tables.specs.Prelude.{with_row}
@@ -24,7 +24,7 @@ use Rattle.office_laws.proofs.Responses.{of_change}
 
 -- no refusal is answered 200
 pub not_success : (reason : Refusal) → (code_of (refusal_status reason) == 200) ≡ false
-not_success Unkept = refl
+not_success (Unkept _) = refl
 not_success _ = refl
 
 -- a put of another row leaves the seats
@@ -176,7 +176,7 @@ module _ (c : Section) (seat : List ℕ) (s mid : SoloState) (reply : Answer) wh
   abbrev Performed : Option Response → Type 0
   Performed made =
       ◌≡◌ {A = Answer × SoloState} (reply, mid)
-      (unwrap_or (option_map (λ r. (r.reply, with_puts r.puts s)) made) (refusal Unkept, s))
+      (unwrap_or (option_map (λ r. (r.reply, with_puts r.puts s)) made) (refusal unkept, s))
 
   abbrev Does : Request → Option Response → Type 0
   Does r made = Performed made
@@ -203,7 +203,7 @@ module _ (c : Section) (seat : List ℕ) (s mid : SoloState) (reply : Answer) wh
 
   accepted : (r : Request) → r.number ≡ last_number_of_seat (seat_named seat s) + 1
       → (made : Option Effect) → LeaveSeats c seat v made → Does r (option_map (accept seat r) made)
-  accepted r next None leave e = denied r Unkept e
+  accepted r next None leave e = denied r unkept e
   accepted r next (Some made) leave e =
       let row : SeatState = kept_of seat r made.body in
       let seats : mid.seats ≡ with_row solo_seat_cmp row s.seats =

@@ -5,8 +5,7 @@ use Rattle.text_core.proofs.Kit.{same_text}
 use Rattle.http_replies.specs.Prelude.{Answer, is_unavailable}
 use Rattle.site_core.specs.Prelude.{PoolsDisjoint, Ownership}
 use Rattle.office_tables.specs.Prelude.{Tables}
-use Rattle.office_commands.specs.declared.refusal.Refusal.TheVariants.{Unkept}
-use Rattle.office_commands.specs.Prelude.{refusal}
+use Rattle.office_commands.specs.Prelude.{refusal, unkept}
 use Rattle.office_laws.specs.Prelude.{Grows, SoloState, IsSound, view, Exchange, Wanted, asks, reports, refused, FulfilsWanted, Passes, report_reply, CanAsk}
 use Rattle.office_laws.specs.Prelude.{IsSeat, alone, alone_on, is_own}
 use Rattle.office_laws.proofs.Growing.{grows_itself}
@@ -80,7 +79,7 @@ module _ (site : Ownership) (t : Tables) (sound : IsSound site t) (apart : Pools
   pub serves : Passes t x.0 x.1 mid → Serves site x t mid
   serves passes = elim (is_unavailable x.1.status) as
       (λ b. is_unavailable x.1.status ≡ b
-      → MatchBool b ((x.1 ≡ refusal Unkept) × (mid ≡ t)) (FulfilsWanted x.0 x.0.wanted t x.1 mid)
+      → MatchBool b ((x.1 ≡ refusal unkept) × (mid ≡ t)) (FulfilsWanted x.0 x.0.wanted t x.1 mid)
       → Serves site x t mid) [
         | true ↦ λ is made. unserved is made.1
         | false ↦ λ is made. served is (met x.0.wanted seat.wanted made)

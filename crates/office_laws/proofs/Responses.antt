@@ -4,7 +4,7 @@ use Rattle.text_core.specs.Prelude.{first_that_holds}
 use Rattle.http_replies.specs.Prelude.{Answer}
 use Rattle.site_core.specs.Prelude.{Section}
 use Rattle.office_commands.specs.Prelude.{refusal_number, acceptance, refusal}
-use Rattle.office_laws.proofs.Types.{Command, Request, Refusal, Unkept, Change as Changing, Show, Retry, Repeats, Next}
+use Rattle.office_laws.proofs.Types.{Command, Request, Refusal, Change as Changing, Show, Retry, Repeats, Next, unkept}
 use Rattle.office_commands.specs.declared.refusal.Refusal.TheVariants.{OtherBody, WrongNumber}
 use Rattle.office_rules.specs.declared.retry.Retry.TheVariants.{Differs, Skips}
 use Rattle.office_commands.specs.declared.command.Command.TheVariants.{Change}
@@ -21,7 +21,7 @@ module _ (s : Section) (seat : List ℕ) (v : Sight) (r : Request) (P : Option R
   pub of_change : (c : Changing)
       → ((body : List ℕ) → retry_of v.seat r.number r.digest ≡ Repeats body
       → P (Some (reply_only (acceptance body))))
-      → ((reason : Refusal) → refusal_number reason < refusal_number Unkept
+      → ((reason : Refusal) → refusal_number reason < refusal_number unkept
       → P (Some (reply_only (refusal reason))))
       → Accepted c → P (respond_to s seat v r (Change c))
   of_change c repeated refused accepted = by (retry_of v.seat r.number r.digest) refl

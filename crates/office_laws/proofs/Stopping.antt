@@ -5,8 +5,7 @@ use Rattle.http_replies.specs.Prelude.{is_unavailable}
 use Rattle.text_core.proofs.MachineLemmas.{runs_both}
 use Rattle.site_core.specs.Prelude.{PoolsDisjoint, Ownership, OwnershipGrows}
 use Rattle.office_tables.specs.Prelude.{Tables}
-use Rattle.office_commands.specs.declared.refusal.Refusal.TheVariants.{Unkept}
-use Rattle.office_commands.specs.Prelude.{refusal}
+use Rattle.office_commands.specs.Prelude.{refusal, unkept}
 use Rattle.office_laws.specs.Prelude.{Call, Exchange, IsRun, FulfilsWanted, Passes, Wanted, asks, reports, refused, calls_of, AreSeats, IsSeat, AreSessions}
 use Rattle.office_laws.specs.Prelude.{IsInDoubt, IsLeft, IsStoppedRun, Session, WasUnavailable, is_request}
 use Rattle.office_laws.proofs.Grown.{growth_itself, growth_more}
@@ -18,7 +17,7 @@ step_passes : (x : Exchange) (t t2 : Tables) → is_request x.0.wanted ≡ true
 step_passes x t t2 is made = passes x.0.wanted is made
   where
     passes : (w : Wanted) → is_request w ≡ true → FulfilsWanted x.0 w t x.1 t2
-        → MatchBool (is_unavailable x.1.status) ((x.1 ≡ refusal Unkept) × (t2 ≡ t))
+        → MatchBool (is_unavailable x.1.status) ((x.1 ≡ refusal unkept) × (t2 ≡ t))
         (FulfilsWanted x.0 w t x.1 t2)
     passes (asks r) is made = answers x.0.section x.0.seat t r x.1 t2 made
     passes reports is made = cc

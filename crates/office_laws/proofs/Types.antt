@@ -21,6 +21,7 @@ pub use Rattle.office_commands.specs.declared.new_identity.NewImport.{NewImport}
 pub use Rattle.office_commands.specs.declared.new_order.NewOrder.{NewOrder}
 pub use Rattle.office_commands.specs.declared.refusal.Refusal.{Refusal}
 pub use Rattle.office_commands.specs.declared.refusal.Refusal.TheVariants.{BadMap, Unkept}
+pub use Rattle.office_commands.specs.Prelude.{unkept}
 pub use Rattle.office_rules.specs.declared.device_step.DeviceStep.{DeviceStep}
 pub use Rattle.office_rules.specs.declared.device_step.FoundDevice.{FoundDevice}
 pub use Rattle.office_rules.specs.declared.retry.Retry.{Retry}

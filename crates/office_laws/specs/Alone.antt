@@ -2,8 +2,7 @@
 use Rattle.std.specs.Prelude.{◌≡◌, ℕ, Bool, not, ◌&&◌, bytes_eq, List, [], ◌∷◌, filter, unwrap_or}
 use Rattle.http_replies.specs.Prelude.{Answer, is_unavailable}
 use Rattle.office_tables.specs.Prelude.{Tables}
-use Rattle.office_commands.specs.Prelude.{refusal}
-use Rattle.office_commands.specs.declared.refusal.Refusal.TheVariants.{Unkept}
+use Rattle.office_commands.specs.Prelude.{refusal, unkept}
 use Rattle.office_laws.specs.SoloMachine.{SoloState, is_issued, solo}
 use Rattle.office_laws.specs.View.{view}
 use Rattle.yield_report.specs.Prelude.{order_report_text}
@@ -13,7 +12,7 @@ use Rattle.office_laws.specs.Exchanges.{replies_of, report_reply}
 -- what the own machine replies to what is asked for, and its state after that: 503 and no change
 -- where it has no reply; a report is of the customer's own rows
 abbrev pub alone_on : Call → SoloState → Wanted → Answer × SoloState
-alone_on c s (asks request) = unwrap_or (solo c.section c.seat s request) (refusal Unkept, s)
+alone_on c s (asks request) = unwrap_or (solo c.section c.seat s request) (refusal unkept, s)
 alone_on c s reports =
     (report_reply (order_report_text (is_issued s) s.orders s.devices), s)
 alone_on c s (refused reason) = (refusal reason, s)

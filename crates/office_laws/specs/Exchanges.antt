@@ -9,8 +9,7 @@ use Rattle.office_tables.specs.Prelude.{Tables}
 use Rattle.yield_report.specs.Prelude.{order_report_in}
 use Rattle.office_commands.specs.declared.command.Request.{Request}
 use Rattle.office_commands.specs.declared.refusal.Refusal.{Refusal}
-use Rattle.office_commands.specs.declared.refusal.Refusal.TheVariants.{Unkept}
-use Rattle.office_commands.specs.Prelude.{refusal}
+use Rattle.office_commands.specs.Prelude.{refusal, unkept}
 use Rattle.office_rules.specs.Prelude.{Step}
 
 -- what a seat asks for: a request of the office; the report of its customer's orders; or what is
@@ -58,7 +57,7 @@ FulfilsWanted c (refused reason) t reply t2 = (reply ≡ refusal reason) × (t2 
 -- a call is answered 503, which is a constant and changes nothing, or gets what it asks for
 abbrev pub Passes : Machine Tables Call Answer
 Passes t c reply t2 = MatchBool (is_unavailable reply.status)
-    ((reply ≡ refusal Unkept) × (t2 ≡ t)) (FulfilsWanted c c.wanted t reply t2)
+    ((reply ≡ refusal unkept) × (t2 ≡ t)) (FulfilsWanted c c.wanted t reply t2)
 
 -- these exchanges, one after another, lead from these tables to those
 abbrev pub IsRun : List Exchange → Tables → Tables → Type 0

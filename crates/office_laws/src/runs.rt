@@ -3,13 +3,13 @@ ghost use Rattle.std.specs.Prelude.{◌≡◌, List, Some, true, ℕ};
 ghost use Rattle.std.specs.List.{AllByRecursion};
 ghost use Rattle.http_replies.specs.Prelude.{is_unavailable};
 ghost use Rattle.site_core.specs.Prelude.{IsGrowth, Ownership, OwnershipGrows, ownership_of, SiteValue, IsSite};
-ghost use Rattle.office_commands.specs.declared.refusal.Refusal.TheVariants.{Unkept};
 ghost use Rattle.office_tables.specs.Prelude.{Tables, given_at};
 ghost use Rattle.office_tables.specs.declared.rows.Given.{Given};
 ghost use Rattle.office_tables.specs.declared.rows.OfCustomer.{OfCustomer};
 ghost use Rattle.office_laws.specs.Prelude.{addresses_of, AreNotImported, AreSeats, Call, calls_of, Exchange, Grows, IsCut, IsIsolated, IsRun, IsSound};
 ghost use Rattle.office_laws.specs.Prelude.{ActsOnce, AreSessions, EndAlike, IsInDoubt, IsLeft, IsStoppedRun, IssuesOnce, Leaves, Promises, refused, SeatRun};
 ghost use Rattle.office_laws.specs.Prelude.{Session, StartAlike};
+ghost use Rattle.office_commands.specs.Prelude.{unkept};
 
 /// What a run from sound tables does, though the site may grow on the way:
 ///
@@ -63,7 +63,7 @@ pub fn runs_exist()
     ensures { (first last : Ownership) (cs : List Call) (t : Tables)
         → IsSound first t → AreSeats first cs last
         → (xs : List Exchange) × (t2 : Tables) × (calls_of xs ≡ cs) × IsRun xs t t2
-        × AllByRecursion (λ x. is_unavailable x.1.status ≡ true → x.0.wanted ≡ refused Unkept) xs }
+        × AllByRecursion (λ x. is_unavailable x.1.status ≡ true → x.0.wanted ≡ refused unkept) xs }
 {}
 
 /// All that is promised of a run from sound tables.

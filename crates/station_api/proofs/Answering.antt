@@ -5,10 +5,10 @@ use Rattle.http_frames.specs.Prelude.{Request as HttpRequest}
 use Rattle.http_replies.specs.Prelude.{Answer, is_unavailable}
 use Rattle.site_core.specs.Prelude.{seat_name_at, section_at, SiteValue}
 use Rattle.station_api.proofs.Types.{Caller, Seat, Manager, Ghosts, Refusal, Parsed}
-use Rattle.office_commands.specs.declared.refusal.Refusal.TheVariants.{Unkept}
 use Rattle.office_tables.specs.Prelude.{Tables, ReadsOnly}
-use Rattle.office_tables.specs.declared.keep.Unkept.{Unkept as NoAnswer}
-use Rattle.office_commands.specs.Prelude.{refusal_status, refusal}
+use Rattle.office_tables.specs.declared.unkept.Unkept.{Unkept as NoAnswer}
+use Rattle.office_commands.specs.declared.refusal.Refusal.TheVariants.{Unkept}
+use Rattle.office_commands.specs.Prelude.{refusal_status, refusal, unkept}
 use Rattle.office_laws.specs.Prelude.{Exchange, report_reply}
 use Rattle.office_laws.proofs.Leaving.{AnswersNothing, leaves_unanswered, answers_nothing}
 use Rattle.station_api.specs.Prelude.{AnswersAnyCaller, ParsedOrUnkept, AnswersParsed, AnswersKnownCaller, HandlerSteps, Says, SaysAny, SaysRefusal}
@@ -16,19 +16,19 @@ use Rattle.station_api.specs.Prelude.{AnswersHttp, caller_at, exchange_any, exch
 use Rattle.station_requests.specs.Prelude.{parse_request, kind_of_caller}
 
 -- only one refusal is answered 503
-unavailable_is_unkept : (reason : Refusal) → is_unavailable (refusal_status reason) ≡ true → reason ≡ Unkept
-unavailable_is_unkept Unkept e = refl
+unavailable_is_unkept : (reason : Refusal) → is_unavailable (refusal_status reason) ≡ true → reason ≡ unkept
+unavailable_is_unkept (Unkept _) e = refl
 unavailable_is_unkept _ e = cc
 
 -- a reply of 503
 pub unkept_asked : (site : SiteValue) (caller : Caller) (wanted : Result Parsed Refusal)
-    (t : Tables) (reply : Answer) → reply ≡ refusal Unkept
+    (t : Tables) (reply : Answer) → reply ≡ refusal unkept
     → ParsedOrUnkept site caller wanted t reply t
 unkept_asked site caller wanted t reply is =
     let unavailable : is_unavailable reply.status ≡ true = ap (λ (a : Answer). is_unavailable a.status) is in
     rw unavailable (is, refl)
 
-unkept_said : (wanted : Result Parsed Refusal) (reply : Answer) → reply ≡ refusal Unkept → SaysRefusal wanted reply
+unkept_said : (wanted : Result Parsed Refusal) (reply : Answer) → reply ≡ refusal unkept → SaysRefusal wanted reply
 unkept_said (Ok parsed) reply is = tt
 unkept_said (Err reason) reply is = inr is
 
@@ -45,20 +45,20 @@ refused_asked site caller wanted t reply reason refused is =
 
 -- a request that is refused as it came
 pub refused_caller : (site : SiteValue) (caller : Caller) (wanted : Result Parsed Refusal) (t : Tables) (reply : Answer) (reason : Refusal)
-    → (Err reason ≡ wanted) ⊎ (◌≡◌ {A = Result Parsed Refusal} (Err reason) (Err Unkept))
-    → (reply ≡ refusal reason) ⊎ (reply ≡ refusal Unkept)
+    → (Err reason ≡ wanted) ⊎ (◌≡◌ {A = Result Parsed Refusal} (Err reason) (Err unkept))
+    → (reply ≡ refusal reason) ⊎ (reply ≡ refusal unkept)
     → ParsedOrUnkept site caller wanted t reply t
 refused_caller site caller wanted t reply reason is (inr said) = unkept_asked site caller wanted t reply said
 refused_caller site caller wanted t reply reason (inl is) (inl said) = refused_asked site caller wanted t reply reason (sym is) said
-refused_caller site caller wanted t reply reason (inr unkept) (inl said) = let same : reason
-    ≡ Unkept = cc in unkept_asked site caller wanted t reply (said ∙ ap refusal same)
+refused_caller site caller wanted t reply reason (inr is) (inl said) = let same : reason
+    ≡ unkept = cc in unkept_asked site caller wanted t reply (said ∙ ap refusal same)
 
 pub refused_said : (wanted : Result Parsed Refusal) (reply : Answer) (reason : Refusal)
-    → (Err reason ≡ wanted) ⊎ (◌≡◌ {A = Result Parsed Refusal} (Err reason) (Err Unkept))
-    → (reply ≡ refusal reason) ⊎ (reply ≡ refusal Unkept) → SaysRefusal wanted reply
+    → (Err reason ≡ wanted) ⊎ (◌≡◌ {A = Result Parsed Refusal} (Err reason) (Err unkept))
+    → (reply ≡ refusal reason) ⊎ (reply ≡ refusal unkept) → SaysRefusal wanted reply
 refused_said wanted reply reason is (inr said) = unkept_said wanted reply said
 refused_said wanted reply reason (inl is) (inl said) = subst (λ w. SaysRefusal w reply) is (inl said)
-refused_said wanted reply reason (inr unkept) (inl said) = let same : reason ≡ Unkept = cc in unkept_said wanted reply (said ∙ ap refusal same)
+refused_said wanted reply reason (inr is) (inl said) = let same : reason ≡ unkept = cc in unkept_said wanted reply (said ∙ ap refusal same)
 
 pub asked_is : {A E : Type 0} (wanted : Result A E) (x : A) (e : E) → (Ok x ≡ wanted) ⊎ (Ok x ≡ Err e) → wanted ≡ Ok x
 asked_is wanted x e (inl is) = sym is
@@ -67,8 +67,8 @@ asked_is wanted x e (inr is) = cc
 -- a request that is refused as it came answers nothing
 pub refused_answers_nothing : (site : SiteValue) (caller : Caller) (wanted : Result Parsed Refusal)
     (reply : Answer) (reason : Refusal)
-    → (Err reason ≡ wanted) ⊎ (◌≡◌ {A = Result Parsed Refusal} (Err reason) (Err Unkept))
-    → (reply ≡ refusal reason) ⊎ (reply ≡ refusal Unkept)
+    → (Err reason ≡ wanted) ⊎ (◌≡◌ {A = Result Parsed Refusal} (Err reason) (Err unkept))
+    → (reply ≡ refusal reason) ⊎ (reply ≡ refusal unkept)
     → AllByRecursion AnswersNothing (exchange_asked site caller wanted reply)
 refused_answers_nothing site Manager wanted reply reason is said = tt
 refused_answers_nothing site (Seat caller) wanted reply reason (inl is) said =
@@ -76,8 +76,8 @@ refused_answers_nothing site (Seat caller) wanted reply reason (inl is) said =
 refused_answers_nothing site (Seat caller) wanted reply reason (inr unkept) said =
     (answers_nothing (exchange_of (section_at site caller) (seat_name_at site caller) wanted reply) (unavailable said), tt)
   where
-    unavailable : (reply ≡ refusal reason) ⊎ (reply ≡ refusal Unkept) → is_unavailable reply.status ≡ true
-    unavailable (inl is) = let same : reason ≡ Unkept = cc in ap (λ (a : Answer). is_unavailable a.status) (is ∙ ap refusal same)
+    unavailable : (reply ≡ refusal reason) ⊎ (reply ≡ refusal unkept) → is_unavailable reply.status ≡ true
+    unavailable (inl is) = let same : reason ≡ unkept = cc in ap (λ (a : Answer). is_unavailable a.status) (is ∙ ap refusal same)
     unavailable (inr is) = ap (λ (a : Answer). is_unavailable a.status) is
 
 -- a keeper that isn't asked
@@ -124,7 +124,7 @@ module _ {K A : Type 0} (k : Ghosts K) (site : SiteValue) (caller : Caller) (par
     (answer : (t : Tables) (v : A) → Says t v → bytes v ≡ text t)
     (answers : (t : Tables) (reply : Answer) → reply ≡ report_reply (text t) → ParsedOrUnkept site caller (Ok parsed) t reply t) where
   pub report_told : (old new : K) (result : Result A NoAnswer) (reply : Answer) → ReadsOnly k old new result Says
-      → IfOk result (λ v. reply ≡ report_reply (bytes v)) → OnErr result (reply ≡ refusal Unkept)
+      → IfOk result (λ v. reply ≡ report_reply (bytes v)) → OnErr result (reply ≡ refusal unkept)
       → HandlerSteps k (SaysRefusal (Ok parsed)) (exchange_asked site caller (Ok parsed)) (ParsedOrUnkept site caller (Ok parsed)) old reply new
   report_told old new (Ok v) reply read told none = record {
     was_open = read.read_only.was_open;

@@ -7,11 +7,10 @@ use Rattle.text_core.specs.Prelude.{Runs}
 use Rattle.text_core.proofs.MachineLemmas.{runs_both}
 use Rattle.site_core.specs.Prelude.{Ownership, seat_name_at, section_at, section_in, ownership_of, SiteValue, IsSite}
 use Rattle.station_api.proofs.Types.{Caller, Seat, Manager, SeatCaller, Refusal, Parsed, Office, Report, SiteReport}
-use Rattle.office_commands.specs.declared.refusal.Refusal.TheVariants.{Unkept}
 use Rattle.site_core.proofs.Owners.{owners_apart, seat_owned, section_owned}
 use Rattle.office_tables.specs.Prelude.{KeepsText, Stands, Tables}
 use Rattle.office_tables.specs.declared.keep.Keep.{Ghosts}
-use Rattle.office_commands.specs.Prelude.{refusal}
+use Rattle.office_commands.specs.Prelude.{refusal, unkept}
 use Rattle.office_laws.specs.Prelude.{IsSound, IsAsAlone, Call, Exchange, IsRun, FulfilsWanted, Passes, calls_of, CanAsk, IsSeat, LeavesAfter}
 use Rattle.office_laws.proofs.Grown.{sound_grown}
 use Rattle.office_laws.proofs.Promising.{promises}
@@ -30,8 +29,8 @@ seat_passes : (site : SiteValue) (caller : SeatCaller) (wanted : Result Parsed R
 seat_passes site caller wanted t reply t2 made = by (is_unavailable reply.status) wanted made
   where
     by : (b : Bool) (wanted : Result Parsed Refusal)
-        → MatchBool b ((reply ≡ refusal Unkept) × (t2 ≡ t)) (AnswersParsed site (Seat caller) wanted t reply t2)
-        → MatchBool b ((reply ≡ refusal Unkept) × (t2 ≡ t))
+        → MatchBool b ((reply ≡ refusal unkept) × (t2 ≡ t)) (AnswersParsed site (Seat caller) wanted t reply t2)
+        → MatchBool b ((reply ≡ refusal unkept) × (t2 ≡ t))
         (FulfilsWanted (exchange_of (section_at site caller) (seat_name_at site caller) wanted reply).0 (wanted_of wanted) t reply t2)
     by true wanted made = made
     by false (Err reason) made = made
@@ -45,7 +44,7 @@ manager_same : (site : SiteValue) (wanted : Result Parsed Refusal) (t : Tables) 
 manager_same site wanted t reply t2 made = by (is_unavailable reply.status) wanted made
   where
     by : (b : Bool) (wanted : Result Parsed Refusal)
-        → MatchBool b ((reply ≡ refusal Unkept) × (t2 ≡ t)) (AnswersParsed site Manager wanted t reply t2)
+        → MatchBool b ((reply ≡ refusal unkept) × (t2 ≡ t)) (AnswersParsed site Manager wanted t reply t2)
         → t2 ≡ t
     by true wanted made = made.1
     by false (Err reason) made = made.1

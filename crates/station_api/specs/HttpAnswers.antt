@@ -9,8 +9,8 @@ use Rattle.site_core.specs.declared.site.Caller.TheVariants.{Seat, Manager}
 use Rattle.office_tables.specs.Prelude.{KeepsText, Tables, Stands}
 use Rattle.office_tables.specs.declared.keep.Keep.{Ghosts}
 use Rattle.office_commands.specs.declared.refusal.Refusal.{Refusal}
-use Rattle.office_commands.specs.declared.refusal.Refusal.TheVariants.{UnknownToken, Unkept}
-use Rattle.office_commands.specs.Prelude.{refusal}
+use Rattle.office_commands.specs.declared.refusal.Refusal.TheVariants.{UnknownToken}
+use Rattle.office_commands.specs.Prelude.{refusal, unkept}
 use Rattle.office_rules.specs.Prelude.{Step}
 use Rattle.office_laws.specs.Prelude.{Exchange, report_reply, LeavesAfter}
 use Rattle.yield_report.specs.Prelude.{order_report_in, site_report_in}
@@ -35,7 +35,7 @@ AnswersParsed site Manager (Ok Report) t reply t2 = ⊥
 -- 503, which changes nothing, or what was asked
 abbrev pub ParsedOrUnkept : SiteValue → Caller → Result Parsed Refusal → Tables → Answer → Tables → Type 0
 ParsedOrUnkept site caller wanted t reply t2 =
-    MatchBool (is_unavailable reply.status) ((reply ≡ refusal Unkept) × (t2 ≡ t)) (AnswersParsed site caller wanted t reply t2)
+    MatchBool (is_unavailable reply.status) ((reply ≡ refusal unkept) × (t2 ≡ t)) (AnswersParsed site caller wanted t reply t2)
 
 -- what a request of a known caller is answered
 abbrev pub AnswersKnownCaller : SiteValue → Caller → HttpRequest → Tables → Answer → Tables → Type 0
@@ -52,7 +52,7 @@ AnswersHttp site t r reply t2 = AnswersAnyCaller site (caller_at site r) r t rep
 
 -- what is known of a reply whatever the store does: a request that is refused as it came gets its refusal or 503
 abbrev pub SaysRefusal : Result Parsed Refusal → Answer → Type 0
-SaysRefusal (Err reason) reply = (reply ≡ refusal reason) ⊎ (reply ≡ refusal Unkept)
+SaysRefusal (Err reason) reply = (reply ≡ refusal reason) ⊎ (reply ≡ refusal unkept)
 SaysRefusal (Ok parsed) reply = Unit {0}
 
 -- what is known of the reply to a caller, whatever the store does: one who isn't known is refused,

@@ -3,7 +3,7 @@ ghost use Rattle.std.specs.Prelude.{◌≡◌, ◌⊎◌, IfOk, OnErr, Ok};
 ghost use Rattle.http_replies.specs.Prelude.{answer_of};
 ghost use Rattle.http_frames.specs.Prelude.{Request as HttpRequest, IsFrameAt};
 ghost use Rattle.site_core.specs.Prelude.{IsCaller};
-ghost use Rattle.office_commands.specs.Prelude.{refusal};
+ghost use Rattle.office_commands.specs.Prelude.{refusal, unkept};
 ghost use Rattle.office_laws.specs.Prelude.{report_reply};
 ghost use Rattle.station_api.specs.Prelude.{ParsedOrUnkept, AnswersKnownCaller, HandlerSteps, SaysRefusal, exchange_asked};
 ghost use Rattle.station_requests.specs.Prelude.{IsFor, parse_request, kind_of_caller};
@@ -27,25 +27,25 @@ pub struct Handler<'a> {
 
 /// The reply to a refused request, or 503 where there is no memory for it.
 fn refusal_reply(alloc: Global, reason: Refusal) -> Reply
-    ensures { (answer_of result ≡ refusal reason) ⊎ (answer_of result ≡ refusal Refusal.Unkept) }
+    ensures { (answer_of result ≡ refusal reason) ⊎ (answer_of result ≡ refusal unkept) }
 {
     match refused(alloc, reason) {
         Ok(reply) => reply,
-        Err(_) => unavailable(),
+        Err(error) => unavailable(Unkept::from(error)),
     }
 }
 
 /// The reply with a report, or 503 where there is none.
 fn report_reply(report: Result<Vec<u8>, Unkept>) -> Reply
     ensures report { IfOk report (λ text. answer_of result ≡ report_reply text.items) }
-    ensures none { OnErr report (answer_of result ≡ refusal Refusal.Unkept) }
+    ensures none { OnErr report (answer_of result ≡ refusal unkept) }
 {
     match report {
         Ok(text) => Reply {
             status: Status::Success,
             body: Body::Report(text),
         },
-        Err(Unkept) => unavailable(),
+        Err(cause) => unavailable(cause),
     }
 }
 
@@ -74,9 +74,8 @@ fn answer_parsed<K: Keep>(
         (Caller::Manager, Parsed::SiteReport) => {
             report_reply(site_report(handler.alloc, keep, handler.site))
         }
-        // No other caller asks for these.
         (Caller::Seat(_), Parsed::SiteReport)
-        | (Caller::Manager, Parsed::Office(_) | Parsed::Report) => unavailable(),
+        | (Caller::Manager, Parsed::Office(_) | Parsed::Report) => unreachable!(),
     }
 }
 

@@ -10,7 +10,7 @@ use members::in_json::{chip_member, text_member};
 use office_commands::Refusal::{self, BadMember};
 use office_commands::{Change, NewIdentity, Request};
 use serde_json::Value;
-use std::alloc::Global;
+use std::alloc::{AllocError, Global};
 
 /// The path of identities.
 pub const IDENTITY_PATH: &str = "/v1/identity";
@@ -33,7 +33,7 @@ fn read_key(alloc: Global, text: &str) -> Result<KeyDigest, Refusal>
     }
     match hex::decode(alloc, text) {
         Ok(bytes) => Ok(KeyDigest::of(bytes.as_slice())),
-        Err(FromHexError::OutOfMemory) => Err(Refusal::Unkept),
+        Err(FromHexError::OutOfMemory) => Err(Refusal::from(AllocError)),
         Err(_) => Err(BadMember),
     }
 }

@@ -3,6 +3,7 @@ ghost use Rattle.std.specs.Prelude.{◌≡◌, ok_or, map, IfOk};
 ghost use Rattle.serde_json.specs.View.{view};
 ghost use Rattle.text_core.specs.Prelude.{GivesUnless, result_map};
 ghost use Rattle.http_frames.specs.Prelude.{Request as HttpRequest, IsFrameAt};
+ghost use Rattle.office_commands.specs.Prelude.{unkept};
 ghost use Rattle.station_requests.specs.Prelude.{body_data, IsFor, parse_request, kind_of_caller, of_seat, ReadsAs, route_among};
 ghost use Rattle.station_requests.specs.Prelude.{route_entry, request_of, request_read, shows};
 
@@ -28,7 +29,7 @@ use office_commands::Refusal::BadMember;
 use office_commands::{Action, Command, Refusal, Request, RequestNumber, Show};
 use serde_json::Value;
 use site_core::Caller;
-use std::alloc::Global;
+use std::alloc::{AllocError, Global};
 use text_core::Digest;
 
 /// The path on which devices are shipped.
@@ -112,7 +113,7 @@ fn find_route(rows: &[(Method, &str, Route)], method: &[u8], path: &[u8]) -> Opt
 
 /// The JSON of a body, or the refusal of a body that is none. The body of a GET isn't read.
 fn read_value(alloc: Global, method: &[u8], body: &[u8]) -> Result<Value, Refusal>
-    ensures { GivesUnless Refusal.Unkept (result_map view result)
+    ensures { GivesUnless unkept (result_map view result)
         (ok_or (body_data method.now body.now) Refusal.BadJson) }
 {
     if method == b"GET".as_slice() {
@@ -121,7 +122,7 @@ fn read_value(alloc: Global, method: &[u8], body: &[u8]) -> Result<Value, Refusa
     match read_json(alloc, body) {
         Ok(value) => Ok(value),
         Err(DocumentFault::NotDocument) => Err(Refusal::BadJson),
-        Err(DocumentFault::OutOfMemory) => Err(Refusal::Unkept),
+        Err(DocumentFault::OutOfMemory) => Err(Refusal::from(AllocError)),
     }
 }
 
@@ -171,7 +172,7 @@ fn read_request(
     query: &[u8],
     body: &[u8],
 ) -> Result<Parsed, Refusal>
-    ensures asked { GivesUnless Refusal.Unkept result
+    ensures asked { GivesUnless unkept result
         (result_map Parsed.Office (request_read operation method.now query.now body.now)) }
     ensures seat { IfOk result (IsFor of_seat) }
 {
@@ -193,7 +194,7 @@ pub fn parse_command(
         × IsFrameAt buffer.now.window buffer.now.spans frame request }
     ensures asked { (request : HttpRequest)
         → IsFrameAt buffer.now.window buffer.now.spans frame request
-        → GivesUnless Refusal.Unkept result (parse_request (kind_of_caller caller) request) }
+        → GivesUnless unkept result (parse_request (kind_of_caller caller) request) }
     ensures caller { IfOk result (IsFor (kind_of_caller caller)) }
 {
     let (path, query) = split_target(frame.target(buffer));

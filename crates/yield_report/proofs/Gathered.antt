@@ -1,7 +1,7 @@
 -- The lines of a customer's orders.
 use Rattle.std.proofs.Common.{◌≡◌, ◌∷◌, ◌++◌, Equal, Less}
 use Rattle.text_core.proofs.Kit.{true, false, ℕ, List, [], map, refl, sym, ap, ap₂, ◌∙◌, append_assoc, append-nil, bytes_eq-Decides, nat_list_cmp_total}
-use Rattle.text_core.proofs.Kit.{tied_itself, AllByRecursion}
+use Rattle.text_core.proofs.Kit.{is_some, tied_itself, AllByRecursion}
 use Rattle.std.specs.List.Sorted.{IsStrictlySortedBy}
 use Rattle.office_tables.specs.Prelude.{is_of, order_cmp, rows_of, text_cmp, IsAscending, Visits}
 use Rattle.office_tables.specs.declared.rows.Order.{Order}
@@ -16,20 +16,20 @@ abbrev lines_in : List (OfCustomer Order) → List OrderLine
 lines_in rows = map first_line (map (λ o. o.row) rows)
 
 -- a walk that wasn't broken off has all of them
-pub lines_gathered : (old : OrderScan) (rows : List (OfCustomer Order)) (new : OrderScan) → Visits GathersOrder old rows new → new.has_no_memory ≡ false
+pub lines_gathered : (old : OrderScan) (rows : List (OfCustomer Order)) (new : OrderScan) → Visits GathersOrder old rows new → is_some new.failed ≡ false
     → new.lines.items ≡ old.lines.items ++ lines_in rows
 lines_gathered old [] new v room = ap (λ (s : OrderScan). s.lines.items) v ∙ sym (append-nil old.lines.items)
 lines_gathered old (row ∷ rows) new (true, mid, taken, later) room =
     lines_gathered mid rows new later room ∙ (ap (λ lines. lines ++ lines_in rows) (taken.lines refl)
     ∙ append_assoc old.lines.items (first_line row.row ∷ []) (lines_in rows))
 lines_gathered old (row ∷ rows) new (false, mid, taken, later) room =
-    let no_memory : new.has_no_memory ≡ true = ap (λ (s : OrderScan). s.has_no_memory) later ∙ taken.no_memory refl in
+    let no_memory : is_some new.failed ≡ true = ap (λ (s : OrderScan). is_some s.failed) later ∙ taken.no_memory refl in
     cc
 
-pub lines_fit : (old : OrderScan) (rows : List (OfCustomer Order)) (new : OrderScan) → Visits GathersOrder old rows new → new.has_no_memory ≡ false
+pub lines_fit : (old : OrderScan) (rows : List (OfCustomer Order)) (new : OrderScan) → Visits GathersOrder old rows new → is_some new.failed ≡ false
     → AreLines old.lines.items → AreLines new.lines.items
 lines_fit =
-    kept_on_walk GathersOrder (λ s. AreLines s.lines.items) (λ s. s.has_no_memory) (λ s r t taken. taken.are_lines refl)
+    kept_on_walk GathersOrder (λ s. AreLines s.lines.items) (λ s. is_some s.failed) (λ s r t taken. taken.are_lines refl)
     (λ s r t taken. taken.no_memory refl)
 
 -- the orders of a customer are in the order of their names

@@ -44,8 +44,8 @@ AreAscending lines = IsStrictlySortedBy names_cmp lines
 pub record GathersOrder (old : OrderScan) (row : OfCustomer Order) (goes_on : Bool) (new : OrderScan) : Type 0 where
   pub lines : goes_on ≡ true → new.lines.items ≡ old.lines.items ++ first_line row.row ∷ []
   pub are_lines : goes_on ≡ true → AreLines old.lines.items → AreLines new.lines.items
-  pub same : goes_on ≡ true → new.has_no_memory ≡ old.has_no_memory
-  pub no_memory : goes_on ≡ false → new.has_no_memory ≡ true
+  pub same : goes_on ≡ true → new.failed ≡ old.failed
+  pub no_memory : goes_on ≡ false → is_some new.failed ≡ true
 
 -- the line with those of these devices that are of its order
 abbrev pub counted : List Device → OrderLine → OrderLine

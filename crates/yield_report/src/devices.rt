@@ -76,7 +76,7 @@ pub(crate) fn count_devices<K: Keep>(
     };
     keep.visit_devices(customer, &mut scan)?;
     if scan.is_over {
-        return Err(Unkept);
+        return Err(Unkept::without_error());
     }
     Ok(scan.lines)
 }

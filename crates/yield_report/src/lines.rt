@@ -23,15 +23,15 @@ pub(crate) struct OrderLine {
 struct OrderScan {
     lines: Vec<OrderLine>,
     /// There was no memory for a line.
-    has_no_memory: bool,
+    failed: Option<Unkept>,
 }
 
 impl Sink<OrderRow> for OrderScan {
     ghost takes = { GathersOrder };
 
     fn take(&mut self, row: &OrderRow) -> bool {
-        if self.lines.push(first_line(&row.row)).is_err() {
-            self.has_no_memory = true;
+        if let Err(refused) = self.lines.push(first_line(&row.row)) {
+            self.failed = Some(Unkept::from(refused));
             return false;
         }
         true
@@ -68,11 +68,11 @@ pub(crate) fn order_lines<K: Keep>(
     keep.fact_ascending();
     let mut scan = OrderScan {
         lines: Vec::new(alloc),
-        has_no_memory: false,
+        failed: None,
     };
     keep.visit_orders(customer, &mut scan)?;
-    if scan.has_no_memory {
-        return Err(Unkept);
+    match scan.failed {
+        None => Ok(scan.lines),
+        Some(unkept) => Err(unkept),
     }
-    Ok(scan.lines)
 }

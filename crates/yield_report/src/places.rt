@@ -120,7 +120,7 @@ pub(crate) fn by_serials(mut lines: Vec<OrderLine>) -> Result<Vec<OrderLine>, Un
 {
     lines.sort_unstable_by(|one, other| place_cmp(&first_place(one), &first_place(other)));
     if !lines.is_sorted_by(stands_before) {
-        return Err(Unkept);
+        return Err(Unkept::without_error());
     }
     Ok(lines)
 }

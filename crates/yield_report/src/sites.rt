@@ -65,10 +65,10 @@ fn append_line<K: Keep>(
     let lines = whole_lines(alloc, keep, customer)?;
     let count = lines.len() as u64;
     if count > LARGEST_NUMBER {
-        return Err(Unkept);
+        return Err(Unkept::without_error());
     }
     let Some(sums) = total(lines.as_slice()) else {
-        return Err(Unkept);
+        return Err(Unkept::without_error());
     };
     append_customer(alloc, text, customer, count, &sums)?;
     Ok(())

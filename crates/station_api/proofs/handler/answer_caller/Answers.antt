@@ -1,16 +1,16 @@
 use Rattle.std.proofs.Common.{subst, sym}
 use Rattle.http_replies.specs.Prelude.{answer_of}
-use Rattle.office_commands.specs.declared.refusal.Refusal.TheVariants.{Unkept}
 use Rattle.station_api.specs.Prelude.{ParsedOrUnkept, HandlerSteps, SaysRefusal, exchange_asked}
 use Rattle.station_requests.specs.Prelude.{parse_request, kind_of_caller}
 use Rattle.station_api.proofs.Answering.{asked_is, refused_caller, refused_said, refused_answers_nothing, unchanged}
 use Rattle.station_api.proofs.handler.answer_caller.Goals as goal
+use Rattle.office_commands.specs.Prelude.{unkept}
 
 pub returns-in-Ok : goal.returns-in-Ok
 returns-in-Ok g c = λ request framed.
     let site = c.args.handler.now.site.now in
     let caller = c.args.caller in
-    let wanted = asked_is (parse_request (kind_of_caller caller) request) c.in-Ok.parsed Unkept (c.in-Ok.ensures.asked request framed) in
+    let wanted = asked_is (parse_request (kind_of_caller caller) request) c.in-Ok.parsed unkept (c.in-Ok.ensures.asked request framed) in
     subst (λ w.
     HandlerSteps g.K.Keep (SaysRefusal w) (exchange_asked site caller w)
     (ParsedOrUnkept site caller w) c.args.keep.now (answer_of c.answer_parsed.result)
