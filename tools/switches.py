@@ -1,0 +1,155 @@
+"""Wrong bodies behind switches: the tests are built once, and each of these bodies is on in a run of its own.
+
+In a copy of the tree a function that wrong bodies change has them all, and a variable of the environment turns one of
+them on. A test that is added to each crate of tests copies its own program, which `rt try --test` builds and runs, so
+that the toolchain's runner can run it again. No proof is made.
+"""
+
+import os
+import pathlib
+import re
+import shutil
+import subprocess
+import tempfile
+from collections import defaultdict
+from collections.abc import Iterable, Iterator
+from concurrent.futures import ThreadPoolExecutor
+
+from edits import TOP, Edit
+
+FUNCTION = re.compile(r"^( *)(?:pub(?:\(\w+\))? )?fn \w+", re.M)
+LIMIT = 600  # seconds of one test
+
+KEEPER = """//! The program of these tests, which is kept to be run again.
+use std::fs;
+use std::test::Fail;
+
+#[test]
+fn the_program_is_kept(rt: HostRuntime) -> Result<(), Fail> {{
+    fs::copy(&rt, "/proc/self/exe", "{}")?;
+    Ok(())
+}}
+"""
+
+
+def body_at(text: str, place: int) -> tuple[int, int] | None:
+    """Where the lines of the body begin and end in which a place of a formed text is; none where it is in no body."""
+    heads = list(FUNCTION.finditer(text, 0, place))
+    if not heads:
+        return None
+    indent = heads[-1][1]
+    opened = re.compile(rf"^{indent}(?! ).*\{{\n", re.M).search(text, heads[-1].start())
+    closed = opened and re.compile(rf"^{indent}\}}\n", re.M).search(text, opened.end())
+    if not opened or not closed or not opened.end() <= place < closed.start():
+        return None
+    return opened.end(), closed.start()
+
+
+def switched(bodies: dict[str, str], right: str) -> str:
+    """A body that is one of these where the variable of its name is set, else the right one."""
+    tests = "".join(f'if os::env(b"{name}", &mut [0u8; 8]) != 0 {{\n{body}}} else ' for name, body in bodies.items())
+    return f"{tests}{{\n{right}}}\n"
+
+
+def fault_of(edit: Edit, room: pathlib.Path) -> str:
+    """Why an edit can't be put behind a switch; nothing where it can."""
+    crate = edit.test.partition("::")[0]
+    if not (room / "crates" / crate / "src" / "lib.rt").is_file() or "::" not in edit.test:
+        return f"its line 'test:' names no test of a crate: {edit.test or 'there is none'}"
+    for change in edit.changes:
+        text = (room / "crates" / edit.crate / change.file).read_text(encoding="utf-8")
+        if text.count(change.old) != 1:
+            return f"its old text is in {change.file} {text.count(change.old)} times: {change.old}"
+        if not body_at(text, text.index(change.old)):
+            return f"its old text is in no function's body: {change.old}"
+    return "" if edit.changes else "it changes nothing"
+
+
+def bodies_of(edits: dict[str, Edit], folder: pathlib.Path) -> dict[str, dict[tuple[int, int], dict[str, str]]]:
+    """The bodies that the edits of a crate's folder change, by their file and place: the wrong ones by their variables."""
+    found: dict[str, dict[tuple[int, int], dict[str, str]]] = defaultdict(lambda: defaultdict(dict))
+    for name, change in ((name, it) for name, edit in edits.items() for it in edit.changes):
+        text = (folder / change.file).read_text(encoding="utf-8")
+        begin, end = place = body_at(text, text.index(change.old)) or (0, 0)
+        bodies = found[change.file][place]
+        bodies[name] = bodies.get(name, text[begin:end]).replace(change.old, change.new)
+    return found
+
+
+def switch(edits: dict[str, Edit], room: pathlib.Path) -> None:
+    """Puts the edits, each by the name of its variable, behind their switches in the tree of a room."""
+    crates: dict[str, dict[str, Edit]] = defaultdict(dict)
+    for name, edit in edits.items():
+        crates[edit.crate][name] = edit
+    for crate, own in crates.items():
+        folder = room / "crates" / crate
+        for file, places in bodies_of(own, folder).items():
+            text = (folder / file).read_text(encoding="utf-8")
+            for (begin, end), bodies in sorted(places.items(), reverse=True):
+                text = text[:begin] + switched(bodies, text[begin:end]) + text[end:]
+            (folder / file).write_text(text, encoding="utf-8")
+    table = (room / "crates.txt").read_text(encoding="utf-8")
+    for crate in crates:
+        table = re.sub(rf"^({crate}:)(?!.* os\b)", r"\1 os", table, flags=re.M)
+    (room / "crates.txt").write_text(table, encoding="utf-8")
+
+
+def built(crate: str, room: pathlib.Path) -> tuple[pathlib.Path, str]:
+    """The program of a crate of tests, which pass with no wrong body on; and what was said where there is none."""
+    folder, program = room / "crates" / crate, room / "programs" / crate
+    program.parent.mkdir(exist_ok=True)
+    (folder / "src" / "kept_program.rt").write_text(KEEPER.format(program), encoding="utf-8")
+    with (folder / "src" / "lib.rt").open("a", encoding="utf-8") as root:
+        root.write("\n#[cfg(test)]\nmod kept_program;\n")
+    ran = subprocess.run(["rt", "try", "--test"], cwd=folder, stdin=subprocess.DEVNULL, capture_output=True, text=True)
+    if ran.returncode or not program.is_file():
+        return program, ran.stdout + ran.stderr or "no program was kept"
+    program.chmod(0o755)
+    return program, ""
+
+
+def passes(program: pathlib.Path, test: str, variable: str = "") -> bool:
+    """Whether a test of a program passes where this variable is set. It runs in a folder of its own."""
+    runner = pathlib.Path(shutil.which("rt") or "rt").resolve().parent / "rattle-test"
+    words = [runner, "--seconds", str(LIMIT), "--filter", test, program]
+    with tempfile.TemporaryDirectory(prefix="test-") as folder:
+        known = {**os.environ, **({variable: "1"} if variable else {})}
+        ran = subprocess.run(words, cwd=folder, env=known, stdin=subprocess.DEVNULL, capture_output=True, text=True)
+    return ran.returncode == 0
+
+
+def tried(edits: list[Edit], room: pathlib.Path, jobs: int) -> Iterator[tuple[Edit, str]]:
+    """What became of each edit in the tree of a room: `refused by TEST`, or what else, in capitals."""
+    faults = {edit.name: fault_of(edit, room) for edit in edits}
+    yield from ((edit, f"NOT TRIED: {faults[edit.name]}") for edit in edits if faults[edit.name])
+    named = {f"WRONG_BODY_{place}": edit for place, edit in enumerate(edits) if not faults[edit.name]}
+    switch(named, room)
+    programs = {crate: built(crate, room) for crate in sorted({it.test.partition("::")[0] for it in named.values()})}
+
+    def judged(name: str, edit: Edit) -> str:
+        crate, _, test = edit.test.partition("::")
+        program, fault = programs[crate]
+        if fault:
+            return f"NOT TRIED: {crate} has no program whose tests pass: {fault[-2000:]}"
+        return f"NOT REFUSED by {edit.test}" if passes(program, test, name) else f"refused by {edit.test}"
+
+    with ThreadPoolExecutor(jobs) as pool:
+        yield from zip(named.values(), pool.map(judged, named, named.values()), strict=True)
+
+
+def try_by_tests(edits: Iterable[Edit], jobs: int) -> int:
+    """Tries edits by the tests that they name, and says of each what became of it; the status of it all."""
+    refused = others = 0
+    with tempfile.TemporaryDirectory(prefix="strength-") as name:
+        room = pathlib.Path(name)
+        ignored = shutil.ignore_patterns("out", "proofs", "must-fail")
+        shutil.copytree(TOP / "crates", room / "crates", ignore=ignored)
+        for file in ("crates.txt", "HANDLES"):
+            shutil.copy2(TOP / file, room / file)
+        subprocess.run(["git", "init", "-q", room], check=True)
+        for edit, how in tried(list(edits), room, jobs):
+            print(f"{edit.name}: {how}", flush=True)
+            refused += how.startswith("refused")
+            others += not how.startswith("refused")
+    print(f"{refused} refused, {others} not")
+    return 1 if others else 0
