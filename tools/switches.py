@@ -1,16 +1,16 @@
 """Wrong bodies behind switches: the tests are built once, and each of these bodies is on in a run of its own.
 
 In a copy of the tree a function that wrong bodies change has them all, and a variable of the environment turns one of
-them on. A test that is added to each crate of tests copies its own program, which `rt try --test` builds and runs, so
-that the toolchain's runner can run it again. No proof is made.
+them on. A test that is added to each crate of tests copies its own program, which `rt try --test` builds and runs, and
+which then runs one test for each of these bodies. No proof is made.
 """
 
-import os
 import pathlib
 import re
 import shutil
 import subprocess
 import tempfile
+import time
 from collections import defaultdict
 from collections.abc import Iterable, Iterator
 from concurrent.futures import ThreadPoolExecutor
@@ -20,13 +20,18 @@ from edits import TOP, Edit
 FUNCTION = re.compile(r"^( *)(?:pub(?:\(\w+\))? )?fn \w+", re.M)
 LIMIT = 600  # seconds of one test
 
+# A test that comes before the others, by its name.
 KEEPER = """//! The program of these tests, which is kept to be run again.
-use std::fs;
 use std::test::Fail;
+use std::{{env, fs}};
 
 #[test]
 fn the_program_is_kept(rt: HostRuntime) -> Result<(), Fail> {{
-    fs::copy(&rt, "/proc/self/exe", "{}")?;
+    let mut words = env::args(&rt)?;
+    if let Some(program) = words.next() {{
+        fs::copy(&rt, program.as_str(), "{0}.part")?;
+        fs::rename(&rt, "{0}.part", "{0}")?;
+    }}
     Ok(())
 }}
 """
@@ -95,26 +100,33 @@ def switch(edits: dict[str, Edit], room: pathlib.Path) -> None:
 
 
 def built(crate: str, room: pathlib.Path) -> tuple[pathlib.Path, str]:
-    """The program of a crate of tests, which pass with no wrong body on; and what was said where there is none."""
+    """The program of a crate of tests, and what was said where none could be built."""
     folder, program = room / "crates" / crate, room / "programs" / crate
     program.parent.mkdir(exist_ok=True)
-    (folder / "src" / "kept_program.rt").write_text(KEEPER.format(program), encoding="utf-8")
+    (folder / "src" / "a_kept_program.rt").write_text(KEEPER.format(program), encoding="utf-8")
     with (folder / "src" / "lib.rt").open("a", encoding="utf-8") as root:
-        root.write("\n#[cfg(test)]\nmod kept_program;\n")
-    ran = subprocess.run(["rt", "try", "--test"], cwd=folder, stdin=subprocess.DEVNULL, capture_output=True, text=True)
-    if ran.returncode or not program.is_file():
-        return program, ran.stdout + ran.stderr or "no program was kept"
+        root.write("\n#[cfg(test)]\nmod a_kept_program;\n")
+    with tempfile.TemporaryFile("w+", errors="replace") as said:
+        words = ["rt", "try", "--test", "--seconds", str(LIMIT)]
+        with subprocess.Popen(words, cwd=folder, stdin=subprocess.DEVNULL, stdout=said, stderr=said) as making:
+            while making.poll() is None and not program.is_file():
+                time.sleep(0.2)
+            making.terminate()
+        said.seek(0)
+        if not program.is_file():
+            return program, said.read()[-2000:].strip() or "no program was kept"
     program.chmod(0o755)
     return program, ""
 
 
-def passes(program: pathlib.Path, test: str, variable: str = "") -> bool:
-    """Whether a test of a program passes where this variable is set. It runs in a folder of its own."""
-    runner = pathlib.Path(shutil.which("rt") or "rt").resolve().parent / "rattle-test"
-    words = [runner, "--seconds", str(LIMIT), "--filter", test, program]
+def passes(program: pathlib.Path, test: str, *variables: str) -> bool:
+    """Whether a test of a program passes where these variables are set. It runs in a folder of its own."""
     with tempfile.TemporaryDirectory(prefix="test-") as folder:
-        known = {**os.environ, **({variable: "1"} if variable else {})}
-        ran = subprocess.run(words, cwd=folder, env=known, stdin=subprocess.DEVNULL, capture_output=True, text=True)
+        how = {"cwd": folder, "stdin": subprocess.DEVNULL, "stdout": subprocess.DEVNULL, "stderr": subprocess.DEVNULL}
+        try:
+            ran = subprocess.run([program, test], env=dict.fromkeys(variables, "1"), timeout=LIMIT, check=False, **how)
+        except subprocess.TimeoutExpired:
+            return False
     return ran.returncode == 0
 
 
@@ -129,8 +141,8 @@ def tried(edits: list[Edit], room: pathlib.Path, jobs: int) -> Iterator[tuple[Ed
     def judged(name: str, edit: Edit) -> str:
         crate, _, test = edit.test.partition("::")
         program, fault = programs[crate]
-        if fault:
-            return f"NOT TRIED: {crate} has no program whose tests pass: {fault[-2000:]}"
+        if fault or not passes(program, test):
+            return f"NOT TRIED: {fault or edit.test + ' fails without it'}"
         return f"NOT REFUSED by {edit.test}" if passes(program, test, name) else f"refused by {edit.test}"
 
     with ThreadPoolExecutor(jobs) as pool:

@@ -18,6 +18,8 @@ mod isolation;
 #[cfg(test)]
 mod limits;
 #[cfg(test)]
+mod maps;
+#[cfg(test)]
 mod parts;
 #[cfg(test)]
 mod products;

@@ -108,6 +108,60 @@ a1 GET /v1/order?name=o1
   "not_before":null,"prefix":"A","quantity":65,"width":3}
 "#;
 
+/// A chip that shows a bit in each of the 32 words that it may have, and its registration again: a reply of
+/// 1,529 bytes. The map's digest is by Python's hashlib.
+const WIDE_CHIP: &str = r#"
+a1 POST /v1/order {"nr":1,"name":"order-2026.esp32-sensor_batch.01","issuer":"acme-ca","prefix":"A","width":3,"first":998,"quantity":2,"macs":0}
+200 {"first":998,"issuer":"acme-ca","mac":null,"macs":0,"name":"order-2026.esp32-sensor_batch.01",
+  "next":"A998","not_before":null,"prefix":"A","quantity":2,"width":3}
+a1 POST /v1/map {"nr":2,"text":"name = \"wide\"\nwr = \"WR_DIS\"\nrd = \"RD_DIS\"\n[[block]]\nwords = 8\n[[block]]\nwords = 8\n[[block]]\nwords = 8\n[[block]]\nwords = 8\n[[field]]\nname = \"WR_DIS\"\nblock = 0\nbit = 0\ncount = 16\n[[field]]\nname = \"RD_DIS\"\nblock = 0\nbit = 16\ncount = 4\n"}
+200 {"map":"52e764b2a6016d913cd65e5df3f4a8c208f7533542d02d4b977e3fed8559ca3f"}
+a1 POST /v1/device {"nr":3,"chip":"00000000000a","order":"order-2026.esp32-sensor_batch.01","map":"52e764b2a6016d913cd65e5df3f4a8c208f7533542d02d4b977e3fed8559ca3f","blocks":<0.0=80000000 0.1=80000000 0.2=80000000 0.3=80000000 0.4=80000000 0.5=80000000 0.6=80000000 0.7=80000000 1.0=80000000 1.1=80000000 1.2=80000000 1.3=80000000 1.4=80000000 1.5=80000000 1.6=80000000 1.7=80000000 2.0=80000000 2.1=80000000 2.2=80000000 2.3=80000000 2.4=80000000 2.5=80000000 2.6=80000000 2.7=80000000 3.0=80000000 3.1=80000000 3.2=80000000 3.3=80000000 3.4=80000000 3.5=80000000 3.6=80000000 3.7=80000000>}
+200 {"bits":[
+    {"block":0,"mask":"80000000","word":0},{"block":0,"mask":"80000000","word":1},
+    {"block":0,"mask":"80000000","word":2},{"block":0,"mask":"80000000","word":3},
+    {"block":0,"mask":"80000000","word":4},{"block":0,"mask":"80000000","word":5},
+    {"block":0,"mask":"80000000","word":6},{"block":0,"mask":"80000000","word":7},
+    {"block":1,"mask":"80000000","word":0},{"block":1,"mask":"80000000","word":1},
+    {"block":1,"mask":"80000000","word":2},{"block":1,"mask":"80000000","word":3},
+    {"block":1,"mask":"80000000","word":4},{"block":1,"mask":"80000000","word":5},
+    {"block":1,"mask":"80000000","word":6},{"block":1,"mask":"80000000","word":7},
+    {"block":2,"mask":"80000000","word":0},{"block":2,"mask":"80000000","word":1},
+    {"block":2,"mask":"80000000","word":2},{"block":2,"mask":"80000000","word":3},
+    {"block":2,"mask":"80000000","word":4},{"block":2,"mask":"80000000","word":5},
+    {"block":2,"mask":"80000000","word":6},{"block":2,"mask":"80000000","word":7},
+    {"block":3,"mask":"80000000","word":0},{"block":3,"mask":"80000000","word":1},
+    {"block":3,"mask":"80000000","word":2},{"block":3,"mask":"80000000","word":3},
+    {"block":3,"mask":"80000000","word":4},{"block":3,"mask":"80000000","word":5},
+    {"block":3,"mask":"80000000","word":6},{"block":3,"mask":"80000000","word":7}],
+  "chip":"00000000000a","keys":{},
+  "map":"52e764b2a6016d913cd65e5df3f4a8c208f7533542d02d4b977e3fed8559ca3f",
+  "order":"order-2026.esp32-sensor_batch.01","pending":{"batch1":$NONE,"batch2":$NONE},"reason":null,
+  "serial":null,"state":"registered"}
+a1 POST /v1/device {"nr":3,"chip":"00000000000a","order":"order-2026.esp32-sensor_batch.01","map":"52e764b2a6016d913cd65e5df3f4a8c208f7533542d02d4b977e3fed8559ca3f","blocks":<0.0=80000000 0.1=80000000 0.2=80000000 0.3=80000000 0.4=80000000 0.5=80000000 0.6=80000000 0.7=80000000 1.0=80000000 1.1=80000000 1.2=80000000 1.3=80000000 1.4=80000000 1.5=80000000 1.6=80000000 1.7=80000000 2.0=80000000 2.1=80000000 2.2=80000000 2.3=80000000 2.4=80000000 2.5=80000000 2.6=80000000 2.7=80000000 3.0=80000000 3.1=80000000 3.2=80000000 3.3=80000000 3.4=80000000 3.5=80000000 3.6=80000000 3.7=80000000>}
+200 {"bits":[
+    {"block":0,"mask":"80000000","word":0},{"block":0,"mask":"80000000","word":1},
+    {"block":0,"mask":"80000000","word":2},{"block":0,"mask":"80000000","word":3},
+    {"block":0,"mask":"80000000","word":4},{"block":0,"mask":"80000000","word":5},
+    {"block":0,"mask":"80000000","word":6},{"block":0,"mask":"80000000","word":7},
+    {"block":1,"mask":"80000000","word":0},{"block":1,"mask":"80000000","word":1},
+    {"block":1,"mask":"80000000","word":2},{"block":1,"mask":"80000000","word":3},
+    {"block":1,"mask":"80000000","word":4},{"block":1,"mask":"80000000","word":5},
+    {"block":1,"mask":"80000000","word":6},{"block":1,"mask":"80000000","word":7},
+    {"block":2,"mask":"80000000","word":0},{"block":2,"mask":"80000000","word":1},
+    {"block":2,"mask":"80000000","word":2},{"block":2,"mask":"80000000","word":3},
+    {"block":2,"mask":"80000000","word":4},{"block":2,"mask":"80000000","word":5},
+    {"block":2,"mask":"80000000","word":6},{"block":2,"mask":"80000000","word":7},
+    {"block":3,"mask":"80000000","word":0},{"block":3,"mask":"80000000","word":1},
+    {"block":3,"mask":"80000000","word":2},{"block":3,"mask":"80000000","word":3},
+    {"block":3,"mask":"80000000","word":4},{"block":3,"mask":"80000000","word":5},
+    {"block":3,"mask":"80000000","word":6},{"block":3,"mask":"80000000","word":7}],
+  "chip":"00000000000a","keys":{},
+  "map":"52e764b2a6016d913cd65e5df3f4a8c208f7533542d02d4b977e3fed8559ca3f",
+  "order":"order-2026.esp32-sensor_batch.01","pending":{"batch1":$NONE,"batch2":$NONE},"reason":null,
+  "serial":null,"state":"registered"}
+"#;
+
 /// An import of 500 serial numbers of 63 characters, 64,518 bytes of CSV, in a body of some 65,000; then the
 /// same again.
 const LONG_IMPORT: &str = r#"
@@ -179,6 +233,13 @@ fn the_65th_number_has_its_addresses(rt: HostRuntime) -> Result<(), Fail> {
 #[test]
 fn imports_may_have_500_long_rows(rt: HostRuntime) -> Result<(), Fail> {
     let found = first_of_both(rt.alloc(), SITE, LONG_IMPORT, "")?;
+    assert_eq!(rt; found.as_str(), "");
+    Ok(())
+}
+
+#[test]
+fn chips_may_show_32_words(rt: HostRuntime) -> Result<(), Fail> {
+    let found = first_of_both(rt.alloc(), SITE, WIDE_CHIP, "")?;
     assert_eq!(rt; found.as_str(), "");
     Ok(())
 }

@@ -92,3 +92,15 @@ fn a_file_of_no_bytes_that_another_has_stays(rt: HostRuntime) -> Result<(), Fail
     assert_eq!(rt; fs::metadata(&rt, "had/s")?.len(), 1024);
     Ok(())
 }
+
+/// Nor is a file with the other name that another making has.
+#[test]
+fn a_file_that_another_making_has_stays(rt: HostRuntime) -> Result<(), Fail> {
+    make_empty_folder(&rt, "making")?;
+    let file = File::create(&rt, "making/s-new")?;
+    assert!(rt; file.try_lock().is_ok());
+    assert_eq!(rt; made_over(&rt, "making/s", "making")?, (false, 1));
+    drop(file);
+    assert_eq!(rt; made_over(&rt, "making/s", "making")?, (true, 1));
+    Ok(())
+}

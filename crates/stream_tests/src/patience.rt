@@ -210,6 +210,15 @@ const IN_PARTS: &[(&str, &[Script], &str)] = &[
         "0 bytes until 10000, 404:33 until 10000",
     ),
     (
+        "waits nine seconds, and sends a request in two parts five seconds apart",
+        &[(
+            0,
+            &[(9_000, PART, 1), (14_000, REST, 1), (14_000, "", 1)],
+            ALL,
+        )],
+        "404:33 until 14000",
+    ),
+    (
         "sends a byte each four seconds",
         &[
             (

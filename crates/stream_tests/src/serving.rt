@@ -25,8 +25,8 @@ const ONE: Script = (0, &[(0, SHOWN, 1), (0, "", 1)], Taking::After(0));
 /// How many clients come, one after another.
 const MANY: usize = 70_000;
 
-/// How long a remark in a site's text is, that makes it one of more than 100,000 bytes.
-const LONG_REMARK: usize = 100_000;
+/// How long a remark behind a site's text is, that makes it one of 1,048,576 bytes, as many as it may have.
+const LONG_REMARK: usize = 1_048_576 - SITE.len() - 3;
 
 /// A site without a manager.
 const SITE_ALONE: &str =
