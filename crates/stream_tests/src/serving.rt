@@ -223,6 +223,21 @@ fn what_a_first_run_issued_the_second_knows(rt: HostRuntime) -> Result<(), Fail>
     Ok(())
 }
 
+/// A program that ends has copied the log into the database file.
+#[test]
+fn the_file_alone_is_the_store_behind_a_run(rt: HostRuntime) -> Result<(), Fail> {
+    let alloc = rt.alloc();
+    fs::write(&rt, "alone.toml", SITE)?;
+    let wanted = format!(in alloc; "0 {ORDERED}")?;
+    let first = done_by(&rt, alloc, "serve --site alone.toml --db alone.db", ORDER)?;
+    assert_eq!(rt; first.as_str(), wanted.as_str());
+    fs::write(&rt, "copy.db", fs::read(&rt, "alone.db")?.as_slice())?;
+    let words = "replay --site alone.toml --db copy.db --existing";
+    let second = done_by(&rt, alloc, words, SHOWN)?;
+    assert_eq!(rt; second.as_str(), wanted.as_str());
+    Ok(())
+}
+
 /// Serves a port over a store that can't be: how the program ends and what it writes, and behind an arrow
 /// what is at the name then, where nothing may be made there and that isn't what was there before.
 fn told_unserved(
