@@ -71,7 +71,7 @@ def fault_of(edit: Edit, room: pathlib.Path) -> str:
 
 
 def bodies_of(edits: dict[str, Edit], folder: pathlib.Path) -> dict[str, dict[tuple[int, int], dict[str, str]]]:
-    """The bodies that the edits of a crate's folder change, by their file and place: the wrong ones by their variables."""
+    """The bodies that the edits of a crate's folder change, by file and place: the wrong ones, by their variables."""
     found: dict[str, dict[tuple[int, int], dict[str, str]]] = defaultdict(lambda: defaultdict(dict))
     for name, change in ((name, it) for name, edit in edits.items() for it in edit.changes):
         text = (folder / change.file).read_text(encoding="utf-8")
@@ -121,10 +121,10 @@ def built(crate: str, room: pathlib.Path) -> tuple[pathlib.Path, str]:
 
 def passes(program: pathlib.Path, test: str, *variables: str) -> bool:
     """Whether a test of a program passes where these variables are set. It runs in a folder of its own."""
+    known = dict.fromkeys(variables, "1")
     with tempfile.TemporaryDirectory(prefix="test-") as folder:
-        how = {"cwd": folder, "stdin": subprocess.DEVNULL, "stdout": subprocess.DEVNULL, "stderr": subprocess.DEVNULL}
         try:
-            ran = subprocess.run([program, test], env=dict.fromkeys(variables, "1"), timeout=LIMIT, check=False, **how)
+            ran = subprocess.run([program, test], cwd=folder, env=known, capture_output=True, timeout=LIMIT)
         except subprocess.TimeoutExpired:
             return False
     return ran.returncode == 0

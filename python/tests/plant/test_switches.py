@@ -47,20 +47,23 @@ made = """#!/usr/bin/python3
 import os, re, sys
 name = sys.argv[1].split("::")[1]
 on = [it for it in os.environ if it.startswith("WRONG_BODY_")]
-body = re.search(r'if os::env\\(b"%s", &mut \\[0u8; 8\\]\\) != 0 {\\n(.*?)\\n} else' % on[0], TEXT, re.S)[1] if on else ""
+switch = r'if os::env\\(b"%s", &mut \\[0u8; 8\\]\\) != 0 {\\n(.*?)\\n} else'
+body = re.search(switch % on[0], TEXT, re.S)[1] if on else ""
 sys.exit(name in body or name == "broken")
 """
 pathlib.Path(kept).write_text(made.replace("TEXT", repr(text)))
 '''
 
+# Wrong bodies: the test that each names, its old and new text, and what is told of it.
+LESS, TWO, BROKEN = (f"low_tests::sums::{name}" for name in ("less", "two", "broken"))
 ROWS = {
-    "sum_is_less": ("test: low_tests::sums::less", "    a + b", "    a - b // less", "refused by low_tests::sums::less"),
-    "sum_is_more": ("test: low_tests::sums::less", "    a + b", "    a + b // more", "NOT REFUSED by low_tests::sums::less"),
-    "least_is_two": ("test: low_tests::sums::two", "            LEAST", "            2 // two", "refused by low_tests::sums::two"),
-    "constant": ("test: low_tests::sums::two", "u8 = 1;", "u8 = 2;", "NOT TRIED: its old text is in no function's body: u8 = 1;"),
-    "failing": ("test: low_tests::sums::broken", "    a + b", "    a", "NOT TRIED: low_tests::sums::broken fails without it"),
-    "twice": ("test: low_tests::sums::two", "LEAST", "2", "NOT TRIED: its old text is in src/lib.rt 3 times: LEAST"),
-    "untested": ("", "    a + b", "    a", "NOT TRIED: its line 'test:' names no test of a crate: there is none"),
+    "sum_is_less": (LESS, "    a + b", "    a - b // less", f"refused by {LESS}"),
+    "sum_is_more": (LESS, "    a + b", "    a + b // more", f"NOT REFUSED by {LESS}"),
+    "least_is_two": (TWO, "            LEAST", "            2 // two", f"refused by {TWO}"),
+    "constant": (TWO, "u8 = 1;", "u8 = 2;", "NOT TRIED: its old text is in no function's body: u8 = 1;"),
+    "failing": (BROKEN, "    a + b", "    a", f"NOT TRIED: {BROKEN} fails without it"),
+    "twice": (TWO, "LEAST", "2", "NOT TRIED: its old text is in src/lib.rt 3 times: LEAST"),
+    "untested": ("sums", "    a + b", "    a", "NOT TRIED: its line 'test:' names no test of a crate: sums"),
 }
 
 
@@ -78,7 +81,8 @@ def tree(tmp_path: Path) -> Path:
         "crates/low_tests/src/lib.rt": "//! Tests.\n",
     }
     for name, (test, old, new, _) in ROWS.items():
-        texts[f"crates/low/must-fail/{name}.test.md"] = f"A sentence.\n\n{test}\nfile: src/lib.rt\nold: {old}\nnew: {new}\n"
+        lines = f"A sentence.\n\ntest: {test}\nfile: src/lib.rt\nold: {old}\nnew: {new}\n"
+        texts[f"crates/low/must-fail/{name}.test.md"] = lines
     for name, text in texts.items():
         (top / name).parent.mkdir(parents=True, exist_ok=True)
         (top / name).write_text(text, encoding="utf-8")
@@ -90,7 +94,8 @@ def tree(tmp_path: Path) -> Path:
 def tried(top: Path, *words: str) -> subprocess.CompletedProcess[str]:
     """What the tool says of the wrong bodies of a tree."""
     known = {**os.environ, "PATH": f"{top.parent}:{os.environ['PATH']}"}
-    return subprocess.run([top / "tools/strength", "--tests", *words], env=known, capture_output=True, text=True, timeout=60)
+    words = (str(top / "tools/strength"), "--tests", *words)
+    return subprocess.run(words, env=known, capture_output=True, text=True, timeout=60)
 
 
 def test_each_body_is_tried(tree: Path) -> None:
