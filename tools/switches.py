@@ -119,15 +119,16 @@ def built(crate: str, room: pathlib.Path) -> tuple[pathlib.Path, str]:
     return program, ""
 
 
-def passes(program: pathlib.Path, test: str, *variables: str) -> bool:
-    """Whether a test of a program passes where these variables are set. It runs in a folder of its own."""
+def end_of(program: pathlib.Path, test: str, *variables: str) -> str:
+    """How a test of a program ends where these variables are set: it passes, fails, or takes too long. It runs in a
+    folder of its own."""
     known = dict.fromkeys(variables, "1")
     with tempfile.TemporaryDirectory(prefix="test-") as folder:
         try:
             ran = subprocess.run([program, test], cwd=folder, env=known, capture_output=True, timeout=LIMIT)
         except subprocess.TimeoutExpired:
-            return False
-    return ran.returncode == 0
+            return f"takes more than {LIMIT} seconds"
+    return "fails" if ran.returncode else "passes"
 
 
 def tried(edits: list[Edit], room: pathlib.Path, jobs: int) -> Iterator[tuple[Edit, str]]:
@@ -136,17 +137,25 @@ def tried(edits: list[Edit], room: pathlib.Path, jobs: int) -> Iterator[tuple[Ed
     yield from ((edit, f"NOT TRIED: {faults[edit.name]}") for edit in edits if faults[edit.name])
     named = {f"WRONG_BODY_{place}": edit for place, edit in enumerate(edits) if not faults[edit.name]}
     switch(named, room)
-    programs = {crate: built(crate, room) for crate in sorted({it.test.partition("::")[0] for it in named.values()})}
+    tests = sorted({edit.test for edit in named.values()})
+    programs = {crate: built(crate, room) for crate in sorted({test.partition("::")[0] for test in tests})}
 
-    def judged(name: str, edit: Edit) -> str:
-        crate, _, test = edit.test.partition("::")
+    def end(test: str, *variables: str) -> str:
+        crate, _, name = test.partition("::")
         program, fault = programs[crate]
-        if fault or not passes(program, test):
-            return f"NOT TRIED: {fault or edit.test + ' fails without it'}"
-        return f"NOT REFUSED by {edit.test}" if passes(program, test, name) else f"refused by {edit.test}"
+        return fault or end_of(program, name, *variables)
 
     with ThreadPoolExecutor(jobs) as pool:
-        yield from zip(named.values(), pool.map(judged, named, named.values()), strict=True)
+        without = dict(zip(tests, pool.map(end, tests), strict=True))
+
+        def judged(name: str) -> str:
+            test = named[name].test
+            if without[test] != "passes":
+                return f"NOT TRIED: {test} without it: {without[test]}"
+            how = end(test, name)
+            return {"fails": "refused by ", "passes": "NOT REFUSED by "}.get(how, f"NOT TRIED, {how}: ") + test
+
+        yield from zip(named.values(), pool.map(judged, named), strict=True)
 
 
 def try_by_tests(edits: Iterable[Edit], jobs: int) -> int:

@@ -61,7 +61,7 @@ ROWS = {
     "sum_is_more": (LESS, "    a + b", "    a + b // more", f"NOT REFUSED by {LESS}"),
     "least_is_two": (TWO, "            LEAST", "            2 // two", f"refused by {TWO}"),
     "constant": (TWO, "u8 = 1;", "u8 = 2;", "NOT TRIED: its old text is in no function's body: u8 = 1;"),
-    "failing": (BROKEN, "    a + b", "    a", f"NOT TRIED: {BROKEN} fails without it"),
+    "failing": (BROKEN, "    a + b", "    a", f"NOT TRIED: {BROKEN} without it: fails"),
     "twice": (TWO, "LEAST", "2", "NOT TRIED: its old text is in src/lib.rt 3 times: LEAST"),
     "untested": ("sums", "    a + b", "    a", "NOT TRIED: its line 'test:' names no test of a crate: sums"),
 }
@@ -115,5 +115,5 @@ def test_one_is_tried(tree: Path) -> None:
 def test_a_build_that_fails_refuses_nothing(tree: Path) -> None:
     (tree.parent / "rt").write_text("#!/bin/sh\necho 'src/lib.rt:5: no b'\nexit 1\n", encoding="utf-8")
     done = tried(tree, "low/sum_is_less")
-    assert done.stdout == "low/sum_is_less: NOT TRIED: src/lib.rt:5: no b\n0 refused, 1 not\n"
+    assert done.stdout == f"low/sum_is_less: NOT TRIED: {LESS} without it: src/lib.rt:5: no b\n0 refused, 1 not\n"
     assert done.returncode == 1 and not done.stderr
