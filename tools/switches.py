@@ -9,6 +9,7 @@ import pathlib
 import re
 import shutil
 import subprocess
+import sys
 import tempfile
 import time
 from collections import defaultdict
@@ -100,7 +101,7 @@ def switch(edits: dict[str, Edit], room: pathlib.Path) -> None:
 
 
 def built(crate: str, room: pathlib.Path) -> tuple[pathlib.Path, str]:
-    """The program of a crate of tests, and what was said where none could be built."""
+    """The program of a crate of tests, and `isn't built` where it isn't, of which the toolchain's words are told."""
     folder, program = room / "crates" / crate, room / "programs" / crate
     program.parent.mkdir(exist_ok=True)
     (folder / "src" / "a_kept_program.rt").write_text(KEEPER.format(program), encoding="utf-8")
@@ -114,7 +115,8 @@ def built(crate: str, room: pathlib.Path) -> tuple[pathlib.Path, str]:
             making.terminate()
         said.seek(0)
         if not program.is_file():
-            return program, said.read()[-2000:].strip() or "no program was kept"
+            print(f"strength: {crate}: {said.read().strip()[-2000:]}", file=sys.stderr, flush=True)
+            return program, "isn't built"
     program.chmod(0o755)
     return program, ""
 

@@ -73,7 +73,7 @@ pub refused_answers_nothing : (site : SiteValue) (caller : Caller) (wanted : Res
 refused_answers_nothing site Manager wanted reply reason is said = tt
 refused_answers_nothing site (Seat caller) wanted reply reason (inl is) said =
     (subst (λ (w : Result Parsed Refusal). AnswersNothing (exchange_of (section_at site caller) (seat_name_at site caller) w reply)) is refl, tt)
-refused_answers_nothing site (Seat caller) wanted reply reason (inr unkept) said =
+refused_answers_nothing site (Seat caller) wanted reply reason (inr same_refusal) said =
     (answers_nothing (exchange_of (section_at site caller) (seat_name_at site caller) wanted reply) (unavailable said), tt)
   where
     unavailable : (reply ≡ refusal reason) ⊎ (reply ≡ refusal unkept) → is_unavailable reply.status ≡ true

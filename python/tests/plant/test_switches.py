@@ -115,5 +115,5 @@ def test_one_is_tried(tree: Path) -> None:
 def test_a_build_that_fails_refuses_nothing(tree: Path) -> None:
     (tree.parent / "rt").write_text("#!/bin/sh\necho 'src/lib.rt:5: no b'\nexit 1\n", encoding="utf-8")
     done = tried(tree, "low/sum_is_less")
-    assert done.stdout == f"low/sum_is_less: NOT TRIED: {LESS} without it: src/lib.rt:5: no b\n0 refused, 1 not\n"
-    assert done.returncode == 1 and not done.stderr
+    assert done.stdout == f"low/sum_is_less: NOT TRIED: {LESS} without it: isn't built\n0 refused, 1 not\n"
+    assert done.returncode == 1 and done.stderr == "strength: low_tests: src/lib.rt:5: no b\n"

@@ -5,7 +5,6 @@ use Rattle.memory_keeper.proofs.Keys.{without_map}
 use Rattle.memory_keeper.proofs.MapNumbers.{without-placed_map}
 use Rattle.memory_keeper.proofs.Texts.{found-placed, found_same, no_map, WritesAt}
 use Rattle.memory_keeper.proofs.maps.MapRows.add.Goals as goal
-use Rattle.memory_keeper.proofs.maps.MapRows.add.Goals.{in-Ok, in-Err}
 
 pub invariant_of-self-in-Ok : goal.invariant_of-self-in-Ok
 invariant_of-self-in-Ok c =
@@ -32,28 +31,18 @@ invariant_of-self-in-Err c =
     )
     (found_same rows c.self.inside.ids c.insert-2.new.self c.self.invariant c.in-Err.ensures.err)
 
-pub returns-clause-undone : goal.returns-clause-undone
-returns-clause-undone c =
-    elim c.match-insert.branch [
-      | in-Ok w ↦
-          rw (w.result-is, w.self-is, c.in_ok-insert.ensures.placed, ← c.self.view_is)
-          (without-placed_map (record { id = c.in-Some.id; body = c.args.body }) c.self.inside.rows (rw (← c.self.view_is) at c.in-Some.ensures.free))
-      | in-Err w ↦ rw w.result-is tt
-    ]
+pub returns-in-Ok-clause-undone : goal.returns-in-Ok-clause-undone
+returns-in-Ok-clause-undone c =
+    rw (c.in_ok-insert.ensures.placed, ← c.self.view_is)
+    (without-placed_map (record { id = c.in-Some.id; body = c.args.body }) c.self.inside.rows (rw (← c.self.view_is) at c.in-Some.ensures.free))
 
-pub returns-clause-err : goal.returns-clause-err
-returns-clause-err c =
-    elim c.match-insert.branch [
-      | in-Ok w ↦ rw w.result-is tt
-      | in-Err w ↦
-          let rows = c.self.inside.rows in
-          let free_id : find (has_id c.in-Some.id) rows ≡ None = rw (← c.self.view_is) at c.in-Some.ensures.free in
-          rw (
-            w.result-is,
-            w.self-is,
-            w.remove.ensures.other_rows,
-            without_map c.in-Some.id c.insert.new.self,
-            c.in_ok-insert.ensures.placed,
-            without-placed_map (record { id = c.in-Some.id; body = c.args.body }) rows free_id,
-          ) c.self.view_is
-    ]
+pub returns-in-Err-clause-err : goal.returns-in-Err-clause-err
+returns-in-Err-clause-err c =
+    let rows = c.self.inside.rows in
+    let free_id : find (has_id c.in-Some.id) rows ≡ None = rw (← c.self.view_is) at c.in-Some.ensures.free in
+    rw (
+      c.remove.ensures.other_rows,
+      without_map c.in-Some.id c.insert.new.self,
+      c.in_ok-insert.ensures.placed,
+      without-placed_map (record { id = c.in-Some.id; body = c.args.body }) rows free_id,
+    ) c.self.view_is
