@@ -2,10 +2,11 @@
 /**
  * A station over no client, for the kit: it brings the chip on the bench from registered to shipped (../README.md).
  *
- * Its state file has the number of the next request, the request under way and the last one that was accepted. It is
- * synced before a request is sent, so that a start behind a kill sends the same bytes again, before anything else. A
- * refusal as 11 or 12 ends it, until a person looked why. It shows the protocol, and has neither the lock nor the look
- * for foreign files that a station of a plant has. Node 18 or later, no package.
+ * Its state file has the number of the next request, the request under way, the last one that was accepted, and why it
+ * stopped. It is synced before a request is sent, so that a start behind a kill sends the same bytes again, before
+ * anything else. A refusal as 11 or 12 ends it and each later start, until a person looked why and took the state file
+ * away. It shows the protocol, and has neither the lock nor the look for foreign files that a station of a plant has.
+ * Node 18 or later, no package.
  */
 
 import { spawnSync } from "node:child_process";
@@ -199,7 +200,7 @@ class Seat {
   constructor({ KIT_URL, KIT_TOKEN, KIT_STATE, KIT_LOG }) {
     Object.assign(this, { url: KIT_URL, token: KIT_TOKEN, file: KIT_STATE, log: new Log(KIT_LOG) });
     const isThere = fs.existsSync(KIT_STATE);
-    this.state = isThere ? JSON.parse(fs.readFileSync(KIT_STATE, "utf8")) : { next: null, under_way: null, last: null };
+    this.state = isThere ? JSON.parse(fs.readFileSync(KIT_STATE, "utf8")) : { next: null, under_way: null, last: null, stop: null };
   }
 
   /** Changes the state, in the file first. */
@@ -240,6 +241,13 @@ class Seat {
     return this.complete(false);
   }
 
+  /** Sends what an earlier start left under way, unless that one stopped. */
+  async finish() {
+    const { stop, under_way: asked } = this.state;
+    if (stop) throw new Refused(stop.no, stop.error);
+    if (asked) await this.complete(true);
+  }
+
   /** Sends the request under way, of an earlier start too, until its reply is there, and keeps that. */
   async complete(wasSent) {
     const { next: number, under_way: asked } = this.state;
@@ -254,10 +262,10 @@ class Seat {
 
   /** Throws a refusal. One that says nothing of what became of the same request before leaves it under way. */
   refuse(number, status, told, isRepeat) {
-    if (told.no > OTHER_BODY || !isRepeat) {
-      this.log.add({ nr: number, status, reply: told });
-      this.keep({ under_way: null });
-    }
+    const isKept = isRepeat && told.no <= OTHER_BODY;
+    if (!isKept) this.log.add({ nr: number, status, reply: told });
+    const stop = told.no === WRONG_NUMBER || told.no === OTHER_BODY ? told : null;
+    if (!isKept || stop) this.keep({ under_way: isKept ? this.state.under_way : null, stop });
     throw new Refused(told.no, told.error);
   }
 
@@ -361,7 +369,7 @@ async function main() {
   const job = JSON.parse(fs.readFileSync(process.env.KIT_JOB, "utf8"));
   const seat = new Seat(process.env);
   const bench = new Espefuse(process.env.KIT_CHIP, job.keys);
-  if (seat.state.under_way) await seat.complete(true);
+  await seat.finish();
   const map = await prepare(seat, job);
   const blocks = bench.read();
   const chip = chipOf(blocks);

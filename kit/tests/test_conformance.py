@@ -2,12 +2,16 @@
 
 from __future__ import annotations
 
+import hashlib
+import http.server
 import json
 import os
 import re
 import shutil
 import subprocess
 import sys
+import tempfile
+import threading
 import unittest
 from concurrent.futures import ThreadPoolExecutor
 from pathlib import Path
@@ -107,6 +111,55 @@ class Few(unittest.TestCase):
         row, words = FOUND["next-number"]
         self.assertEqual(other, 1, faults)
         self.assertRegex(faults, rf"\nFAULT {row}: .*{words}")
+
+
+class Refusing(http.server.BaseHTTPRequestHandler):
+    """Refuses each request as 12."""
+
+    def do_POST(self):
+        self.server.asked.append(self.rfile.read(int(self.headers.get("Content-Length", 0))))
+        told = b'{"error":"other_body","no":12}'
+        self.send_response(409)
+        self.send_header("Content-Type", "application/json")
+        self.send_header("Content-Length", str(len(told)))
+        self.end_headers()
+        self.wfile.write(told)
+
+    do_GET = do_POST  # noqa: N815
+
+    def log_message(self, *_):
+        pass
+
+
+class Stops(unittest.TestCase):
+    """A station that is refused as 12 stops, and sends nothing when it starts again."""
+
+    def setUp(self):
+        self.server = http.server.ThreadingHTTPServer(("127.0.0.1", 0), Refusing)
+        self.server.asked = []
+        threading.Thread(target=self.server.serve_forever, daemon=True).start()
+        self.addCleanup(self.server.server_close)
+        self.addCleanup(self.server.shutdown)
+
+    def started(self, folder, words):
+        """The status of a start over a folder's state file."""
+        files = {name: str(folder / name.lower()) for name in ("KIT_STATE", "KIT_LOG", "KIT_JOB", "KIT_CHIP")}
+        url = f"http://127.0.0.1:{self.server.server_address[1]}"
+        environment = {**PLACES, **files, "KIT_URL": url, "KIT_TOKEN": "abc"}
+        return subprocess.run([*map(str, words)], env=environment, capture_output=True, timeout=60).returncode
+
+    def test_a_start_behind_a_stop(self):
+        under_way = {"path": "/v1/ship", "body": '{"nr":7,"chip":"240ac4000001"}'}
+        state = {"token": hashlib.sha256(b"abc").hexdigest(), "next": 7, "under_way": under_way, "last": None}
+        for name, words in RIGHT.items():
+            with self.subTest(name), tempfile.TemporaryDirectory() as folder:
+                self.server.asked.clear()
+                (Path(folder) / "kit_state").write_text(json.dumps({**state, "late": [], "stop": None}))
+                (Path(folder) / "kit_state").chmod(0o600)
+                (Path(folder) / "kit_job").write_text('{"keys":{}}')
+                statuses = [self.started(Path(folder), words) for _ in range(2)]
+                self.assertEqual((statuses, self.server.asked), ([1, 1], [under_way["body"].encode()]))
+                self.assertEqual(json.loads((Path(folder) / "kit_state").read_bytes())["under_way"], under_way)
 
 
 class Books:

@@ -1,3 +1,3 @@
 -- The lemmas of this crate.
 pub mod Safe
-pub mod Sure
+pub mod Copies

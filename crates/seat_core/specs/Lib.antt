@@ -6,5 +6,5 @@ pub mod Replies
 pub mod Refusals
 pub mod Events
 pub mod Safety
-pub mod Refused
+pub mod Copies
 pub mod Prelude

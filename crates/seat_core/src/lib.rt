@@ -15,9 +15,9 @@
 //!
 //! - `what_is_sent_is_written`: whatever befalls a station, nothing is sent that its file doesn't have
 //!   by then, with the same number.
-//! - `a_refusal_takes_no_number`: behind a refusal the number is the same. A request that may have
-//!   been sent before is still under way or kept aside, and is in the log as not done only where the
-//!   refusal says so.
+//! - `a_refusal_takes_no_number`: behind a refusal the number is the same, and the request is still
+//!   under way or kept aside, however often it was sent. One that may have been sent before is in the
+//!   log as not done only where the refusal says so.
 #![tactic(auto)]
 
 mod act;

@@ -1,9 +1,10 @@
 // A station: what its file has, what it waits for, and what it does at each event.
-ghost use Rattle.std.specs.Prelude.{◌≡◌, ℕ, List, [], IfOk, option_copied, slice_get, ◌-◌, length};
-ghost use Rattle.seat_core.specs.Prelude.{Step, begins, following, step_of};
-ghost use Rattle.seat_core.specs.Prelude.{started, wanted, accepted, refused, missed, given_up};
-ghost use Rattle.seat_core.specs.Prelude.{looked, done, found, let_go, stopped, try_kept, numbered};
-ghost use Rattle.seat_core.specs.Prelude.{refused_once, refused_again, refused_kept};
+ghost use Rattle.std.specs.Prelude.{◌≡◌, IfOk};
+ghost use Rattle.seat_core.specs.Prelude.{Step, IsNew, following, step_of, untried_request};
+ghost use Rattle.seat_core.specs.Prelude.{start_step, request_step, reply_step, refusal_step};
+ghost use Rattle.seat_core.specs.Prelude.{silence_step, patience_step, look_step, number_step};
+ghost use Rattle.seat_core.specs.Prelude.{completion, probe_reply, request_refusal, probe_refusal};
+ghost use Rattle.seat_core.specs.Prelude.{aside_step, stop_step, probe_step, resumption};
 
 use crate::act::{Act, Acts, Trouble};
 use crate::aside::KeptAside;
@@ -76,7 +77,7 @@ pub struct Station {
 impl Station {
     /// A station without a file, before it starts. An error is want of memory.
     pub fn new(alloc: Global) -> Result<Station, AllocError>
-        ensures { IfOk result begins }
+        ensures { IfOk result IsNew }
     {
         let aside = KeptAside::new(alloc)?;
         let file = SeatFile {
@@ -109,8 +110,8 @@ impl Station {
     }
 
     fn start(&mut self) -> Acts
-        ensures left { self.new ≡ (started self.old).left }
-        ensures acts { result ≡ (started self.old).acts }
+        ensures left { self.new ≡ (start_step self.old).left }
+        ensures acts { result ≡ (start_step self.old).acts }
     {
         self.waiting = Waiting::Nothing;
         if let Some(stop) = self.file.stop {
@@ -130,8 +131,8 @@ impl Station {
     }
 
     fn want(&mut self, request: u64) -> Acts
-        ensures left { self.new ≡ (wanted self.old request).left }
-        ensures acts { result ≡ (wanted self.old request).acts }
+        ensures left { self.new ≡ (request_step self.old request).left }
+        ensures acts { result ≡ (request_step self.old request).acts }
     {
         if let Some(stop) = self.file.stop {
             return Acts::of(&[Act::Show(Trouble::Stopped(stop))]);
@@ -148,8 +149,8 @@ impl Station {
     }
 
     fn accept(&mut self, reply: u64) -> Acts
-        ensures left { self.new ≡ (accepted self.old reply).left }
-        ensures acts { result ≡ (accepted self.old reply).acts }
+        ensures left { self.new ≡ (reply_step self.old reply).left }
+        ensures acts { result ≡ (reply_step self.old reply).acts }
     {
         match (self.waiting, self.file.place) {
             (Waiting::Once, Place::UnderWay(sent)) => self.finish(sent, reply),
@@ -162,8 +163,8 @@ impl Station {
 
     /// The request under way was done.
     fn finish(&mut self, sent: Sent, reply: u64) -> Acts
-        ensures left { self.new ≡ (done self.old sent reply).left }
-        ensures acts { result ≡ (done self.old sent reply).acts }
+        ensures left { self.new ≡ (completion self.old sent reply).left }
+        ensures acts { result ≡ (completion self.old sent reply).acts }
     {
         let request = sent.request;
         let outcome = Outcome::Done(reply);
@@ -181,8 +182,10 @@ impl Station {
     /// A late copy of a request that was kept aside had been accepted. What is under way wasn't
     /// done, and gets the next number.
     fn find(&mut self, sent: Sent, untried: usize, reply: u64) -> Acts
-        ensures left { self.new ≡ (found self.old sent untried reply).left }
-        ensures acts { result ≡ (found self.old sent untried reply).acts }
+        ensures left { self.new
+            ≡ (probe_reply self.old sent reply (untried_request self.old.file.aside untried)).left }
+        ensures acts { result
+            ≡ (probe_reply self.old sent reply (untried_request self.old.file.aside untried)).acts }
     {
         let Some(request) = self.untried_request(untried) else {
             return Acts::of(&[]);
@@ -212,81 +215,64 @@ impl Station {
 
     /// The oldest of the kept requests that weren't tried yet, if so many weren't.
     fn untried_request(&self, untried: usize) -> Option<u64>
-        ensures { result ≡ slice_get self.now.file.aside (length self.now.file.aside - untried) }
+        ensures { result ≡ untried_request self.now.file.aside untried }
     {
         let aside = self.file.aside.as_slice();
         aside.get(aside.len().saturating_sub(untried)).copied()
     }
 
     fn refuse(&mut self, code: u8, expected: u64) -> Acts
-        ensures left { self.new ≡ (refused self.old code expected).left }
-        ensures acts { result ≡ (refused self.old code expected).acts }
+        ensures left { self.new ≡ (refusal_step self.old code expected).left }
+        ensures acts { result ≡ (refusal_step self.old code expected).acts }
     {
         if code == UNKEPT {
             return self.miss();
         }
+        let refusal = Stop { code, expected };
         match (self.waiting, self.file.place) {
-            (Waiting::Once, Place::UnderWay(sent)) => self.refuse_once(sent, code, expected),
-            (Waiting::Again, Place::UnderWay(sent)) => self.refuse_again(sent, code, expected),
+            (Waiting::Once, Place::UnderWay(sent)) => self.refuse_request(sent, false, refusal),
+            (Waiting::Again, Place::UnderWay(sent)) => self.refuse_request(sent, true, refusal),
             (Waiting::Kept(untried, again), Place::UnderWay(sent)) => {
-                self.refuse_kept(sent, untried, again, Stop { code, expected })
+                self.refuse_probe(sent, untried, again, refusal)
             }
             (Waiting::Number, _) => self.refuse_number(code, expected),
             _ => Acts::of(&[]),
         }
     }
 
-    /// The request under way, which was sent once, was refused.
-    fn refuse_once(&mut self, sent: Sent, code: u8, expected: u64) -> Acts
-        ensures left { self.new ≡ (refused_once self.old sent code expected).left }
-        ensures acts { result ≡ (refused_once self.old sent code expected).acts }
+    /// The request under way was refused, which may have been sent before.
+    fn refuse_request(&mut self, sent: Sent, again: bool, refusal: Stop) -> Acts
+        ensures left { self.new ≡ (request_refusal self.old sent again refusal).left }
+        ensures acts { result ≡ (request_refusal self.old sent again refusal).acts }
     {
-        match code {
-            WRONG_NUMBER => self.stop_at(sent, false, code, Stop { code, expected }),
+        match refusal.code {
+            WRONG_NUMBER => self.stop_at(sent, again, WRONG_NUMBER, refusal),
             OTHER_BODY => {
                 let untried = self.file.aside.as_slice().len();
-                self.try_kept(sent, false, untried)
+                self.probe(sent, again, untried)
             }
-            _ => self.let_go(sent, code),
-        }
-    }
-
-    /// The request under way, which may have been sent before, was refused.
-    fn refuse_again(&mut self, sent: Sent, code: u8, expected: u64) -> Acts
-        ensures left { self.new ≡ (refused_again self.old sent code expected).left }
-        ensures acts { result ≡ (refused_again self.old sent code expected).acts }
-    {
-        match code {
-            WRONG_NUMBER => self.stop_at(sent, true, code, Stop { code, expected }),
-            OTHER_BODY => {
-                let untried = self.file.aside.as_slice().len();
-                self.try_kept(sent, true, untried)
-            }
-            0..WRONG_NUMBER => Acts::of(&[Act::Show(Trouble::Unsure(code))]),
-            _ => {
-                self.file.aside.keep(sent.request);
-                self.let_go(sent, code)
-            }
+            0..WRONG_NUMBER if again => Acts::of(&[Act::Show(Trouble::Unsure(refusal.code))]),
+            _ => self.set_aside(sent, refusal.code),
         }
     }
 
     /// A request that was kept aside was refused, as the request under way was before as 12.
-    fn refuse_kept(&mut self, sent: Sent, untried: usize, again: bool, refusal: Stop) -> Acts
-        ensures left { self.new ≡ (refused_kept self.old sent untried again refusal).left }
-        ensures acts { result ≡ (refused_kept self.old sent untried again refusal).acts }
+    fn refuse_probe(&mut self, sent: Sent, untried: usize, again: bool, refusal: Stop) -> Acts
+        ensures left { self.new ≡ (probe_refusal self.old sent untried again refusal).left }
+        ensures acts { result ≡ (probe_refusal self.old sent untried again refusal).acts }
     {
         match refusal.code {
             0..WRONG_NUMBER => Acts::of(&[Act::Show(Trouble::Unsure(refusal.code))]),
-            OTHER_BODY => self.try_kept(sent, again, untried.saturating_sub(1)),
+            OTHER_BODY => self.probe(sent, again, untried.saturating_sub(1)),
             _ => self.stop_at(sent, again, OTHER_BODY, refusal),
         }
     }
 
     /// The request under way was refused as 12: sends the next of those that were kept aside, of
     /// which so many weren't tried yet, or stops where there is none.
-    fn try_kept(&mut self, sent: Sent, again: bool, untried: usize) -> Acts
-        ensures left { self.new ≡ (try_kept self.old sent again untried).left }
-        ensures acts { result ≡ (try_kept self.old sent again untried).acts }
+    fn probe(&mut self, sent: Sent, again: bool, untried: usize) -> Acts
+        ensures left { self.new ≡ (probe_step self.old sent again untried).left }
+        ensures acts { result ≡ (probe_step self.old sent again untried).acts }
     {
         let Some(request) = self.untried_request(untried) else {
             let refusal = Stop {
@@ -300,14 +286,15 @@ impl Station {
         Acts::of(&[Act::Send(Sent { number, request })])
     }
 
-    /// The request under way wasn't done: it is forgotten, and its number is the next one's.
-    fn let_go(&mut self, sent: Sent, code: u8) -> Acts
-        ensures left { self.new ≡ (let_go self.old sent code).left }
-        ensures acts { result ≡ (let_go self.old sent code).acts }
+    /// The request under way was refused: it is kept aside, and its number is the next one's.
+    fn set_aside(&mut self, sent: Sent, code: u8) -> Acts
+        ensures left { self.new ≡ (aside_step self.old sent code).left }
+        ensures acts { result ≡ (aside_step self.old sent code).acts }
     {
         let Sent { number, request } = sent;
         let refusal = Outcome::NotDone(code);
         self.file.place = Place::Free(number);
+        self.file.aside.keep(request);
         self.waiting = Waiting::Nothing;
         Acts::of(&[
             Act::LogOutcome(number, refusal),
@@ -316,11 +303,11 @@ impl Station {
         ])
     }
 
-    /// Stops: the request under way was refused by this number. It is kept where it may have been
-    /// sent before, as it may be done then.
+    /// Stops: the request under way was refused by this number. It stays under way where it may have
+    /// been sent before, as it may be done then, and is kept aside else.
     fn stop_at(&mut self, sent: Sent, again: bool, code: u8, stop: Stop) -> Acts
-        ensures left { self.new ≡ (stopped self.old sent again code stop).left }
-        ensures acts { result ≡ (stopped self.old sent again code stop).acts }
+        ensures left { self.new ≡ (stop_step self.old sent again code stop).left }
+        ensures acts { result ≡ (stop_step self.old sent again code stop).acts }
     {
         self.file.stop = Some(stop);
         self.waiting = Waiting::Nothing;
@@ -328,6 +315,7 @@ impl Station {
             return Acts::of(&[Act::Write, Act::Show(Trouble::Stopped(stop))]);
         }
         self.file.place = Place::Free(sent.number);
+        self.file.aside.keep(sent.request);
         Acts::of(&[
             Act::LogOutcome(sent.number, Outcome::NotDone(code)),
             Act::Write,
@@ -337,23 +325,35 @@ impl Station {
 
     /// The request that asks for the number was refused.
     fn refuse_number(&mut self, code: u8, expected: u64) -> Acts
-        ensures left { self.new ≡ (numbered self.old code expected).left }
-        ensures acts { result ≡ (numbered self.old code expected).acts }
+        ensures left { self.new ≡ (number_step self.old code expected).left }
+        ensures acts { result ≡ (number_step self.old code expected).acts }
     {
         if code != WRONG_NUMBER {
             return Acts::of(&[Act::Show(Trouble::Unsure(code))]);
         }
-        let number = match self.file.place {
-            Place::Unknown => None,
-            Place::Free(number) => Some(number),
-            Place::UnderWay(sent) => Some(sent.number),
-        };
+        match self.file.place {
+            Place::Unknown => {
+                self.file.place = Place::Free(expected);
+                self.file.stop = None;
+                self.waiting = Waiting::Nothing;
+                Acts::of(&[Act::Write])
+            }
+            Place::Free(number) => self.resume(number, expected),
+            Place::UnderWay(sent) => {
+                self.file.aside.keep(sent.request);
+                self.resume(sent.number, expected)
+            }
+        }
+    }
+
+    /// Goes on with the number that the server expects. What is kept aside had the number before.
+    fn resume(&mut self, number: u64, expected: u64) -> Acts
+        ensures left { self.new ≡ (resumption self.old number expected).left }
+        ensures acts { result ≡ (resumption self.old number expected).acts }
+    {
         self.file.place = Place::Free(expected);
         self.file.stop = None;
         self.waiting = Waiting::Nothing;
-        let Some(number) = number else {
-            return Acts::of(&[Act::Write]);
-        };
         if number != expected {
             self.file.aside.forget_all();
         }
@@ -361,8 +361,8 @@ impl Station {
     }
 
     fn miss(&mut self) -> Acts
-        ensures left { self.new ≡ (missed self.old).left }
-        ensures acts { result ≡ (missed self.old).acts }
+        ensures left { self.new ≡ (silence_step self.old).left }
+        ensures acts { result ≡ (silence_step self.old).acts }
     {
         match (self.waiting, self.file.place) {
             (Waiting::Once, Place::UnderWay(sent)) => {
@@ -385,8 +385,8 @@ impl Station {
     }
 
     fn give_up(&mut self) -> Acts
-        ensures left { self.new ≡ (given_up self.old).left }
-        ensures acts { result ≡ (given_up self.old).acts }
+        ensures left { self.new ≡ (patience_step self.old).left }
+        ensures acts { result ≡ (patience_step self.old).acts }
     {
         match self.waiting {
             Waiting::Nothing => Acts::of(&[]),
@@ -395,8 +395,8 @@ impl Station {
     }
 
     fn look(&mut self) -> Acts
-        ensures left { self.new ≡ (looked self.old).left }
-        ensures acts { result ≡ (looked self.old).acts }
+        ensures left { self.new ≡ (look_step self.old).left }
+        ensures acts { result ≡ (look_step self.old).acts }
     {
         self.waiting = Waiting::Number;
         Acts::of(&[Act::AskNumber])

@@ -57,8 +57,18 @@ const AGAIN: &[Event] = &[
     Event::Refuse(12, 0),
 ];
 
+/// It was sent once, and refused as 6: a copy of it may be done all the same.
+const SENT_ONCE: &[Event] = &[
+    Event::Start,
+    Event::Refuse(11, 7),
+    Event::Want(5),
+    Event::Refuse(6, 0),
+    Event::Want(4),
+    Event::Refuse(12, 0),
+];
+
 const ROWS: &[Row] = &[
-    // each that was sent more than once and refused is kept, until the next one is accepted
+    // each that was refused is kept, however often it was sent, until the next one is accepted
     Row {
         before: KEPT_TWO,
         event: Event::Want(4),
@@ -124,12 +134,18 @@ const ROWS: &[Row] = &[
         acts: "log 7 not 12; log 7 5; log 7 done 91; write; show late 5; log 8 4; send 8 4",
         file: "under way 8 4",
     },
+    Row {
+        before: SENT_ONCE,
+        event: Event::Accept(91),
+        acts: "log 7 not 12; log 7 5; log 7 done 91; write; show late 5; log 8 4; send 8 4",
+        file: "under way 8 4",
+    },
     // where no kept request is accepted, the station stops
     Row {
         before: TRIED,
         event: Event::Refuse(12, 0),
         acts: "log 7 not 12; write; show stopped 12 0",
-        file: "free 7, aside 5, aside 6, stopped 12",
+        file: "free 7, aside 5, aside 6, aside 4, stopped 12",
     },
     Row {
         before: AGAIN,
@@ -149,7 +165,20 @@ const ROWS: &[Row] = &[
         ],
         event: Event::Refuse(11, 9),
         acts: "log 7 not 11; write; show stopped 11 9",
-        file: "free 7, aside 5, stopped 11",
+        file: "free 7, aside 5, aside 4, stopped 11",
+    },
+    // where a kept one gets another refusal, the number isn't the last one any more
+    Row {
+        before: REFUSED,
+        event: Event::Refuse(18, 0),
+        acts: "log 7 not 12; write; show stopped 18 0",
+        file: "free 7, aside 5, aside 6, aside 4, stopped 18",
+    },
+    Row {
+        before: AGAIN,
+        event: Event::Refuse(11, 9),
+        acts: "write; show stopped 11 9",
+        file: "under way 7 4, aside 5, stopped 11",
     },
     // a refusal of 1 to 10 comes before the number is looked at
     Row {
@@ -182,7 +211,6 @@ fn the_oldest_is_forgotten(rt: HostRuntime) -> Result<(), Fail> {
     let _acts = station.step(Event::Refuse(11, 7));
     for request in 1u64..18 {
         let _acts = station.step(Event::Want(request));
-        let _acts = station.step(Event::Miss);
         let _acts = station.step(Event::Refuse(18, 0));
     }
     let aside = station.file.aside.as_slice();

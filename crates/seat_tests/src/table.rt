@@ -131,18 +131,18 @@ const ROWS: &[Row] = &[
         acts: "log 7 5; send 7 5",
         file: "under way 7 5",
     },
-    // a refusal of 13 to 42: forgotten, or kept aside where it may have been sent before
+    // a refusal of 13 to 42: it is kept aside, however often it was sent
     Row {
         before: ONCE,
         event: Event::Refuse(13, 0),
         acts: "log 7 not 13; write; tell 5 not 13",
-        file: "free 7",
+        file: "free 7, aside 5",
     },
     Row {
         before: ONCE,
         event: Event::Refuse(42, 0),
         acts: "log 7 not 42; write; tell 5 not 42",
-        file: "free 7",
+        file: "free 7, aside 5",
     },
     Row {
         before: AGAIN,
@@ -156,31 +156,31 @@ const ROWS: &[Row] = &[
         acts: "log 7 not 42; write; tell 5 not 42",
         file: "free 7, aside 5",
     },
-    // sent once, and a refusal of 1 to 10: it wasn't done
+    // sent once, and a refusal of 1 to 10: the same
     Row {
         before: ONCE,
         event: Event::Refuse(1, 0),
         acts: "log 7 not 1; write; tell 5 not 1",
-        file: "free 7",
+        file: "free 7, aside 5",
     },
     Row {
         before: ONCE,
         event: Event::Refuse(10, 0),
         acts: "log 7 not 10; write; tell 5 not 10",
-        file: "free 7",
+        file: "free 7, aside 5",
     },
-    // sent once, and 11 or 12: the request is forgotten, and the station stops
+    // sent once, and 11 or 12: the request is kept aside, and the station stops
     Row {
         before: ONCE,
         event: Event::Refuse(11, 9),
         acts: "log 7 not 11; write; show stopped 11 9",
-        file: "free 7, stopped 11",
+        file: "free 7, aside 5, stopped 11",
     },
     Row {
         before: ONCE,
         event: Event::Refuse(12, 0),
         acts: "log 7 not 12; write; show stopped 12 0",
-        file: "free 7, stopped 12",
+        file: "free 7, aside 5, stopped 12",
     },
     // again, and a refusal of 1 to 10: it may be done, and is kept
     Row {
@@ -226,7 +226,7 @@ const ROWS: &[Row] = &[
         before: STOPPED,
         event: Event::Want(6),
         acts: "show stopped 11 9",
-        file: "free 7, stopped 11",
+        file: "free 7, aside 5, stopped 11",
     },
     Row {
         before: STOPPED_AGAIN,
@@ -245,6 +245,12 @@ const ROWS: &[Row] = &[
         event: Event::Refuse(11, 8),
         acts: "log 8; write",
         file: "free 8",
+    },
+    Row {
+        before: LOOKED,
+        event: Event::Refuse(11, 7),
+        acts: "log 7; write",
+        file: "free 7, aside 5",
     },
     Row {
         before: LOOKED,

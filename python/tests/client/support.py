@@ -146,6 +146,9 @@ class Proxy:
     | kill         | the program is killed some milliseconds after it has the request, and started again |
     | late copy    | it is held, and gets no reply; a copy of it comes to the program behind the next request |
     | held         | it is held, and gets no reply; a copy of it comes to the program with `deliver` |
+    | copied       | it is done, and gets its reply; a copy of it comes to the program with `deliver` |
+    | refused, 18  | it isn't passed on, and is refused as 18 |
+    | done, 6      | it is done, and another copy of it is refused as 6 |
     """
 
     FAULTS = ["lost request", "cut request", "502", "401", "lost reply", "cut reply", "cut head", "504", "late", "kill"]
@@ -177,9 +180,10 @@ class Proxy:
         self.seen.append((fault, request))
         page = b"HTTP/1.1 %s Bad\r\nContent-Type: text/html\r\nContent-Length: 6\r\nConnection: close\r\n\r\n<html>"
         reply = b""
-        if fault in ("held", "late copy"):
-            (self.held if fault == "held" else self.late).append(request)
-        elif fault not in ("lost request", "502", "401"):
+        does, _, no = (fault or "").partition(", ")
+        if fault in ("held", "late copy", "copied"):
+            (self.late if fault == "late copy" else self.held).append(request)
+        if fault not in ("held", "late copy", "lost request", "502", "401") and does != "refused":
             with socket.create_connection((HOST, self.program.port)) as server:
                 server.sendall(request[: len(request) // 2] if fault == "cut request" else request)
                 server.shutdown(socket.SHUT_WR)
@@ -192,6 +196,8 @@ class Proxy:
             reply = page % fault.encode()
         elif fault in ("lost request", "cut request", "lost reply"):
             reply = b""
+        elif no:
+            reply = refusal_of(int(no))
         elif fault == "cut reply":
             reply = reply[: -len(reply) // 2]
         elif fault == "cut head":
@@ -255,9 +261,7 @@ class TokenProxy(Proxy):
         head, _, body = request.partition(b"\r\n\r\n")
         token = re.search(rb"Authorization: Bearer (\S+)", head)[1].decode()
         if token not in self.tokens:
-            told = b'{"error":"unknown_token","no":6}'
-            kind = b"Content-Type: application/json\r\nConnection: close\r\n"
-            client.sendall(b"HTTP/1.1 401 Unauthorized\r\n%sContent-Length: %d\r\n\r\n%s" % (kind, len(told), told))
+            client.sendall(refusal_of(6))
             return
         fault = self.faults.pop(0) if self.faults else None
         self.seen.append((token, body))
@@ -341,6 +345,14 @@ class Canned:
 
     def close(self):
         self.listener.close()
+
+
+def refusal_of(no):
+    """A refusal in the server's form, by its number."""
+    status, error = {6: (401, "unknown_token"), 11: (409, "wrong_number"), 18: (409, "quantity_reached")}[no]
+    told = json.dumps({"error": error, "no": no, **({"expected": 1} if no == 11 else {})}).encode()
+    kind = b"Content-Type: application/json\r\nConnection: close\r\n"
+    return b"HTTP/1.1 %d Refused\r\n%sContent-Length: %d\r\n\r\n%s" % (status, kind, len(told), told)
 
 
 def exchanged(port, request):

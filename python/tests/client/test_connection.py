@@ -2,6 +2,7 @@
 
 from __future__ import annotations
 
+import json
 import time
 import unittest
 from unittest import mock
@@ -10,7 +11,7 @@ from support import DIGEST, LIFE, MAP, ORDER, KeptProxy, StationCase, life, rows
 
 import wanekupo.seat.connection
 from wanekupo.seat.station import Station
-from wanekupo.common.errors import NoReply, OutOfStep, UnderWay
+from wanekupo.common.errors import NoReply, OutOfStep
 from wanekupo.seat.replies import Imported
 
 
@@ -101,8 +102,8 @@ class Connections(StationCase):
             with self.assertRaises(OutOfStep) as found:
                 station.import_serials("acme-ca", rows("Z1"))
             self.assertEqual((found.exception.no, found.exception.expected), (11, expected), fault)
-            with self.assertRaises(UnderWay):
-                station.import_map(MAP)
+            under_way = json.loads((self.folder / "a1.json").read_bytes())["under_way"]
+            self.assertEqual((under_way["path"], json.loads(under_way["body"])["nr"]), ("/v1/import", expected - 2))
             station.resynchronize()
 
     def test_a_new_connection_without_a_reply(self):

@@ -59,10 +59,15 @@ class Late(StationCase):
 
     def refused_and_held(self, call, no):
         """The first sending is held, and the repeat is refused."""
-        self.wire.faults = ["held"]
+        self.refused(call, no, "held")
+
+    def refused(self, call, no, *faults):
+        """A call meets faults and is refused. Whether the seat stopped."""
+        self.wire.faults = list(faults)
         with self.assertRaises(Refused) as found:
             call()
         self.assertEqual(found.exception.no, no)
+        return isinstance(found.exception, OutOfStep)
 
     def delivered(self):
         (reply,) = self.wire.deliver()
@@ -108,6 +113,51 @@ class Late(StationCase):
         (record,) = issued(requests_of(self.folder / "a1.journal"))
         self.assertEqual((record["chip"], record["serial"]), (MACS[0], "A998"))
 
+    def imported(self, serial):
+        return self.seat.import_serials("acme-ca", rows(serial))
+
+    def test_what_was_sent_once(self):
+        """The network copies it, however often the station sent it: it is refused, and a copy of it is accepted."""
+        number, register = self.seat.own_number(), lambda: self.registered(self.seat, MACS[2])
+        self.assertFalse(self.refused(register, 18, "copied"))
+        self.other.scrap(MACS[1])
+        self.delivered()
+        self.assertEqual(self.imported("Z1"), Imported(1, 0))
+        expected = [("/v1/device", number, 409), ("/v1/import", number, 409), ("/v1/device", number, 200)]
+        self.assertEqual(self.requests()[-4:], [*expected, ("/v1/import", number + 1, 200)])
+        self.assertEqual((steps(self.ledger(MACS[2])), len(self.told)), (["registered"], 1))
+
+    def test_what_was_sent_once_and_done(self):
+        """One copy is done, and its reply is lost; another one is refused as 6, and that is heard."""
+        number = self.seat.own_number()
+        self.assertFalse(self.refused(lambda: self.imported("Z1"), 6, "done, 6"))
+        self.assertEqual(self.imported("Z2"), Imported(1, 0))
+        answers = [("/v1/import", number, status) for status in (401, 409, 200)]
+        self.assertEqual(self.requests()[-4:], [*answers, ("/v1/import", number + 1, 200)])
+        self.assertEqual((self.imported("Z1 Z2"), len(self.told)), (Imported(0, 2), 1))
+
+    def test_a_kept_request_that_gets_another_refusal(self):
+        """As 6 it may be the one that was accepted: what is under way waits, and begins again. As 18 or 11 the store
+        isn't the one that refused it as 12: the seat stops, and its file has it under its number."""
+        for place, (no, stops) in enumerate(((6, False), (18, True), (11, True)), 2):
+            number, order = self.seat.own_number(), f"o{place}"
+            self.refused_and_held(lambda: self.registered(self.seat, MACS[place], order), 14)
+            self.made(order, f"B{place}-")
+            self.delivered()
+            sent = len(self.wire.seen)
+            self.assertEqual(self.refused(lambda: self.imported(f"Z{place}"), no, None, f"refused, {no}"), stops)
+            self.assertEqual(len(self.wire.seen), sent + 2)
+            if stops:
+                self.assertTrue(self.refused(self.seat.finish, no))
+                self.assertEqual([json.loads(it["body"])["nr"] for it in self.kept()["late"]], [number, number])
+                self.assertEqual(len(self.wire.seen), sent + 2)
+                self.seat.resynchronize()
+            else:
+                self.assertEqual(self.kept()["under_way"]["path"], "/v1/import")
+                self.assertEqual(self.seat.finish().reply, {"added": 1, "present": 0})
+                self.assertEqual(self.requests()[-1], ("/v1/import", number + 1, 200))
+            self.assertEqual(len(self.told), 1)
+
     def test_one_of_several_behind_a_lost_request(self):
         """Two may come late; the second does, while the next request is lost on its first way."""
         self.seat.close()
@@ -143,7 +193,7 @@ class Late(StationCase):
                     self.seat.import_serials("acme-ca", rows("Z1"))
                 stop = found.exception
                 self.assertEqual((stop.no, stop.number, stop.expected), (no, number, number + count))
-            self.assertEqual((self.told, len(self.kept()["late"])), ([], 1))
+            self.assertEqual((self.told, len(self.kept()["late"])), ([], 2))
             self.seat.resynchronize()
             self.assertEqual(self.kept()["late"], [])
             self.wire.deliver()
@@ -174,13 +224,13 @@ class Late(StationCase):
         self.assertEqual((steps(self.ledger(MACS[2])), len(self.told)), (["registered"], 1))
 
     def test_a_state_file_of_the_version_before(self):
-        """It has no late copies, and is read on; with what is under way, too."""
+        """It has no late copies and no stop, and is read on; with what is under way, too."""
         self.seat.close()
         with self.opened(patience=0) as seat, self.assertRaises(NoReply):
             self.wire.faults = ["lost request"]
             seat.import_serials("acme-ca", rows("Z1"))
         before = self.kept()
-        del before["late"]
+        del before["late"], before["stop"]
         (self.folder / "a1.json").write_text(json.dumps(before), encoding="ascii")
         with self.opened() as seat:
             self.assertEqual(seat.finish().reply, {"added": 1, "present": 0})

@@ -159,15 +159,34 @@ class Once(StationCase):
         with self.assertRaises(UnderWay):
             station.import_map(MAP)
         other.import_map(MAP)
-        for repeat in (station.finish, lambda: station.import_serials("acme-ca", rows("Z2"))):
-            self.out_of_step(repeat, 12, 2, 3)
-        other.import_map(MAP)
-        self.out_of_step(station.finish, 11, 2, 4)
-        with self.assertRaises(UnderWay):
-            station.import_map(MAP)
+        sent = len(proxy.seen)
+        for call in (station.finish, lambda: station.import_serials("acme-ca", rows("Z2")), station.finish):
+            self.out_of_step(call, 12, 2, 3)
+            other.import_map(MAP)
+        self.out_of_step(lambda: station.import_map(MAP), 12, 2, 3)
+        self.assertEqual(len(proxy.seen), sent + 1)
         station.resynchronize()
         self.assertEqual(station.import_serials("acme-ca", rows("Z2")), Imported(1, 0))
-        self.assertEqual(station.expected_number(), 5)
+        self.assertEqual(station.expected_number(), 7)
+
+    def test_a_stop_outlives_the_station(self):
+        """It sends nothing that changes anything, however often it starts, until a person has it go on."""
+        proxy = self.proxy()
+        with self.station(proxy.url) as station:
+            station.make_order(**ORDER)
+            self.station(file="other.json").import_map(MAP)
+            self.out_of_step(lambda: station.import_serials("acme-ca", rows("Z1")), 12, 2, 3)
+        sent = len(proxy.seen)
+        for call in (Station.finish, lambda station: station.import_map(MAP)):
+            with self.station(proxy.url) as station:
+                self.out_of_step(lambda: call(station), 12, 2, 3)
+        self.assertEqual(len(proxy.seen), sent)
+        with self.station(proxy.url) as station:
+            self.assertEqual(station.order("o1").next, "A998")
+            station.resynchronize()
+        with self.station(proxy.url) as station:
+            self.assertEqual(station.finish().path, "/v1/order")
+            self.assertEqual(station.import_serials("acme-ca", rows("Z1")), Imported(1, 0))
 
     def test_calls_of_several_threads(self):
         """They wait for each other; a seat without a state file asks for its number once."""
@@ -204,9 +223,11 @@ class Once(StationCase):
             self.assertEqual(again.finish().reply, {"map": DIGEST})
         with self.assertRaises(BadStateFile):
             self.station(token="hello")
-        (self.folder / "a1.json").write_text("{", encoding="ascii")
-        with self.assertRaises(BadStateFile):
-            self.station()
+        kept = json.loads((self.folder / "a1.json").read_bytes())
+        for text in ("{", json.dumps({**kept, "stop": {"path": "/v1/map", "status": 409}})):
+            (self.folder / "a1.json").write_text(text, encoding="ascii")
+            with self.assertRaises(BadStateFile):
+                self.station()
         self.assertEqual(self.station(file="new.json").expected_number(), 2)
 
 

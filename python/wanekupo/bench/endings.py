@@ -203,7 +203,7 @@ def ended_by(error: BaseException, step: str) -> Ended:
     if isinstance(error, Ended):
         return error
     if isinstance(error, OutOfStep):
-        return Ended("older_store" if error.expected < error.number else "out_of_step", no=error.no)
+        return Ended("older_store" if error.expected <= error.number else "out_of_step", no=error.no)
     if isinstance(error, Refused):
         return Ended(REFUSALS.get(error.no, "refused"), no=error.no, detail=str(error))
     if isinstance(error, StationError):

@@ -53,16 +53,18 @@ class Refused(StationError):
 class OutOfStep(Refused):
     """A refusal as 11 or 12: the numbers of the seat aren't those of its state file. Somebody else asks with its token,
     two stations share it, or the store was restored. `path` and `number` were asked, `expected` is the server's. A
-    request that was sent before is still under way, as it may be done; another one wasn't done, and is forgotten.
+    request that was sent before is still under way, as it may be done; another one is forgotten but for a late copy.
 
-    Each request is refused so until `resynchronize`, which a person calls who knows why
-    (docs/integrate/station.md). Where `expected` is below `number` the store is an older one, restored or damaged:
-    who didn't restore it on purpose stops its server first, and restores it (docs/operate/backup-and-restore.md)."""
+    The seat stops: it sends nothing, also behind a start, and each request ends so until `resynchronize`, which a
+    person calls who knows why (docs/integrate/station.md). Where `expected` isn't above `number` the store is an older
+    one, restored or damaged: who didn't restore it on purpose stops its server first, and restores it
+    (docs/operate/backup-and-restore.md)."""
 
     def __init__(self, refused: Refused, path: str, number: int):
         super().__init__(refused.status, refused.body)
-        # What was accepted with another request is the last that was accepted.
-        self.path, self.number, self.expected = path, number, refused.more.get("expected", number + 1)
+        # Refused as 12 the number is the last that was accepted; judged anew, it is the next one.
+        following = number + (self.no == 12)
+        self.path, self.number, self.expected = path, number, refused.more.get("expected", following)
 
 
 class BadSettings(StationError):

@@ -92,7 +92,7 @@ OURS = os.path.dirname(os.path.dirname(os.path.abspath(__file__)))
 def sentence_of(error: BaseException) -> str:
     """What happened, in one line, and what to do then."""
     if isinstance(error, OutOfStep):
-        happened, advice = _stopped(error), STOPPED_LOWER if error.expected < error.number else STOPPED_HIGHER
+        happened, advice = _stopped(error), STOPPED_LOWER if error.expected <= error.number else STOPPED_HIGHER
     elif isinstance(error, Refused):
         happened, advice = _refused(error)
     elif isinstance(error, StationError):

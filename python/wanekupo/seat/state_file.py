@@ -1,5 +1,5 @@
-"""A seat's state file: the number of its next request, the request under way, the last one with its reply, and those
-of which a late copy may still be accepted."""
+"""A seat's state file: the number of its next request, the request under way, the last one with its reply, those of
+which a late copy may still be accepted, and why it stopped, if it did."""
 
 from __future__ import annotations
 
@@ -46,7 +46,7 @@ class StateFile:
         self.token = hashlib.sha256(token.encode()).hexdigest()
         self.file = None if file is None else own_path(file)
         self._lock: Optional[int] = None
-        self._data: dict[str, Any] = {"token": self.token, "next": None, "under_way": None, "last": None, "late": []}
+        self._data: dict[str, Any] = {**dict.fromkeys(NAMES), "token": self.token, "late": [], "stop": None}
         if not self.file:
             return
         tested_folder(self.file.parent)
@@ -80,14 +80,21 @@ class StateFile:
 
     @property
     def late(self) -> list[dict[str, str]]:
-        """The requests with the next number that were sent more than once and then refused, as they were sent. Behind
-        an accepted one those before are of no use; another client may leave them there."""
+        """The requests with the next number that were refused, as they were sent. Behind an accepted one those before
+        are of no use; another client may leave them there."""
         return [it for it in self._data["late"] if json.loads(it["body"])["nr"] == self.next]
 
     def late_with(self, asked: Mapping[str, str]) -> list[dict[str, str]]:
         """The same, with one more."""
         others = [it for it in self.late if it != asked]
         return [*others, dict(asked)][-MOST_LATE:]
+
+    @property
+    def stop(self) -> Optional[dict[str, Any]]:
+        """The refusal at which the seat stopped, its `status` and `body`, and the `path` that was asked with the next
+        number; None where it goes on."""
+        refusal: Optional[dict[str, Any]] = self._data["stop"]
+        return refusal
 
     def is_of_the_token(self) -> bool:
         """Whether the file is of the token that is given now."""
@@ -111,11 +118,13 @@ class StateFile:
                 state = json.loads(source.read())
             for name in NAMES:
                 state[name]
-            # A file of an earlier version has no late copies. What another client has there stays as it is.
-            self._data = {**state, "late": list(state.get("late", ()))}
+            # A file of an earlier version has no late copies, and no stop. What another client has there stays.
+            self._data = {"stop": None, **state, "late": list(state.get("late", ()))}
             _kept(self.last)
             for late in self.late:
                 members_of(late), late["path"]
+            if self.stop:
+                self.stop["path"], self.stop["status"], self.stop["body"]["no"], self.stop["body"]["error"]
         except FileNotFoundError:
             return
         except (ValueError, KeyError, TypeError, AttributeError) as error:

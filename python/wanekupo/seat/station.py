@@ -36,8 +36,8 @@ Result = TypeVar("Result")
 # A number that no seat comes to.
 FAR = 2**53 - 1
 
-# Refusals: a number that isn't the next, and one that was accepted with another request. Up to these, a refusal says
-# nothing of what became of the same request when it was sent before.
+# Refusals: a number that isn't the next, and one that was accepted with another request. Those below come before the
+# number is looked at. Up to these, a refusal says nothing of what became of the same request when it was sent before.
 WRONG_NUMBER, OTHER_BODY, UNKNOWN_DEVICE, WRONG_STATE = 11, 12, 15, 17
 
 
@@ -175,6 +175,7 @@ class Seat:
     def post(self, path: str, members: Mapping[str, Any], reason: str = "") -> dict[str, Any]:
         """Has a request done, once, and gives its reply. The same request goes on where it is under way. `reason`
         stands in the journal's line of it, and isn't sent."""
+        self._test_stop()
         self.take_token()
         under_way = self._state.under_way
         if not under_way:
@@ -210,52 +211,72 @@ class Seat:
             status, body, again = self._posted(asked["path"], asked["body"])
             if status == 200:
                 break
-            refused = Refused(status, body)
-            if refused.no != OTHER_BODY or not self._took_late_copy(refused):
-                self._refuse(refused, is_repeat or again)
+            refused, is_repeat = Refused(status, body), is_repeat or again
+            found = self._late_copy(refused, is_repeat) if refused.no == OTHER_BODY else None
+            if not found:
+                self._refuse(refused, is_repeat)
+            self._go_on_behind(*found, refused)
             is_repeat = False
         if self._journal:
             self._journal.answered(number, status, body)
         self._state.keep(next=number + 1, under_way=None, last={**asked, "reply": body}, late=[])
         return body
 
-    def _refuse(self, refused: Refused, is_repeat: bool) -> NoReturn:
-        """Raises what the request under way was refused as. It is forgotten where it wasn't done; a copy of one that
-        was sent before may still come to the server, and be accepted then."""
+    def _refuse(self, refused: Refused, is_repeat: bool, stop: Optional[Refused] = None) -> NoReturn:
+        """Raises what the request under way was refused as. However often it was sent, a copy of it may still come to
+        the server, and be accepted then: it is kept for that. Up to 12 a refusal says nothing of one that was sent
+        before: it stays under way. At 11 and 12 the seat stops, and where `stop` is what a kept request got."""
         asked, number = self._state.under_way, self._state.next
         assert asked and number
+        changes: dict[str, Any] = {}
         if refused.no > OTHER_BODY or not is_repeat:
             if self._journal:
                 self._journal.answered(number, refused.status, refused.body)
-            late = self._state.late_with(asked) if is_repeat else self._state.late
-            self._state.keep(under_way=None, late=late)
+            changes = {"under_way": None, "late": self._state.late_with(asked)}
         if refused.no in (WRONG_NUMBER, OTHER_BODY):
-            raise OutOfStep(refused, asked["path"], number)
+            refused = OutOfStep(stop or refused, asked["path"], number)
+            changes["stop"] = {"path": asked["path"], "status": refused.status, "body": refused.body}
+        if changes:
+            self._state.keep(**changes)
         raise refused
 
-    def _took_late_copy(self, refused: Refused) -> bool:
-        """Whether the number of the request under way, which was refused as 12, was taken by a late copy of an earlier
-        one. Each that may be it is sent again: the server has the number as its last, so it gives the kept reply to
-        that one, and refuses the others as 12. What was under way wasn't done then, and gets the next number."""
-        asked, number = self._state.under_way, self._state.next
-        assert asked and number
+    def _test_stop(self) -> None:
+        """Raises why the seat stopped, in this process or in one before: nothing is sent until `resynchronize`."""
+        if stop := self._state.stop:
+            raise OutOfStep(Refused(stop["status"], stop["body"]), stop["path"], self._state.next or 0)
+
+    def _late_copy(self, refused: Refused, is_repeat: bool) -> Optional[tuple[dict[str, str], dict[str, Any]]]:
+        """The earlier request whose late copy took the number of the request under way, which was refused as 12, and
+        its reply. Each that may be it is sent again: the server has the number as its last, so it gives the kept reply
+        to that one, and refuses the others as 12. Below 11 a refusal says nothing of one. Any other is of a store in
+        which the number isn't the last any more: the seat stops."""
         for late in self._state.late:
             status, reply, _ = self._posted(late["path"], late["body"])
-            if status != 200:
-                continue
-            if self._journal:
-                self._journal.answered(number, refused.status, refused.body)
-                self._journal.asked(late["path"], late["body"], late.get("reason", ""))
-                self._journal.answered(number, status, reply)
-            again = {**asked, "body": _body_of(number + 1, members_of(asked))}
-            self._state.keep(next=number + 1, under_way=again, last={**late, "reply": reply}, late=[])
-            self._tell(_told_of_late_copy(late, number))
-            return True
-        return False
+            if status == 200:
+                return late, reply
+            answer = Refused(status, reply)
+            if answer.no < WRONG_NUMBER:
+                raise answer
+            if answer.no != OTHER_BODY:
+                self._refuse(refused, is_repeat, stop=answer)
+        return None
+
+    def _go_on_behind(self, late: Mapping[str, str], reply: dict[str, Any], refused: Refused) -> None:
+        """The journal gets the late copy with its reply. What is under way wasn't done, and gets the next number."""
+        asked, number = self._state.under_way, self._state.next
+        assert asked and number
+        if self._journal:
+            self._journal.answered(number, refused.status, refused.body)
+            self._journal.asked(late["path"], late["body"], late.get("reason", ""))
+            self._journal.answered(number, 200, reply)
+        again = {**asked, "body": _body_of(number + 1, members_of(asked))}
+        self._state.keep(next=number + 1, under_way=again, last={**late, "reply": reply}, late=[])
+        self._tell(_told_of_late_copy(late, number))
 
     @_in_turn
     def finish(self) -> Optional[LastRequest]:
         """Sends what is under way again, as it was, and gives the last request that was accepted, if there is one."""
+        self._test_stop()
         self.take_token()
         if self._state.under_way:
             self._complete(is_repeat=True)
@@ -299,7 +320,7 @@ class Seat:
         own, asked = self._state.next, self._state.under_way
         last = None if number < (own or 0) else self._state.last
         late = (self._state.late_with(asked) if asked else self._state.late) if number == own else []
-        self._state.keep(token=self._state.token, next=number, under_way=None, last=last, late=late)
+        self._state.keep(token=self._state.token, next=number, under_way=None, last=last, late=late, stop=None)
 
 
 class Station(Seat):

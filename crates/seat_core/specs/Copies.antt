@@ -1,4 +1,4 @@
--- What a refusal of the request under way leaves, whichever it is.
+-- What a refusal leaves of the request under way, of which a copy may still come.
 use Rattle.std.specs.Prelude.{◌≡◌, ◌⊎◌, ℕ, Bool, true, not, nat_lt, List, [], ◌∷◌, ◌++◌, Option, None, Some}
 use Rattle.std.specs.List.{list_all}
 use Rattle.seat_core.specs.declared.act.Act.{Act}
@@ -10,7 +10,6 @@ use Rattle.seat_core.specs.declared.station.Place.TheVariants.{Unknown, Free, Un
 use Rattle.seat_core.specs.declared.station.SeatFile.{SeatFile}
 use Rattle.seat_core.specs.declared.station.Station.{Station}
 use Rattle.seat_core.specs.declared.station.Waiting.{Waiting}
-use Rattle.seat_core.specs.declared.station.TheConstants.{WRONG_NUMBER}
 use Rattle.seat_core.specs.Steps.{Step}
 
 -- a station with a request under way
@@ -23,15 +22,19 @@ number_of Unknown = None
 number_of (Free number) = Some number
 number_of (UnderWay sent) = Some sent.number
 
--- it is no line of the log by which a refusal of 1 to 10 says that something wasn't done
-abbrev pub is_sure : Act → Bool
-is_sure (LogOutcome number (NotDone code)) = not (nat_lt code WRONG_NUMBER)
-is_sure act = true
-
--- A request that may have been sent before was refused. Its number is still the station's. It is
--- under way, or the newest of those aside. The log has no refusal of 1 to 10 of it.
-pub record IsSure (sent : Sent) (step : Step) : Type 0 where
+-- The number of this request is still the station's, and the request is under way, or the newest of
+-- those aside.
+pub record IsKept (sent : Sent) (step : Step) : Type 0 where
   pub number : number_of step.left.file.place ≡ Some sent.number
   pub kept : (step.left.file.place ≡ UnderWay sent)
       ⊎ ((others : List ℕ) × (step.left.file.aside ≡ others ++ sent.request ∷ []))
+
+-- it is no line of the log by which a refusal of 1 to 10 says that something wasn't done
+abbrev pub is_sure : Act → Bool
+is_sure (LogOutcome number (NotDone code)) = not (nat_lt code 11)
+is_sure act = true
+
+-- The same of a request that may have been sent before. The log has no refusal of 1 to 10 of it.
+pub record IsSure (sent : Sent) (step : Step) : Type 0 where
+  pub copies : IsKept sent step
   pub log : list_all is_sure step.acts ≡ true
