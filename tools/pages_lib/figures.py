@@ -36,9 +36,6 @@ PLACES = [
     ("CONTRIBUTING.md", "The gate tries {} edits", "tried"),
     ("CONTRIBUTING.md", "edits, in {} of", "with_edits"),
     ("CONTRIBUTING.md", "edits, in * of {} crates", "crates"),
-    ("CONTRIBUTING.md", "text of each of its {} statements", "statements"),
-    ("CONTRIBUTING.md", "It has {} planted bugs in the gate", "edits_of_sql"),
-    ("CONTRIBUTING.md", "in the gate, and `office_store` {}.", "edits_of_store"),
     ("CONTRIBUTING.md", "Tests are in {} crates at the top", "test_crates"),
     ("docs/proof/architecture.md", "Tests are {} crates at the top.", "test_crates"),
     ("crates/fuse_plan/src/lib.rt", "the lowest of the {} faults of the wishes", "plan_faults"),
@@ -80,11 +77,6 @@ def created() -> Iterator[tuple[str, str]]:
         yield name, ", ".join(re.findall(r"(?:^|, )(\w+) (?:INTEGER|TEXT|BLOB)\b", columns))
 
 
-def statements() -> int:
-    """How many statements on rows there are, each a constant."""
-    return len(re.findall(r"\bconst (?:SELECT|INSERT|UPDATE|DELETE)\w*: &str", sources("office_sql", "src")))
-
-
 # Each figure by its name.
 FIGURES: dict[str, Callable[[], int | float]] = {
     "code": lambda: product_lines("src"),
@@ -101,9 +93,6 @@ FIGURES: dict[str, Callable[[], int | float]] = {
     "believed": lambda: audit().count(HEADLINE),
     "streams": lambda: audit().count(STREAMS),
     "lives": lambda: audit().count(LIVES),
-    "statements": statements,
-    "edits_of_sql": lambda: planted("office_sql", ".edit"),
-    "edits_of_store": lambda: planted("office_store", ".edit"),
     "test_crates": lambda: len(list(CRATES.glob("*_tests"))),
     "jobs": lambda: variants("station_cli/src/job.rt", "Job"),
     "plan_faults": lambda: variants("fuse_plan/src/fault.rt", "PlanFault"),
