@@ -65,8 +65,6 @@ def pytest_runtest_setup(item: pytest.Item) -> None:
     needs += [need for name, taken in TAKEN.items() if item.get_closest_marker(name) for need in taken]
     if lacking := missing(dict.fromkeys(needs)):
         pytest.skip(f"there is no {', '.join(lacking)}")
-    if item.get_closest_marker("espefuse") and not item.config.option.espefuse:
-        pytest.skip("no --espefuse names the words that run espefuse 4")
 
 
 @pytest.fixture(scope="session")
@@ -107,12 +105,6 @@ def found(request: pytest.FixtureRequest) -> Callable[[str], None]:
                 print(line, file=file)
 
     return tell
-
-
-@pytest.fixture
-def espefuse(request: pytest.FixtureRequest) -> str | None:
-    """The words that run espefuse 4, where some are given."""
-    return request.config.option.espefuse
 
 
 @pytest.fixture

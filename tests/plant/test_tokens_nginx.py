@@ -11,8 +11,9 @@ import pytest
 
 from common.deployed import CERTIFICATES, CONF, INNER, expect, ran, refusal, rules_in
 from common.ports import HOST
+from plant.pace import asked_at, goes_on
 from plant.test_tokens import (
-    ASKING, LATER, NO_ORDER, ORDER, STRANGER, by, by_python, client_of, seats, told, until, working,
+    LATER, NO_ORDER, ORDER, STRANGER, by, by_python, client_of, seats, told, until, working,
 )  # fmt: skip
 
 pytestmark = [pytest.mark.root, pytest.mark.nginx]
@@ -120,7 +121,8 @@ def test_shares(place):
     expect("and then", told(place.ask(by(place.outer["work"]), ORDER)), NO_ORDER)
     streams(place, held)
     hung_up(place, held)
-    expect("ten a second, behind thirty at once, meet no rate", client_of(place, THIRTY + ASKING, 15), "ok")
+    # Thirty at once are more than a rate lets by.
+    expect("ten a second, behind thirty at once, meet no rate", goes_on(*asked_at(place, first=30)), "ok")
     got = [place.ask(by(place.outer["work"]), "/v1/report") for _ in range(9)]
     expect(
         "nine reports",
@@ -167,10 +169,6 @@ def test_customers(place):
         expect("the first", report.result()[0], 200)
 
 
-# Thirty requests without a pause, which is more than a rate lets by at once.
-THIRTY = "[station.get('/v1/devices', after='') for _ in range(30)]; end = time.time() + 2\n"
-
-
 def streams(place, held):
     """HTTP/2: each stream is one of the two."""
     urls = [f"https://localhost:{place.port}{held}{number}" for number in range(6)]
@@ -215,16 +213,18 @@ def waiting_client(place, held):
 
 
 def test_strangers(place):
-    """a rate by address for what has no token; a station at the same address goes on"""
+    """a rate by address for what has no token; a station at the same address goes on, as one without strangers does"""
     working(place)
     urls = "".join(f'url = "https://localhost:{place.port}/v1/report"\n' for _ in range(300))
     (place.folder / "urls").write_text(urls, encoding="ascii")
+    words = ["curl", "-sS", "--cacert", "etc/cert.pem", "-K", "urls", "-w", "\n%{http_code}\n"]
     with ThreadPoolExecutor(1) as pool:
-        client = pool.submit(client_of, place, ASKING, 15)
-        done = ran(["curl", "-sS", "--cacert", "etc/cert.pem", "-K", "urls", "-w", "\n%{http_code}\n"], place.folder)
-        got = re.findall(r"^(.*)\n(\d\d\d)$", done.stdout, re.MULTILINE)
-        expect("300 strangers", {(int(status), text) for text, status in got}, {STRANGER, LATER})
-        expect("a station", client.result(), "ok")
+        both, said = pool.submit(asked_at, place), ""
+        while not both.done():
+            said += ran(words, place.folder).stdout
+        got = re.findall(r"^(.*)\n(\d\d\d)$", said, re.MULTILINE)
+        expect("300 strangers at a time", {(int(status), text) for text, status in got}, {STRANGER, LATER})
+        expect("a station", goes_on(*both.result()), "ok")
     heads = [head for head in place.recorder.heads if b"/v1/report" in head]
     expect("of these came through", heads, [])
     log = (place.folder / "log/nginx.conf").read_text()
