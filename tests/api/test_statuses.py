@@ -27,6 +27,9 @@ UNIT = ROOT / "deploy/station.service"
 SECONDS = 600
 THOUSANDS = 5000
 
+# The most bytes of a file of a map, and of a site.
+MAP_BYTES, SITE_BYTES = 32_768, 1_048_576
+
 # The rows of an import, and a bound that the store's file meets, as the log beside it is joined at a thousand pages.
 ROWS = 500
 BOUND = 6 << 20
@@ -215,6 +218,36 @@ class TestFiles(ProgramCase):
                 self.ends(f"station: cannot read {name}", words)
         for words in (["replay", "--site", "none.toml"], *self.both("--site", "none.toml", "--db", "books.db")):
             self.ends("station: site fault 1", words)
+        assert self.files() == there
+
+    def longest(self, name, start, limit):
+        """A file of this start that has as many bytes as it may, of which a comment is the rest, and one of one more."""
+        text = start + b"#" * (limit - len(start))
+        for path, data in ((name, text), (f"longer-{name}", text + b"#")):
+            (self.folder / path).write_bytes(data)
+        return name, f"longer-{name}"
+
+    def test_a_map_over_its_limit(self):
+        """It is none, though the bytes up to the limit are."""
+        whole, longer = self.longest("map.toml", MAP.read_bytes(), MAP_BYTES)
+        assert self.run_it("check-map", whole) == (0, b"ok esp32-sample 4 7\n", b"")
+        self.ends("station: map fault 2", ["check-map", longer])
+
+    def test_a_site_over_its_limit(self):
+        """It is none, and not the site of the bytes up to the limit, which lacks what stands behind."""
+        text = (self.folder / "site.toml").read_bytes()
+        whole, longer = self.longest("whole.toml", text, SITE_BYTES)
+        assert self.run_it("check-site", whole) == (0, b"ok 2\n", b"")
+        assert self.run_it("replay", "--site", whole, "--db", "whole.db") == (0, b"", b"")
+        bolt = text.index(b"[[customer]]", 1)
+        one, rest = text[:bolt], text[bolt:]
+        (self.folder / "cut.toml").write_bytes(one + b"#" * (SITE_BYTES - len(one) - 1) + b"\n" + rest)
+        there = self.files()
+        for name in (longer, "cut.toml"):
+            self.ends(f"station: site fault 6: the text has more than {SITE_BYTES} bytes", ["check-site", name])
+            words = ["replay", "--site", name], *self.both("--site", name, "--db", "books.db")
+            for each in (["check-site", whole, "--from", name], *words):
+                self.ends("station: site fault 6", each)
         assert self.files() == there
 
     @pytest.mark.needs("unshare")

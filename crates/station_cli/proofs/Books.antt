@@ -1,5 +1,5 @@
 -- What is said of a store's books by the bytes of the site's file.
-use Rattle.std.proofs.Common.{◌≡◌, ℕ, List, Some, Result, Ok, Err, inl, inr, subst, IfErr, IfOk}
+use Rattle.std.proofs.Common.{◌≡◌, ℕ, List, Result, Ok, Err, inl, inr, subst, IfErr, IfOk}
 use Rattle.std.specs.Borrow.{Bor}
 use Rattle.sqlite.specs.Recovery.{Image}
 use Rattle.sqlite_disk.specs.declared.Disk.{Ghosts}
@@ -8,7 +8,7 @@ use Rattle.site_core.specs.Prelude.{SiteValue, TextOfSite}
 use Rattle.text_core.specs.Prelude.{GivesUnless}
 use Rattle.office_store.specs.Prelude.{Kept}
 use Rattle.office_store.specs.declared.opening.Absent.{Absent}
-use Rattle.station_cli.specs.Prelude.{IsSiteOfFile, Leaves, LeavesIfRead, site_in, text_of_site}
+use Rattle.station_cli.specs.Prelude.{IsSiteOfFile, Leaves, site_in, text_of_site}
 use Rattle.station_cli.specs.declared.stored.LeftFiles.{LeftFiles}
 use Rattle.station_cli.specs.declared.failure.Failure.{Failure}
 
@@ -45,11 +45,11 @@ books_read name items (Ok b) t Says read says =
 books_read name items (Err error) t Says read says = tt
 
 -- what a job over a store leaves of its files is said by the file that the site was read from
-pub books_left : {B E A D : Type 0} {g : Ghosts D} (name : Bor (List ℕ)) (items : B → List ℕ) (file : Result B E) (t : TextOfSite)
+pub books_left : {B E A S D : Type 0} {g : Ghosts D} (name : Bor (List ℕ)) (items : B → List ℕ) (file : Result B E) (t : TextOfSite)
     (image : Image) (path : List ℕ) (absent : Absent) (Led : SiteValue → Kept (FileStore D g) → Kept (FileStore D g) → Type 0)
-    (result : Result A Failure) (files : LeftFiles D g)
+    (result : Result A Failure) (files : LeftFiles S D g)
     → IfOk file (λ b. IsSiteOfFile name (items b) (Ok t)) → Leaves t image path absent (Led t.site) result files
-    → IfOk file (λ b. IfOk (site_in name (items b)) (λ site. LeavesIfRead (text_of_site (items b) site) image path absent (Led site) result (Some files)))
+    → IfOk file (λ b. IfOk (site_in name (items b)) (λ site. Leaves (text_of_site (items b) site) image path absent (Led site) result files))
 books_left name items file t image path absent Led result files =
     books_read name items file t (λ t. Leaves t image path absent (Led t.site) result files)
 

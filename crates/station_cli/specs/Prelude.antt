@@ -16,4 +16,4 @@ pub use Rattle.station_cli.specs.Replaying.{IsOfStore, Replays}
 pub use Rattle.station_cli.specs.SiteCheck.{checked_in, ChecksTo, IsCheckedFrom, IsToldOf, site_line}
 pub use Rattle.station_cli.specs.SiteFile.{IsSiteOfFile, site_failure, site_in, text_of_site}
 pub use Rattle.station_cli.specs.Statuses.{fault_line, HasStatus, IsReported, line_of, result_of_ending, status_of}
-pub use Rattle.station_cli.specs.Storing.{IsOpening, IsServedOver, Leaves, LeavesIfRead}
+pub use Rattle.station_cli.specs.Storing.{IsOpening, IsServedOver, AreUntouched, Leaves}

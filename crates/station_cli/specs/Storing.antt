@@ -1,5 +1,5 @@
 -- A store in a file that is opened, served over and ended, and what is left of its files.
-use Rattle.std.specs.Prelude.{◌≡◌, ℕ, List, Option, Some, None, Result, Err}
+use Rattle.std.specs.Prelude.{◌≡◌, ℕ, List, Some, Result, Err}
 use Rattle.sqlite.specs.Files.{over_files}
 use Rattle.sqlite.specs.Recovery.{Image}
 use Rattle.sqlite_disk.specs.declared.Disk.{Ghosts}
@@ -12,7 +12,7 @@ use Rattle.office_store.specs.declared.opening.Absent.{Absent}
 use Rattle.station_cli.specs.declared.failure.Failure.{Failure}
 use Rattle.station_cli.specs.declared.failure.Failure.TheVariants.{NoMemory, StoreFault}
 use Rattle.station_cli.specs.declared.stored.LeftFiles.{LeftFiles}
-use Rattle.station_cli.specs.declared.stored.LeftFiles.TheVariants.{Ended, Refused}
+use Rattle.station_cli.specs.declared.stored.LeftFiles.TheVariants.{Ended, Refused, Untouched}
 
 -- a keeper as the opening of a site's store leaves it, with the limit of steps
 pub record IsOpening {D : Type 0} {g : Ghosts D} (site : TextOfSite) (image : Image)
@@ -31,16 +31,17 @@ pub record IsServedOver {D : Type 0} {g : Ghosts D} (site : TextOfSite) (image :
   pub was_honest : is_honest_at over_files last.conn → is_honest_at over_files opened.conn
   pub leaves : IsLeftOf last left
 
--- what a job over a store leaves of its files: those of a store that was refused, whose fault is the
--- job's failure, or those that it served over
-abbrev pub Leaves : {D A : Type 0} {g : Ghosts D} → TextOfSite → Image → List ℕ → Absent
-    → (Kept (FileStore D g) → Kept (FileStore D g) → Type 0) → Result A Failure → LeftFiles D g → Type 0
+-- no opening of the store was tried: what one takes is handed back, and no code makes another of it
+abbrev pub AreUntouched : {S D : Type 0} {g : Ghosts D} → LeftFiles S D g → Type 0
+AreUntouched (Untouched start) = Unit {0}
+AreUntouched (Refused refused) = ⊥
+AreUntouched (Ended left) = ⊥
+
+-- what a job over a store leaves of its files: as they were, where memory didn't suffice for the site; those of a store
+-- that was refused, whose fault is the job's failure; or those that it served over
+abbrev pub Leaves : {S D A : Type 0} {g : Ghosts D} → TextOfSite → Image → List ℕ → Absent
+    → (Kept (FileStore D g) → Kept (FileStore D g) → Type 0) → Result A Failure → LeftFiles S D g → Type 0
+Leaves site image path absent Leads result (Untouched start) = result ≡ Err NoMemory
 Leaves {g = g} site image path absent Leads result (Refused refused) =
     (result ≡ Err (StoreFault (open_fault_number refused.fault))) × IsRefusal g image absent site path refused
 Leaves site image path absent Leads result (Ended left) = IsServedOver site image absent Leads left
-
--- what a job over a store leaves of its files, where its site had to be read first: none was touched if memory didn't suffice for the site
-abbrev pub LeavesIfRead : {D A : Type 0} {g : Ghosts D} → TextOfSite → Image → List ℕ → Absent
-    → (Kept (FileStore D g) → Kept (FileStore D g) → Type 0) → Result A Failure → Option (LeftFiles D g) → Type 0
-LeavesIfRead site image path absent Leads result (Some files) = Leaves site image path absent Leads result files
-LeavesIfRead site image path absent Leads result None = result ≡ Err NoMemory

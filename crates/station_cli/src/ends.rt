@@ -1,6 +1,6 @@
 //! The two ends of a connection: what its client sends, and what it is sent. They fail once the client
 //! has taken too long.
-ghost use Rattle.std.specs.Prelude.{◌≡◌, ◌⊎◌, ◌↔◌, ◌≤◌, length, Option, IfSome, IsTrue, MatchResult, None};
+ghost use Rattle.std.specs.Prelude.{◌≡◌, ◌≢◌, ◌⊎◌, ◌↔◌, ◌≤◌, ◌<◌, ◌+◌, ◌-◌, ◌^◌, min, length, false, Option, IfSome, IsTrue, MatchResult, None, unwrap_or};
 ghost use Rattle.std.specs.IoError.{error_kind};
 ghost use Rattle.http_frames.specs.Prelude.{MovesAtMost, ReadsBytes, WritesBytes};
 ghost use Rattle.station_cli.specs.Prelude.{moved_or_failed};
@@ -50,6 +50,15 @@ fn transfer_of(outcome: io::Result<usize>) -> Transfer
     }
 }
 
+/// Since when another connection may wait, now that one is seen to wait, which may have since a moment
+/// before, or none is.
+fn waits_since(another_waits: bool, before: Instant, now: Instant) -> Instant
+    ensures waits { IsTrue another_waits → result ≡ before }
+    ensures none { ¬ IsTrue another_waits → result ≡ now }
+{
+    if another_waits { before } else { now }
+}
+
 impl<'a, R: Clock, S: Drop, L: OpenListener<Stream = S>> Line<'a, R, L, S> {
     /// A connection that begins to be served now, where the clock tells the time.
     pub fn begin(
@@ -73,14 +82,6 @@ impl<'a, R: Clock, S: Drop, L: OpenListener<Stream = S>> Line<'a, R, L, S> {
         Instant::now(self.clock).ok()
     }
 
-    /// Since when another connection may wait, now that one is seen to wait or none is.
-    fn waits_since(&self, another_waits: bool, now: Instant) -> Instant {
-        if !another_waits {
-            self.another_since.set(now);
-        }
-        self.another_since.get()
-    }
-
     /// A wait of the client since a moment, now that another connection waits or none does.
     fn client_wait(
         &self,
@@ -88,13 +89,23 @@ impl<'a, R: Clock, S: Drop, L: OpenListener<Stream = S>> Line<'a, R, L, S> {
         since: Instant,
         another_waits: bool,
         now: Instant,
-    ) -> Wait {
+    ) -> Wait
+        ensures awaited { result.awaited ≡ awaited }
+        ensures since { result.since ≡ since }
+        ensures opened { result.opened ≡ self.now.opened }
+        ensures waits { result.another_waits ≡ another_waits }
+
+        // Where another one waits it is the moment of the last look that found none, which is in a cell.
+        ensures none { ¬ IsTrue another_waits → result.another_since ≡ now }
+    {
+        let another_since = waits_since(another_waits, self.another_since.get(), now);
+        self.another_since.set(another_since);
         Wait {
             awaited,
             since,
             opened: self.opened,
             another_waits,
-            another_since: self.waits_since(another_waits, now),
+            another_since,
         }
     }
 
@@ -193,7 +204,11 @@ impl<'a, R: Clock, S: Drop, L: OpenListener<Stream = S>, I: Read + OpenStream + 
     }
 
     /// What is waited for where so many bytes of a request are held.
-    fn awaited(&self, held: usize) -> Awaited {
+    fn awaited(&self, held: usize) -> Awaited
+        ensures rest { 0 < held → result ≡ Awaited.RestOfRequest }
+        ensures first { held ≡ 0 → IsTrue self.now.is_new → result ≡ Awaited.FirstByte }
+        ensures next { held ≡ 0 → ¬ IsTrue self.now.is_new → result ≡ Awaited.NextRequest }
+    {
         if held > 0 {
             Awaited::RestOfRequest
         } else if self.is_new {
@@ -258,8 +273,7 @@ impl<'a, R: Clock, S: Drop, L: OpenListener<Stream = S>, I: Read + OpenStream + 
     }
 
     /// Reads what comes in time. The buffer of a stream gives all its room where it holds nothing of a
-    /// request, and as much less as it holds. Where it holds less than it did, a request was answered
-    /// since, and the next one is waited for from now on.
+    /// request, and as much less as it holds.
     fn read_request_bytes(&mut self, room: &mut [u8]) -> Option<usize>
         ensures count { IfSome result (λ count. count ≤ length room.new) }
         ensures bytes { ReadsBytes (I.remaining self.old.stream) (I.remaining self.new.stream)
@@ -269,23 +283,40 @@ impl<'a, R: Clock, S: Drop, L: OpenListener<Stream = S>, I: Read + OpenStream + 
     {
         let now = self.line.now()?;
         let held = ROOM.saturating_sub(room.len());
-        if held == 0 || held != self.held {
-            self.begun = now;
-        }
+        self.note_wait(held, now);
         let count = self.read_in_time(self.awaited(held), room)?;
-        self.note_read(held, count);
+        let came = self.line.now();
+        self.note_read(held, count, came);
         Some(count)
     }
 
-    /// Notes that so many bytes were read where so many were held. A request whose first byte came is
-    /// waited for from its coming on, if the clock tells it.
-    fn note_read(&mut self, held: usize, count: usize)
+    /// Notes that bytes are waited for from now on, where so many are held. Where these aren't those of
+    /// the last read, a request was answered since, and the next one is waited for from now on.
+    fn note_wait(&mut self, held: usize, now: Instant)
+        ensures next { (held ≡ 0) ⊎ (held ≢ self.old.held) → self.new.begun ≡ now }
+        ensures rest { held ≢ 0 → held ≡ self.old.held → self.new.begun ≡ self.old.begun }
+        ensures stream { self.new.stream ≡ self.old.stream }
+        ensures calls { self.new.calls ≡ self.old.calls }
+        ensures failures { self.new.failures ≡ self.old.failures }
+    {
+        if held == 0 || held != self.held {
+            self.begun = now;
+        }
+    }
+
+    /// Notes that so many bytes were read where so many were held, which came at a moment, if the clock
+    /// told it. A request whose first byte came is waited for from its coming on.
+    fn note_read(&mut self, held: usize, count: usize, came: Option<Instant>)
+        ensures first { held ≡ 0 → self.new.begun ≡ unwrap_or came self.old.begun }
+        ensures rest { held ≢ 0 → self.new.begun ≡ self.old.begun }
+        ensures is_new { self.new.is_new ≡ false }
+        ensures held { self.new.held ≡ min (held + count) (2 ^ 64 - 1) }
         ensures stream { self.new.stream ≡ self.old.stream }
         ensures calls { self.new.calls ≡ self.old.calls }
         ensures failures { self.new.failures ≡ self.old.failures }
     {
         if held == 0 {
-            self.begun = self.line.now().unwrap_or(self.begun);
+            self.begun = came.unwrap_or(self.begun);
         }
         self.is_new = false;
         self.held = held.saturating_add(count);

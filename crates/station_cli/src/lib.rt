@@ -21,17 +21,20 @@
 //! (`result_of_stream`). So `run` ends with 0 only where the stream ended so (`EndsStream`).
 //!
 //! A job over the store in a file hands back what it left of the files (`Done`), and `books` of
-//! `replay_stored` and of `serve_site` is said of these. There are two cases:
+//! `replay_stored` and of `serve_site` is said of these. There are three cases:
 //!
+//! - The job had no site, as the text of the file describes none or memory ran out. Then no opening
+//!   was tried: what one takes comes back, which no code can make again.
 //! - The store was refused. Then the failure is its fault, and what comes back is as
 //!   `open_or_hand_back` says.
 //! - A keeper was as its opening says, requests led on from its tables, and what comes back is what
 //!   the keeper left (`IsServedOver`). For `replay_stored` these are the requests of the stream, with
 //!   its bytes and how it ended.
 //!
-//! The store that either serves over has the limit of steps (what `serve_port` and `replay_over`
-//! require), and the port the program's bounds too. What the files held before has a name in all of
-//! these, which `main` alone fills.
+//! The store that either serves over has the limit of steps: `serve_port` and `replay_over` require it,
+//! and are over any keeper that has one, of which no code sets another (`Limited`). The port has the
+//! program's bounds too. What the files held before has a name in all of these, which `main` alone
+//! fills.
 //!
 //! The job `serve` prints its line once the port is listened on, and nothing before. Where it is done,
 //! as many connections were given to be served as it was asked for (`counted`). Its answer is a
@@ -53,6 +56,7 @@
 //! client got is their replies (`told` of `serve_client`). When a client is waited for no longer is
 //! one function of moments (`is_over`, `is_untaken`), and so is when its turn is over whose next
 //! request was read already (`is_turn_over`); the program's bounds are its numbers (`AreOfProgram`).
+//! From which moment on a request is timed is said too (`note_wait`, `note_read`).
 //! What is done where accepting a connection fails is one too (`next_accept`).
 //!
 //! No clause says these:
@@ -60,6 +64,7 @@
 //! - That each connection that was given is served and not dropped, and when. Tests show both, over
 //!   simulated clients.
 //! - What bytes a socket gets: std's tell none.
+//! - What a cell holds: for how long a reply was waited for, and since when another connection waits.
 //! - That the port is of this machine alone. A test connects to it by another address.
 //! - What `run` does with the files behind these calls: it closes them.
 #![tactic(auto)]

@@ -191,7 +191,7 @@ fn served_by<'a, R: Source, W: Drain, S: Start>(
 }
 
 /// What a job over a store says of a failure. What is left of the store's files is closed.
-fn result_of<T: Drop, D: Disk + Drop>(done: Done<'_, T, D>) -> Result<(), Failure<'_>>
+fn result_of<T: Drop, S: Drop, D: Disk + Drop>(done: Done<'_, T, S, D>) -> Result<(), Failure<'_>>
     ensures { MatchResult done.entry.result (λ _. result ≡ Ok tt)
         (λ failure. result ≡ Err failure) }
 {

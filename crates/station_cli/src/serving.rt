@@ -1,12 +1,11 @@
 //! Connections of a port of this machine, served one after another over the store in a file.
-ghost use Rattle.std.specs.Prelude.{◌≡◌, ◌≢◌, ◌⊎◌, ◌++◌, ◌∷◌, [], Some, IfOk, IfErr, IsErrAnd, OnOk};
+ghost use Rattle.std.specs.Prelude.{◌≡◌, ◌≢◌, ◌⊎◌, ◌++◌, ◌∷◌, [], IfOk, IfErr, IsErrAnd, OnOk};
 ghost use Rattle.std.specs.Io.KnownBytes.{Appends, Keeps};
 ghost use Rattle.std.specs.Net.Addr.{ipv4_octets};
 ghost use Rattle.std.specs.Net.Socket.{v4_ip, v4_port};
 ghost use Rattle.sqlite.specs.WalFiles.{image_at};
-ghost use Rattle.office_store.specs.Prelude.{is_honest_at};
 ghost use Rattle.station_api.specs.Prelude.{ServesOver};
-ghost use Rattle.station_cli.specs.Prelude.{AreOfProgram, IsUnread, IsOfPort, LeavesIfRead, LeadsOn, listening_line, IsOfStore, site_in, text_of_site};
+ghost use Rattle.station_cli.specs.Prelude.{AreOfProgram, AreUntouched, IsUnread, IsOfPort, Leaves, LeadsOn, listening_line, IsOfStore, site_in, text_of_site};
 
 use crate::arrivals::{Arrivals, ConnectionCount};
 use crate::duplex::Duplex;
@@ -14,11 +13,11 @@ use crate::ends::{ClientReader, ClientWriter, Line};
 use crate::failure::Failure;
 use crate::patience::Bounds;
 use crate::site_file::site_of_file;
-use crate::stored::{Done, LeftFiles, StoreFile, open_limited, store_failure};
+use crate::stored::{Done, LeftFiles, Limited, StoreFile, open_limited, store_failure};
 use office_core::Keep;
 use office_store::{SqlKeep, close};
 use site_core::Site;
-use sqlite::{Alter, FileFrom, FileStore};
+use sqlite::{FileFrom, FileStore};
 use sqlite_disk::Start;
 use station_api::{Served, serve_stream};
 use std::alloc::Global;
@@ -54,7 +53,7 @@ pub fn serve_site<'a, S: Start, W: Write>(
     store: StoreFile<'_, S>,
     door: Door,
     output: &mut W,
-) -> Done<'a, ConnectionCount, FileFrom<S>>
+) -> Done<'a, ConnectionCount, S, FileFrom<S>>
     ensures unread { IfErr file (λ error. IsErrAnd result.result (IsUnread name.entry error)) }
 
     // A file that describes no site is the failure, whatever the store and the port.
@@ -67,10 +66,15 @@ pub fn serve_site<'a, S: Start, W: Write>(
         ⊎ IsOfPort failure))) }
     ensures counted { IfOk result.result (λ count. count.number ≡ door.connections) }
 
+    // Without a site no store is opened.
+    ensures unread_site { IfErr file (λ _. AreUntouched result.files) }
+    ensures unopened { IfOk file (λ bytes.
+        IfErr (site_in name.entry bytes.items) (λ _. AreUntouched result.files)) }
+
     // The store was refused, or it was as its opening says, and what the connections asked for leads
     // from its tables to those that the files hold that come back.
     ensures books { IfOk file (λ bytes. IfOk (site_in name.entry bytes.items) (λ site.
-        LeavesIfRead (text_of_site bytes.items site) (image_at S.Start) store.entry.name.now
+        Leaves (text_of_site bytes.items site) (image_at S.Start) store.entry.name.now
         store.entry.absent (LeadsOn ⟦<SqlKeep<FileStore<FileFrom<S>>> as Keep>⟧ site)
         result.result result.files)) }
     ensures printed { OnOk result.result (Appends (W.contents output.old) (W.contents output.new)
@@ -86,7 +90,7 @@ pub fn serve_site<'a, S: Start, W: Write>(
         Err(failure) => {
             return Done {
                 result: Err(failure),
-                files: None,
+                files: LeftFiles::Untouched(store.start),
             };
         }
     };
@@ -95,7 +99,7 @@ pub fn serve_site<'a, S: Start, W: Write>(
         Err(refused) => {
             return Done {
                 result: Err(store_failure(refused.fault)),
-                files: Some(LeftFiles::Refused(refused)),
+                files: LeftFiles::Refused(refused),
             };
         }
     };
@@ -103,25 +107,25 @@ pub fn serve_site<'a, S: Start, W: Write>(
     let served = serve_port(rt, alloc, &mut keep, site.site(), door, bounds, output);
     Done {
         result: served,
-        files: Some(LeftFiles::Ended(close(keep))),
+        files: LeftFiles::Ended(close(keep)),
     }
 }
 
 /// Listens on the port of the door, tells so, and serves its connections over a store, whose statements
 /// have the limit of steps, at the bounds of the program. Answers how many were given to be served.
-fn serve_port<S: Alter, W: Write>(
+fn serve_port<K: Keep + Limited, W: Write>(
     rt: &HostRuntime,
     alloc: Global,
-    keep: &mut SqlKeep<S>,
+    keep: &mut K,
     site: &Site,
     door: Door,
     bounds: Bounds,
     output: &mut W,
 ) -> Result<ConnectionCount, Failure<'static>>
-    requires limit { keep.old.conn.step_limit ≡ Some 1000000000 }
+    requires limit { K.is_limited keep.old }
     requires bounds { AreOfProgram bounds }
-    ensures was_honest { is_honest_at S.Store keep.new.conn → is_honest_at S.Store keep.old.conn }
-    ensures reaches { LeadsOn ⟦<SqlKeep<S> as Keep>⟧ site.now keep.old keep.new }
+    ensures was_honest { K.is_honest keep.new → K.is_honest keep.old }
+    ensures reaches { LeadsOn K.Keep site.now keep.old keep.new }
     ensures counted { IfOk result (λ count. count.number ≡ door.connections) }
     ensures failed { IfErr result IsOfPort }
     ensures printed { OnOk result (Appends (W.contents output.old) (W.contents output.new)

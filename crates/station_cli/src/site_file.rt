@@ -10,14 +10,14 @@ use std::alloc::Global;
 use std::io;
 use std::rt::Files;
 
-/// The bytes of the site's file with this name. A file that is longer than a site's text may be is
-/// not read whole, but as far as one byte past that limit, which shows that it is too long.
+/// The bytes of the site's file with this name, or the first of them, which show that it is longer than a
+/// site's text may be.
 ///
 /// # Errors
 ///
 /// The file can't be opened or read, or memory runs out.
 pub fn read_site_file(rt: &impl Files, alloc: Global, name: &str) -> io::Result<Vec<u8>> {
-    read_file(rt, alloc, name, TEXT_LIMIT as u64 + 1)
+    read_file(rt, alloc, name, TEXT_LIMIT)
 }
 
 /// The bytes of a file, by what reading the file with this name gave.

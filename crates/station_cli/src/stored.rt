@@ -1,8 +1,8 @@
 //! A store in a file: how it is opened, and a replay over it.
-ghost use Rattle.std.specs.Prelude.{◌≡◌, ◌⊎◌, IfOk, IfErr, IsErrAnd, IsOkAnd, MatchResult, Some};
-ghost use Rattle.station_cli.specs.Prelude.{IsAnswered, IsUnread, IsOfStore, IsOpening, LeavesIfRead, site_in, text_of_site};
+ghost use Rattle.std.specs.Prelude.{◌≡◌, ◌⊎◌, IfOk, IfErr, IsErrAnd, IsOkAnd, IsTrue, MatchResult, Some};
+ghost use Rattle.station_cli.specs.Prelude.{IsAnswered, AreUntouched, IsUnread, IsOfStore, IsOpening, Leaves, site_in, text_of_site};
 ghost use Rattle.http_frames.specs.Prelude.{HasCallsLeft, StaysWithinCalls};
-ghost use Rattle.office_store.specs.Prelude.{is_honest_at, IsRefusal, open_fault_number};
+ghost use Rattle.office_store.specs.Prelude.{IsRefusal, open_fault_number};
 ghost use Rattle.sqlite.specs.WalFiles.{image_at};
 ghost use Rattle.station_api.specs.Prelude.{ServesOver};
 
@@ -18,9 +18,21 @@ use station_api::{Drain, Served, Source, serve_stream};
 use std::alloc::Global;
 use std::io;
 
+/// A keeper whose statements may have a limit of steps. Code over any such keeper can't set another one.
+pub trait Limited {
+    /// Each statement has the limit of the program.
+    ghost is_limited: { Self → Type 0 };
+}
+
+impl<S: Alter> Limited for SqlKeep<S> {
+    ghost is_limited = { λ keep. keep.conn.step_limit ≡ Some 1000000000 };
+}
+
 /// What a job over a store leaves of its files.
 #[derive(Drop)]
-pub enum LeftFiles<D: Disk + Drop> {
+pub enum LeftFiles<S: Drop, D: Disk + Drop> {
+    /// They are as they were: this stands for what they hold, and an opening would have taken it.
+    Untouched(S),
     /// What was handed back of the files of a store that wasn't opened.
     Refused(Refused<D>),
     /// The files of a store that was served over.
@@ -29,11 +41,11 @@ pub enum LeftFiles<D: Disk + Drop> {
 
 /// What a job over a store came to.
 #[derive(Drop)]
-pub struct Done<'a, T: Drop, D: Disk + Drop> {
+pub struct Done<'a, T: Drop, S: Drop, D: Disk + Drop> {
     /// Its result, or why it failed.
     pub result: Result<T, Failure<'a>>,
-    /// What it left of the store's files, where it came to open them.
-    pub files: Option<LeftFiles<D>>,
+    /// What it left of the store's files.
+    pub files: LeftFiles<S, D>,
 }
 
 /// Serves one stream over the store in a file, for the site that a file describes, by what reading the
@@ -50,7 +62,7 @@ pub fn replay_stored<'a, S: Start, R: Source, W: Drain>(
     store: StoreFile<'_, S>,
     reader: &mut R,
     writer: &mut W,
-) -> Done<'a, Served, FileFrom<S>>
+) -> Done<'a, Served, S, FileFrom<S>>
     requires reader { HasCallsLeft (R.calls reader.old) 0 }
     requires writer { HasCallsLeft (W.calls writer.old) 0 }
     ensures unread { IfErr file (λ error. IsErrAnd result.result (IsUnread name.entry error)) }
@@ -63,10 +75,15 @@ pub fn replay_stored<'a, S: Start, R: Source, W: Drain>(
     ensures failed { IfOk file (λ bytes. IfOk (site_in name.entry bytes.items) (λ _.
         IfErr result.result (λ failure. (failure ≡ Failure.NoMemory) ⊎ IsOfStore failure))) }
 
+    // Without a site no store is opened.
+    ensures unread_site { IfErr file (λ _. AreUntouched result.files) }
+    ensures unopened { IfOk file (λ bytes.
+        IfErr (site_in name.entry bytes.items) (λ _. AreUntouched result.files)) }
+
     // The store was refused, or it was as its opening says, and the stream was served over it: its
     // requests lead from the tables of then to those that the files hold that come back.
     ensures books { IfOk file (λ bytes. IfOk (site_in name.entry bytes.items) (λ site.
-        LeavesIfRead (text_of_site bytes.items site) (image_at S.Start) store.entry.name.now
+        Leaves (text_of_site bytes.items site) (image_at S.Start) store.entry.name.now
         store.entry.absent (λ opened last. IsOkAnd result.result (λ served.
         ServesOver ⟦<SqlKeep<FileStore<FileFrom<S>>> as Keep>⟧ site (R.left reader.old)
         (R.left reader.new) (W.written writer.old) (W.written writer.new) served opened last))
@@ -90,7 +107,7 @@ pub fn replay_stored<'a, S: Start, R: Source, W: Drain>(
         Err(failure) => {
             return Done {
                 result: Err(failure),
-                files: None,
+                files: LeftFiles::Untouched(store.start),
             };
         }
     };
@@ -99,31 +116,31 @@ pub fn replay_stored<'a, S: Start, R: Source, W: Drain>(
         Err(refused) => {
             return Done {
                 result: Err(store_failure(refused.fault)),
-                files: Some(LeftFiles::Refused(refused)),
+                files: LeftFiles::Refused(refused),
             };
         }
     };
     let served = replay_over(alloc, &mut keep, site.site(), reader, writer);
     Done {
         result: Ok(served),
-        files: Some(LeftFiles::Ended(close(keep))),
+        files: LeftFiles::Ended(close(keep)),
     }
 }
 
 /// Serves one stream over a store, whose statements have the limit of steps. Answers how it ended.
-fn replay_over<S: Alter, R: Source, W: Drain>(
+fn replay_over<K: Keep + Limited, R: Source, W: Drain>(
     alloc: Global,
-    keep: &mut SqlKeep<S>,
+    keep: &mut K,
     site: &Site,
     reader: &mut R,
     writer: &mut W,
 ) -> Served
-    requires limit { keep.old.conn.step_limit ≡ Some 1000000000 }
+    requires limit { K.is_limited keep.old }
     requires reader { HasCallsLeft (R.calls reader.old) 0 }
     requires writer { HasCallsLeft (W.calls writer.old) 0 }
-    ensures was_honest { is_honest_at S.Store keep.new.conn → is_honest_at S.Store keep.old.conn }
-    ensures run { ServesOver ⟦<SqlKeep<S> as Keep>⟧ site.now (R.left reader.old)
-        (R.left reader.new) (W.written writer.old) (W.written writer.new) result keep.old keep.new }
+    ensures was_honest { K.is_honest keep.new → K.is_honest keep.old }
+    ensures run { ServesOver K.Keep site.now (R.left reader.old) (R.left reader.new)
+        (W.written writer.old) (W.written writer.new) result keep.old keep.new }
     ensures within { StaysWithinCalls R.Source W.Drain reader.old reader.new writer.old writer.new
         result }
 {
@@ -131,8 +148,8 @@ fn replay_over<S: Alter, R: Source, W: Drain>(
 }
 
 /// Closes what a job left of a store's files.
-pub fn put_away<D: Disk + Drop>(files: Option<LeftFiles<D>>) {
-    if let Some(LeftFiles::Ended(Closed::Uncopied(store))) = files {
+pub fn put_away<S: Drop, D: Disk + Drop>(files: LeftFiles<S, D>) {
+    if let LeftFiles::Ended(Closed::Uncopied(store)) = files {
         drop(store.close());
     }
 }
@@ -153,7 +170,12 @@ pub struct StoreFile<'a, S: Drop> {
 
 impl<'a, S: Drop> StoreFile<'a, S> {
     /// The store that the command line names.
-    pub fn of(named: &'a StoreName, start: S) -> StoreFile<'a, S> {
+    pub fn of(named: &'a StoreName, start: S) -> StoreFile<'a, S>
+        ensures name { result.name.now ≡ named.now.file }
+        ensures existing { IsTrue named.now.is_existing → result.absent ≡ Absent.Refuse }
+        ensures made { ¬ IsTrue named.now.is_existing → result.absent ≡ Absent.Make }
+        ensures start { result.start ≡ start }
+    {
         let absent = if named.is_existing {
             Absent::Refuse
         } else {

@@ -9,7 +9,7 @@ use Rattle.station_cli.proofs.stored.replay_stored.Goals as goal
 
 pub returns-in-Err-open_limited-clause-books : goal.returns-in-Err-open_limited-clause-books
 returns-in-Err-open_limited-clause-books g c =
-    books_left c.args.name (λ b. b.items) c.args.file c.in-Ok.site (image_at g.S.Start) c.args.store.name.now c.args.store.absent (λ _ _ _. Unit {0})
+    books_left {S = g.row.S.Denot} c.args.name (λ b. b.items) c.args.file c.in-Ok.site (image_at g.S.Start) c.args.store.name.now c.args.store.absent (λ _ _ _. Unit {0})
     (Err c.store_failure.result) (Refused c.in-Err-open_limited.refused) c.in-Ok.ensures.read (
       ap Err c.store_failure.ensures,
       c.in-Err-open_limited.ensures.refused,
@@ -23,7 +23,7 @@ returns-in-Err-open_limited-clause-failed g c =
 
 pub returns-clause-books : goal.returns-clause-books
 returns-clause-books g c =
-    books_left c.args.name (λ b. b.items) c.args.file c.in-Ok.site (image_at g.S.Start) c.args.store.name.now c.args.store.absent _
+    books_left {S = g.row.S.Denot} c.args.name (λ b. b.items) c.args.file c.in-Ok.site (image_at g.S.Start) c.args.store.name.now c.args.store.absent _
     (Ok c.replay_over-served.result) (Ended c.close.result) c.in-Ok.ensures.read (record {
       opened = c.in-Ok-open_limited.keep;
       last = c.replay_over-served.new.keep;
