@@ -19,7 +19,7 @@ from concurrent.futures import ThreadPoolExecutor
 from edits import TOP, Edit
 
 FUNCTION = re.compile(r"^( *)(?:pub(?:\(\w+\))? )?fn \w+", re.M)
-LIMIT = 600  # seconds of one test
+LIMIT = 1800  # seconds of one test, which is built with looks at its memory and no optimization
 
 # A test that comes before the others, by its name.
 KEEPER = """//! The program of these tests, which is kept to be run again.
@@ -108,7 +108,7 @@ def built(crate: str, room: pathlib.Path) -> tuple[pathlib.Path, str]:
     with (folder / "src" / "lib.rt").open("a", encoding="utf-8") as root:
         root.write("\n#[cfg(test)]\nmod a_kept_program;\n")
     with tempfile.TemporaryFile("w+", errors="replace") as said:
-        words = ["rt", "try", "--test", "--seconds", str(LIMIT)]
+        words = ["rt", "try", "--test", "--steps", "1", "--seconds", str(LIMIT)]
         with subprocess.Popen(words, cwd=folder, stdin=subprocess.DEVNULL, stdout=said, stderr=said) as making:
             while making.poll() is None and not program.is_file():
                 time.sleep(0.2)
