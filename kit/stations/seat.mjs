@@ -199,8 +199,8 @@ function membersOf({ status, kind, data }, target, asked) {
 class Seat {
   constructor({ KIT_URL, KIT_TOKEN, KIT_STATE, KIT_LOG }) {
     Object.assign(this, { url: KIT_URL, token: KIT_TOKEN, file: KIT_STATE, log: new Log(KIT_LOG) });
-    const isThere = fs.existsSync(KIT_STATE);
-    this.state = isThere ? JSON.parse(fs.readFileSync(KIT_STATE, "utf8")) : { next: null, under_way: null, last: null, stop: null };
+    const none = { next: null, under_way: null, last: null, stop: null };
+    this.state = fs.existsSync(KIT_STATE) ? JSON.parse(fs.readFileSync(KIT_STATE, "utf8")) : none;
   }
 
   /** Changes the state, in the file first. */
@@ -264,8 +264,8 @@ class Seat {
   refuse(number, status, told, isRepeat) {
     const isKept = isRepeat && told.no <= OTHER_BODY;
     if (!isKept) this.log.add({ nr: number, status, reply: told });
-    const stop = told.no === WRONG_NUMBER || told.no === OTHER_BODY ? told : null;
-    if (!isKept || stop) this.keep({ under_way: isKept ? this.state.under_way : null, stop });
+    const stop = [WRONG_NUMBER, OTHER_BODY].includes(told.no) ? told : null;
+    this.keep({ under_way: isKept ? this.state.under_way : null, stop });
     throw new Refused(told.no, told.error);
   }
 

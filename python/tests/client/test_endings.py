@@ -297,6 +297,15 @@ class Endings(BenchCase):
                 bench.until(lambda board: board["sockets"][0]["state"] == "waiting", "waiting")
         self.assertIn("3 chips failed in a row", bench.board()["stopped"])
 
+    def told_to_go_on(self, bench, recipe):
+        """A person ends the bench, has its seat go on, and starts it again."""
+        bench.end()
+        with self.station() as seat:
+            seat.resynchronize()
+        bench = self.run_bench(recipe)
+        bench.until(lambda board: board["rest"] is not None)
+        return bench
+
     def test_each_refusal(self):
         """By the numbers in the table of the page, whichever step the server refuses."""
         text = PAGE.read_text(encoding="utf-8")
@@ -308,7 +317,8 @@ class Endings(BenchCase):
         stops = {name for name, _, _, todo in table_rows(text) if re.search("engineer|next order|stopped", todo)}
         self.order()
         proxy = self.proxy(kind=Refusing)
-        bench = self.run_bench(self.recipe(proxy.url, stop=99))
+        recipe = self.recipe(proxy.url, stop=99)
+        bench = self.run_bench(recipe)
         bench.until(lambda board: board["rest"] is not None)
         self.put("left", MAC)
         for no, expected in [*((no, 99) for no in asked), (11, 1)]:
@@ -320,6 +330,8 @@ class Endings(BenchCase):
             board = bench.until(lambda board, is_new=is_new: is_new(board["sockets"][0]), (no, name))
             self.assertEqual((board["sockets"][0]["reason"], bool(board["stopped"])), (name, name in stops), no)
             bench.said("go")
+            if no in (11, 12):
+                bench = self.told_to_go_on(bench, recipe)
         proxy.refusal = None
         bench.said("left")
         bench.until(lambda board: is_passed(board, MAC))

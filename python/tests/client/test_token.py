@@ -2,6 +2,7 @@
 
 from __future__ import annotations
 
+import json
 import unittest
 
 from support import LIFE, MAC, MAP, ORDER, StationCase, TokenProxy, life, steps
@@ -47,10 +48,11 @@ class Tokens(StationCase):
             seat.make_order(**ORDER)
             seat.import_map(MAP)
         self.rotated()
-        kept = self.kept()
         with self.seat("old") as seat, self.assertRaises(Refused) as found:
             seat.ship(MAC)
-        self.assertEqual(found.exception.no, 6)
+        kept = self.kept()
+        asked = [(it["path"], json.loads(it["body"])["nr"]) for it in json.loads(kept)["late"]]
+        self.assertEqual((found.exception.no, asked), (6, [("/v1/ship", 3)]))
         with self.assertRaises(BadStateFile) as told:
             self.seat("new")
         self.assertIn("--new-token", told.exception.advice)
@@ -164,11 +166,17 @@ class Tokens(StationCase):
             seat.make_order(**ORDER)
         with self.station(file="thief.json") as thief:
             thief.import_map(MAP)
+        before = self.kept()
         with self.seat("old") as seat, self.assertRaises(OutOfStep):
             seat.ship(MAC)
         self.rotated()
+        stopped = self.kept()
+        (self.folder / "a1.json").write_bytes(before)
+        with self.seat("new", new_token=True) as seat, self.assertRaises(BadStateFile):
+            seat.ship(MAC)
+        (self.folder / "a1.json").write_bytes(stopped)
         with self.seat("new", new_token=True) as seat:
-            with self.assertRaises(BadStateFile):
+            with self.assertRaises(OutOfStep):
                 seat.ship(MAC)
             seat.resynchronize()
             self.assertEqual(life(seat, self.chip()).state, "shipped")
