@@ -9,8 +9,8 @@ use Rattle.station_cli.proofs.stored.replay_stored.Goals as goal
 
 pub returns-in-Err-open_limited-clause-books : goal.returns-in-Err-open_limited-clause-books
 returns-in-Err-open_limited-clause-books g c =
-    books_left {S = g.row.S.Denot} c.args.name (λ b. b.items) c.args.file c.in-Ok.site (image_at g.S.Start) c.args.store.name.now c.args.store.absent (λ _ _ _. Unit {0})
-    (Err c.store_failure.result) (Refused c.in-Err-open_limited.refused) c.in-Ok.ensures.read (
+    books_left {S = g.row.S.Denot} c.args.name (λ b. b.items) c.args.file c.in-Ok.site (image_at g.S.Start) c.args.store.name.now c.args.store.absent
+    (λ _ _ _. Unit {0}) (Err c.store_failure.result) (Refused c.in-Err-open_limited.refused) c.in-Ok.ensures.read (
       ap Err c.store_failure.ensures,
       c.in-Err-open_limited.ensures.refused,
     )
