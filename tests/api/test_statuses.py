@@ -221,7 +221,7 @@ class TestFiles(ProgramCase):
         assert self.files() == there
 
     def longest(self, name, start, limit):
-        """A file of this start that has as many bytes as it may, of which a comment is the rest, and one of one more."""
+        """A file of this start with as many bytes as it may have, its end a comment, and one of one byte more."""
         text = start + b"#" * (limit - len(start))
         for path, data in ((name, text), (f"longer-{name}", text + b"#")):
             (self.folder / path).write_bytes(data)
