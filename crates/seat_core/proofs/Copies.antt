@@ -9,7 +9,7 @@ use Rattle.seat_core.specs.declared.request.Stop.{Stop}
 use Rattle.seat_core.specs.declared.station.SeatFile.{SeatFile}
 use Rattle.seat_core.specs.declared.station.Waiting.{Waiting}
 use Rattle.seat_core.specs.declared.station.Waiting.TheVariants.{Once, Again, Kept, Number}
-use Rattle.seat_core.specs.Aside.{aside_with, newest}
+use Rattle.seat_core.specs.Aside.{aside_with, newest_of}
 use Rattle.seat_core.specs.Steps.{Step}
 use Rattle.seat_core.specs.Replies.{probe_silence, untried_request}
 use Rattle.seat_core.specs.Refusals.{probe_of, probe_refusal, probe_step, request_refusal, stop_step}
@@ -115,7 +115,7 @@ look_kept f sent code = either (IsKept sent) (code == 50) _ _
     (λ _. record {
       number = refl;
       kept = inr (
-        newest (filter (λ kept. not (kept == sent.request)) f.aside),
+        newest_of (filter (λ kept. not (kept == sent.request)) f.aside),
         stays sent.number (aside_with sent.request f.aside),
       );
     })

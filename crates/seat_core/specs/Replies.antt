@@ -9,7 +9,7 @@ use Rattle.seat_core.specs.declared.station.Place.TheVariants.{Free, UnderWay}
 use Rattle.seat_core.specs.declared.station.Station.{Station}
 use Rattle.seat_core.specs.declared.station.Waiting.{Waiting}
 use Rattle.seat_core.specs.declared.station.Waiting.TheVariants.{Nothing, Once, Again, Kept, Number}
-use Rattle.seat_core.specs.Steps.{Step, does, following}
+use Rattle.seat_core.specs.Steps.{Step, does, number_after}
 
 -- the oldest of the kept requests of which so many weren't tried yet
 abbrev pub untried_request : List ℕ → ℕ → Option ℕ
@@ -48,7 +48,7 @@ completion s sent reply =
     does (LogOutcome sent.number (Done reply) ∷ Write ∷ Tell sent.request (Done reply) ∷ [])
     (record {
       file = record s.file {
-        place = Free (following sent.number);
+        place = Free (number_after sent.number);
         aside = [];
         last = Some (record { request = sent.request; reply = reply });
       };
@@ -75,7 +75,7 @@ late_copy s sent next request reply = does
 abbrev pub probe_reply : Station → Sent → ℕ → Option ℕ → Step
 probe_reply s sent reply None = does [] s
 probe_reply s sent reply (Some request) = late_copy s sent
-    (record { number = following sent.number; request = sent.request }) request reply
+    (record { number = number_after sent.number; request = sent.request }) request reply
 
 -- A reply of 200 to what was sent last. No seat comes to the number that only asks for the number, so
 -- that a 200 to it is another's page.

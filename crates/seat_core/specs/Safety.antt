@@ -22,10 +22,10 @@ writes_first (Send sent ∷ acts) = not (writes acts)
 writes_first (act ∷ acts) = writes_first acts
 
 -- what is sent
-abbrev pub sent_in : List Act → List Sent
-sent_in [] = []
-sent_in (Send sent ∷ acts) = sent ∷ sent_in acts
-sent_in (act ∷ acts) = sent_in acts
+abbrev pub sendings_in : List Act → List Sent
+sendings_in [] = []
+sendings_in (Send sent ∷ acts) = sent ∷ sendings_in acts
+sendings_in (act ∷ acts) = sendings_in acts
 
 -- the file has this aside, with the number of what is under way
 pub record IsAside (f : SeatFile) (sent : Sent) : Type 0 where
@@ -44,4 +44,4 @@ MaySend f sent = (f.place ≡ UnderWay sent) ⊎ IsAside f sent
 pub record IsSafe (s : Station) (step : Step) : Type 0 where
   pub written : MatchBool (writes step.acts) (Unit {0}) (step.left.file ≡ s.file)
   pub first : writes_first step.acts ≡ true
-  pub sent : AllByRecursion (MaySend step.left.file) (sent_in step.acts)
+  pub sent : AllByRecursion (MaySend step.left.file) (sendings_in step.acts)

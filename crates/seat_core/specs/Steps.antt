@@ -29,5 +29,5 @@ with_aside s request =
     record s { file = record s.file { aside = aside_with request s.file.aside } }
 
 -- The number after this one. The greatest is 2 ^ 53 - 1; there is none after the one behind it.
-abbrev pub following : ℕ → ℕ
-following number = if nat_le number 9007199254740991 then number + 1 else 9007199254740992
+abbrev pub number_after : ℕ → ℕ
+number_after number = if nat_le number 9007199254740991 then number + 1 else 9007199254740992

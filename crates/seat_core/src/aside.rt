@@ -1,6 +1,6 @@
 // The requests that are kept aside: those of which a late copy may come.
 ghost use Rattle.std.specs.Prelude.{◌≡◌, ◌≤◌, ◌<◌, ◌==◌, not, [], IfOk, filter, length, vec_capacity};
-ghost use Rattle.seat_core.specs.Aside.{newest};
+ghost use Rattle.seat_core.specs.Aside.{newest_of};
 
 use std::alloc::{AllocError, Global};
 use std::marker::Model;
@@ -73,7 +73,7 @@ fn take_out(requests: &mut Vec<u64>, request: u64)
 /// Makes room for one more: the oldest request goes where there are `MOST_ASIDE`.
 fn make_room(requests: &mut Vec<u64>)
     requires { length requests.old.items ≤ MOST_ASIDE }
-    ensures items { requests.new.items ≡ newest requests.old.items }
+    ensures items { requests.new.items ≡ newest_of requests.old.items }
     ensures room { length requests.new.items < MOST_ASIDE }
     ensures capacity { vec_capacity requests.new ≡ vec_capacity requests.old }
 {

@@ -1,6 +1,6 @@
 // A station: what its file has, what it waits for, and what it does at each event.
 ghost use Rattle.std.specs.Prelude.{◌≡◌, IfOk};
-ghost use Rattle.seat_core.specs.Prelude.{Step, IsNew, following, step_of, untried_request};
+ghost use Rattle.seat_core.specs.Prelude.{Step, IsNew, number_after, step_of, untried_request};
 ghost use Rattle.seat_core.specs.Prelude.{start_step, request_step, reply_step, refusal_step};
 ghost use Rattle.seat_core.specs.Prelude.{silence_step, patience_step, look_step, number_step};
 ghost use Rattle.seat_core.specs.Prelude.{completion, probe_reply, request_refusal, probe_refusal};
@@ -168,7 +168,7 @@ impl Station {
     {
         let request = sent.request;
         let outcome = Outcome::Done(reply);
-        self.file.place = Place::Free(following(sent.number));
+        self.file.place = Place::Free(number_after(sent.number));
         self.file.aside.forget_all();
         self.file.last = Some(Answered { request, reply });
         self.waiting = Waiting::Nothing;
@@ -195,7 +195,7 @@ impl Station {
             request,
         };
         let next = Sent {
-            number: following(sent.number),
+            number: number_after(sent.number),
             request: sent.request,
         };
         self.file.place = Place::UnderWay(next);
@@ -404,8 +404,8 @@ impl Station {
 }
 
 /// The number after this one. There is none after the one behind the greatest.
-fn following(number: u64) -> u64
-    ensures { result ≡ following number }
+fn number_after(number: u64) -> u64
+    ensures { result ≡ number_after number }
 {
     if number <= GREATEST_NUMBER {
         number + 1
