@@ -82,8 +82,6 @@ pub enum Taking {
     AtMost(usize),
     /// It has gone.
     Gone,
-    /// At once. Its stream can't be made to wait again once it didn't.
-    Stuck,
 }
 
 /// What a client does: when it comes, in milliseconds, what it sends, and how it takes what it is sent.
@@ -155,7 +153,6 @@ impl ToClient<'_> {
             self.time.passes(HELD_BACK);
         }
         match self.taking {
-            Taking::Stuck => Ok(count),
             Taking::After(time) => {
                 self.time.passes(time);
                 Ok(count)
@@ -231,9 +228,6 @@ impl OpenStream for Client<'_> {
     }
 
     fn set_nonblocking(&self, nonblocking: bool) -> io::Result<()> {
-        if matches!(self.taking, Taking::Stuck) && !self.is_waited_for.get() {
-            return Err(io::Error::from(ErrorKind::Other));
-        }
         self.is_waited_for.set(!nonblocking);
         Ok(())
     }

@@ -25,8 +25,8 @@ const ONE: Script = (0, &[(0, SHOWN, 1), (0, "", 1)], Taking::After(0));
 /// How many clients come, one after another.
 const MANY: usize = 70_000;
 
-/// How long a remark behind a site's text is, that makes it one of 1,048,576 bytes, as many as it may have.
-const LONG_REMARK: usize = 1_048_576 - SITE.len() - 3;
+/// How long a remark in a site's text is, that makes it one of more than 100,000 bytes.
+const LONG_REMARK: usize = 100_000;
 
 /// A site without a manager.
 const SITE_ALONE: &str =
@@ -220,21 +220,6 @@ fn what_a_first_run_issued_the_second_knows(rt: HostRuntime) -> Result<(), Fail>
         let mode = fs::metadata(&rt, name)?.permissions().mode();
         assert_eq!(rt; mode & 0o777, 0o600, "{name}");
     }
-    Ok(())
-}
-
-/// A program that ends has copied the log into the database file.
-#[test]
-fn the_file_alone_is_the_store_behind_a_run(rt: HostRuntime) -> Result<(), Fail> {
-    let alloc = rt.alloc();
-    fs::write(&rt, "alone.toml", SITE)?;
-    let wanted = format!(in alloc; "0 {ORDERED}")?;
-    let first = done_by(&rt, alloc, "serve --site alone.toml --db alone.db", ORDER)?;
-    assert_eq!(rt; first.as_str(), wanted.as_str());
-    fs::write(&rt, "copy.db", fs::read(&rt, "alone.db")?.as_slice())?;
-    let words = "replay --site alone.toml --db copy.db --existing";
-    let second = done_by(&rt, alloc, words, SHOWN)?;
-    assert_eq!(rt; second.as_str(), wanted.as_str());
     Ok(())
 }
 
