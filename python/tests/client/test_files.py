@@ -148,7 +148,8 @@ class Owners(StationCase):
 
 
 class Keys(StationCase):
-    """What a read-back shows of a key is in the state file until its reply is there, and no longer."""
+    """What a read-back shows of a key is in the state file until its reply is there, or the one to a later request where
+    it was refused, and no longer."""
 
     def setUp(self):
         super().setUp()
@@ -180,12 +181,15 @@ class Keys(StationCase):
         self.assertEqual([note for event, note in self.ledger() if event == "read"], ["match", "short"])
 
     def test_refused(self):
-        """A read-back that is refused leaves nothing either."""
+        """A read-back that is refused may come late, and is kept for that, byte for byte; behind the next request that
+        is accepted nothing of it is left."""
         self.seat.settle(MAC, self.held)
         self.held.chip.blocks[0] &= ~(1 << 16)  # the read lock, so that the key is shown again
         with self.assertRaises(Refused):
             self.seat.read_back(MAC, self.held.read())
-        self.assertEqual(self.words_in(), [])
+        self.assertEqual(self.words_in(), key_words())
+        self.seat.import_map(MAP)
+        self.assertEqual((self.words_in(), (self.folder / "a1.json.new").exists()), ([], False))
 
     def test_of_an_earlier_version(self):
         """A state file that has them in its last request loses them when it is opened."""
