@@ -25,6 +25,8 @@ while [ $# -gt 0 ]; do
     shift 2
 done
 room=$(mktemp -d)
+# The systems have no other folder for what is passing.
+export TMPDIR=/tmp
 ended() {
     for root in "$room/server" "$room/station"; do
         [ ! -f "$root/run/nginx.pid" ] || kill "$(cat "$root/run/nginx.pid")" 2> /dev/null || true
