@@ -18,7 +18,7 @@ from collections.abc import Callable, Iterator
 
 from pages_lib.audit import HEADLINE, LIVES, STREAMS, audit
 from pages_lib.markdown import OF_THE_PAST, page_text, pages
-from pages_lib.rattle import CRATES, TOP, code_of, lead_of, planted, sources, tracked
+from pages_lib.rattle import CRATES, TOP, code_of, lead_of, sources, tracked
 
 NUMBER = r"\d[\d,.]*\d|\d"
 NUMBERS = "no one two three four five six seven eight nine ten eleven twelve thirteen fourteen fifteen sixteen".split()
