@@ -163,8 +163,3 @@ def laws_with(name: str) -> frozenset[str]:
 def rules() -> list[str]:
     """The names of all wrong rules."""
     return [path.name.removesuffix(".rule.md") for path in sorted(TOP.glob("crates/*/must-fail/*.rule.md"))]
-
-
-def planted(crate: str, end: str) -> int:
-    """How many planted bugs with this ending a crate has."""
-    return len(list(CRATES.glob(f"{crate}/must-fail/*{end}")))
