@@ -36,8 +36,8 @@ INTERRUPTED = 130
 SAID = "A programming station's side of Wanekupo: it looks at what the server has, and asks for what it does."
 ENDS = (
     "Settings come from the command line, the environment (WANEKUPO_URL, WANEKUPO_TOKEN ..), ~/.config/wanekupo.toml "
-    "and /etc/wanekupo/client.toml, in this order. Status: 0 done, 1 refused, 2 not sent, 3 no reply, 4 done and the "
-    "device quarantined, 5 the seat is out of step, 130 stopped by hand."
+    "and /etc/wanekupo/client.toml, in this order. Exit status: 0 done, 1 refused, 2 not sent, 3 no reply, 4 done and "
+    "the device quarantined, 5 the seat is out of step, 130 stopped by hand."
 )
 
 
