@@ -18,6 +18,9 @@ NO_TOOL = "the command of the socket left is no espefuse that is known: "
 class Recipes(BenchCase):
     """A recipe in which one thing is changed, or several."""
 
+    LOOKED = "Looking at the recipe and at each socket's command: this takes some seconds."
+    NONE_BEGUN = "No chip was begun: mend this, and start again."
+
     def said_of(self, *changes):
         """What the bench says of the recipe with these changes; it doesn't start, and sends nothing."""
         text = self.recipe().read_text(encoding="utf-8")
@@ -25,11 +28,16 @@ class Recipes(BenchCase):
             self.assertIn(old, text)
             text = text.replace(old, new, 1)
         (self.folder / "bad.toml").write_text(text, encoding="utf-8")
-        bench = Running(self.folder / "bad.toml")
-        self.assertEqual((bench.process.wait(SECONDS), bench.port), (2, 0), changes)
+        return self.said_by("bad.toml")
+
+    def said_by(self, name):
+        """What the bench says of a recipe with which it doesn't start, behind the line that it looks at it."""
+        bench = Running(self.folder / name)
+        self.assertEqual((bench.process.wait(SECONDS), bench.port), (2, 0), name)
         bench.gone()
         self.assertNotIn("Traceback", "".join(bench.lines))
-        return "".join(bench.lines).splitlines()
+        lines = "".join(bench.lines).splitlines()
+        return lines[1:] if lines[0] == self.LOOKED else ["", *lines]
 
     def test_faults(self):
         """A name that isn't known, a value that can't be, and what is no TOML."""
@@ -94,9 +102,19 @@ class Recipes(BenchCase):
         alone = [([(old, new)], [said]) for old, new, said in [*self.of_wishes(), *self.of_files()]]
         for changes, told in [*alone, (together, ["wish", "key", "command", "spool"])]:
             lines = self.said_of(*changes)
-            self.assertEqual(lines[len(told) :], ["No chip was begun: mend this, and start again."])
+            self.assertEqual(lines[len(told) :], [self.NONE_BEGUN])
             for line, said in zip(lines, told):
                 self.assertIn(said, line)
+
+    def test_a_map_of_the_recipes_name(self):
+        """A recipe isn't its own map, and one that is no map is named."""
+        text = self.recipe().read_text(encoding="utf-8").replace(str(MAP_FILE), "esp32.toml")
+        (self.folder / "esp32.toml").write_text(text.replace('"flash.key"', '"none.key"'), encoding="utf-8")
+        told = [f"{self.folder}/esp32.toml: the key {self.folder}/none.key can't be read (No such file or directory)."]
+        self.assertEqual(self.said_by("esp32.toml"), [*told, self.NONE_BEGUN])
+        (self.folder / "bad.toml").write_text(text, encoding="utf-8")
+        told = f"{self.folder}/bad.toml: its map, {self.folder}/esp32.toml, is no fuse map: station-site check says why."
+        self.assertEqual(self.said_by("bad.toml"), [told, self.NONE_BEGUN])
 
 
 if __name__ == "__main__":
