@@ -47,7 +47,7 @@ class Recipes(BenchCase):
             ('burnt_as = "flash', 'burned_as = "flash', "wish 2 has 'burned_as', and knows kind, field, file"),
             ('order = "o1"', 'order = "o 1"', "the recipe has the order 'o 1', which is no name"),
             ('order = "o1"', 'orders = "o1"', "the recipe has 'orders', and knows name, order"),
-            ('esp32.toml"', 'esp99.toml"', f"esp99.toml in {self.folder} or /"),
+            ('esp32/map.toml"', 'esp32/none.toml"', f"esp32/none.toml in {self.folder}, and no family has one"),
             ('"before_identity"', '"before_ship"', "[hooks] has no before_identity"),
             ('"url"', '"urls"', "has 'urls', which is no setting"),
             ("[stop]", "[stop", "is no TOML"),
@@ -71,7 +71,7 @@ class Recipes(BenchCase):
         yield KEY, KEY.replace("BLOCK1", BIT), "wish 2 is a key of JTAG_DISABLE, which is no key block."
         told = "wish 2 is burnt_as flash_encription, and a key of BLOCK1 may be BLOCK1, flash_encryption."
         yield '"flash_encryption"', '"flash_encription"', told
-        yield 'esp32.toml"', 'esp32s3.toml"', "its map is that of an esp32s3, and its family is esp32."
+        yield 'esp32/map.toml"', 'esp32s3/map.toml"', "its map is that of an esp32s3, and its family is esp32."
 
     def of_files(self):
         """Changes of files and commands, each with its sentence."""
