@@ -113,8 +113,8 @@ class Recipes(BenchCase):
         told = [f"{self.folder}/esp32.toml: the key {self.folder}/none.key can't be read (No such file or directory)."]
         self.assertEqual(self.said_by("esp32.toml"), [*told, self.NONE_BEGUN])
         (self.folder / "bad.toml").write_text(text, encoding="utf-8")
-        told = f"{self.folder}/bad.toml: its map, {self.folder}/esp32.toml, is no fuse map: station-site check says why."
-        self.assertEqual(self.said_by("bad.toml"), [told, self.NONE_BEGUN])
+        told = f"its map, {self.folder}/esp32.toml, is no fuse map: station-site check says why."
+        self.assertEqual(self.said_by("bad.toml"), [f"{self.folder}/bad.toml: {told}", self.NONE_BEGUN])
 
 
 if __name__ == "__main__":
