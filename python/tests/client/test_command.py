@@ -158,30 +158,48 @@ class Words(CommandCase):
         status, _, err = self.ran(*self.ORDER_OF_ONE.format("o9", "F").split(), "--not-before", "2099")
         self.assertEqual((status, "(refusal 42" in err), (1, True), err)
 
-    def test_a_question(self):
-        """On a terminal a person is asked once, and only by yes an order is made."""
-        words = [sys.executable, "-m", "wanekupo", *self.ORDER_OF_ONE.format("o1", "A").split()]
+    def on_terminal(self, answer, *words):
+        """The status of the command on a terminal, its output, and what was shown, where a question gets an answer."""
+        ours, terminal = pty.openpty()
+        streams = {"stdin": terminal, "stderr": terminal, "stdout": subprocess.PIPE}
         environment = {**os.environ, "HOME": str(self.folder)}
-        for answer, status in (("no", 2), ("", 2), ("yes", 0)):
-            ours, terminal = pty.openpty()
-            process = subprocess.Popen(
-                words, cwd=CLIENT, env=environment, stdin=terminal, stderr=terminal, stdout=subprocess.PIPE, text=True
-            )
-            os.close(terminal)
-            try:
-                shown = b""
+        process = subprocess.Popen([sys.executable, "-m", "wanekupo", *words], cwd=CLIENT, env=environment, **streams)
+        os.close(terminal)
+        shown = b""
+        try:
+            with contextlib.suppress(OSError):  # the other side is closed once it ended
                 while b"Type yes: " not in shown:
                     shown += os.read(ours, 4096)
                 os.write(ours, f"{answer}\n".encode())
-                out = process.communicate(timeout=30)[0]
-                with contextlib.suppress(OSError):
-                    shown += os.read(ours, 4096)
-            finally:
-                os.close(ours)
-                process.kill()
-            self.assertIn("Make o1, 1 serial numbers from A001 on?", shown.decode())
-            self.assertEqual((process.returncode, bool(out)), (status, status == 0), shown)
+            out = process.communicate(timeout=30)[0]
+            with contextlib.suppress(OSError):
+                shown += os.read(ours, 4096)
+        finally:
+            os.close(ours)
+            process.kill()
+        return process.returncode, out.decode(), shown.decode()
+
+    def test_a_question(self):
+        """On a terminal a person is asked once, and only by yes an order is made."""
+        for answer, status in (("no", 2), ("", 2), ("yes", 0)):
+            found, out, shown = self.on_terminal(answer, *self.ORDER_OF_ONE.format("o1", "A").split())
+            self.assertIn("Make o1, 1 serial numbers from A001 on?", shown)
+            self.assertEqual((found, bool(out)), (status, status == 0), shown)
         self.assertEqual(self.ran("order", "o1")[0], 0)
+
+    def test_the_question_of_scrapping(self):
+        """On a terminal a chip is scrapped by yes or --yes alone: nobody can take that back."""
+        self.made()
+        self.taken_over()
+        for answer in ("no", "", "y"):
+            status, out, shown = self.on_terminal(answer, "scrap", MAC)
+            self.assertEqual((status, out, f"Scrap the chip {MAC} for good" in shown), (2, "", True), shown)
+            self.assertIn("No chip was scrapped.", shown)
+        self.assertNotEqual(json.loads(self.ran("device", MAC)[1])["state"], "scrapped")
+        status, out, shown = self.on_terminal("yes", "scrap", MAC)
+        self.assertEqual((status, json.loads(out)), (0, {"chip": MAC, "state": "scrapped"}), shown)
+        status, out, shown = self.on_terminal("no", "scrap", OTHER_MAC, "--yes")
+        self.assertEqual((status, json.loads(out), shown), (0, {"chip": OTHER_MAC, "state": "scrapped"}, ""))
 
     @NEEDS_KEYS
     def test_a_chip_of_another_family(self):
@@ -228,6 +246,7 @@ class Words(CommandCase):
             (["device", "240ac4000009"], 1, "no device of this chip"),
             (["order", "o9"], 1, "no order of this name"),
             (["map", self.folder / "text"], 1, "no fuse map"),
+            (["ledger", "A001"], 1, "by its 12 digits: wanekupo devices shows which has a serial number."),
         )
 
     def test_no_reply_is_a_sentence(self):

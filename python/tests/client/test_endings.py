@@ -381,7 +381,7 @@ class Endings(BenchCase):
         self.assertEqual(bench.until(lambda board: board["stopped"])["stopped"], told)
         self.put("left", "240ac4000004")
         bench.said("left")
-        self.assertEqual(bench.board()["notice"], "The line stands: have it go on first.")
+        self.assertEqual(bench.board()["notice"], "The line stands: type go, or press Go on.")
         bench.kill()
         self.assertEqual(self.asked("GET", "/v1/device?chip=240ac4000004")[0], 404)
         bench = self.run_bench(self.recipe())

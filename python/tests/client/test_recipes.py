@@ -18,6 +18,9 @@ NO_TOOL = "the command of the socket left is no espefuse that is known: "
 class Recipes(BenchCase):
     """A recipe in which one thing is changed, or several."""
 
+    LOOKED = "Looking at the recipe and at each socket's command: this takes some seconds."
+    NONE_BEGUN = "No chip was begun: mend this, and start again."
+
     def said_of(self, *changes):
         """What the bench says of the recipe with these changes; it doesn't start, and sends nothing."""
         text = self.recipe().read_text(encoding="utf-8")
@@ -25,11 +28,16 @@ class Recipes(BenchCase):
             self.assertIn(old, text)
             text = text.replace(old, new, 1)
         (self.folder / "bad.toml").write_text(text, encoding="utf-8")
-        bench = Running(self.folder / "bad.toml")
-        self.assertEqual((bench.process.wait(SECONDS), bench.port), (2, 0), changes)
+        return self.said_by("bad.toml")
+
+    def said_by(self, name):
+        """What the bench says of a recipe with which it doesn't start, behind the line that it looks at it."""
+        bench = Running(self.folder / name)
+        self.assertEqual((bench.process.wait(SECONDS), bench.port), (2, 0), name)
         bench.gone()
         self.assertNotIn("Traceback", "".join(bench.lines))
-        return "".join(bench.lines).splitlines()
+        lines = "".join(bench.lines).splitlines()
+        return lines[1:] if lines[0] == self.LOOKED else ["", *lines]
 
     def test_faults(self):
         """A name that isn't known, a value that can't be, and what is no TOML."""
@@ -39,7 +47,7 @@ class Recipes(BenchCase):
             ('burnt_as = "flash', 'burned_as = "flash', "wish 2 has 'burned_as', and knows kind, field, file"),
             ('order = "o1"', 'order = "o 1"', "the recipe has the order 'o 1', which is no name"),
             ('order = "o1"', 'orders = "o1"', "the recipe has 'orders', and knows name, order"),
-            ('esp32.toml"', 'esp99.toml"', f"esp99.toml in {self.folder} or /"),
+            ('esp32/map.toml"', 'esp32/none.toml"', f"esp32/none.toml in {self.folder}, and no family has one"),
             ('"before_identity"', '"before_ship"', "[hooks] has no before_identity"),
             ('"url"', '"urls"', "has 'urls', which is no setting"),
             ("[stop]", "[stop", "is no TOML"),
@@ -63,7 +71,7 @@ class Recipes(BenchCase):
         yield KEY, KEY.replace("BLOCK1", BIT), "wish 2 is a key of JTAG_DISABLE, which is no key block."
         told = "wish 2 is burnt_as flash_encription, and a key of BLOCK1 may be BLOCK1, flash_encryption."
         yield '"flash_encryption"', '"flash_encription"', told
-        yield 'esp32.toml"', 'esp32s3.toml"', "its map is that of an esp32s3, and its family is esp32."
+        yield 'esp32/map.toml"', 'esp32s3/map.toml"', "its map is that of an esp32s3, and its family is esp32."
 
     def of_files(self):
         """Changes of files and commands, each with its sentence."""
@@ -94,9 +102,19 @@ class Recipes(BenchCase):
         alone = [([(old, new)], [said]) for old, new, said in [*self.of_wishes(), *self.of_files()]]
         for changes, told in [*alone, (together, ["wish", "key", "command", "spool"])]:
             lines = self.said_of(*changes)
-            self.assertEqual(lines[len(told) :], ["No chip was begun: mend this, and start again."])
+            self.assertEqual(lines[len(told) :], [self.NONE_BEGUN])
             for line, said in zip(lines, told):
                 self.assertIn(said, line)
+
+    def test_a_map_of_the_recipes_name(self):
+        """A recipe isn't its own map, and one that is no map is named."""
+        text = self.recipe().read_text(encoding="utf-8").replace(str(MAP_FILE), "esp32.toml")
+        (self.folder / "esp32.toml").write_text(text.replace('"flash.key"', '"none.key"'), encoding="utf-8")
+        told = [f"{self.folder}/esp32.toml: the key {self.folder}/none.key can't be read (No such file or directory)."]
+        self.assertEqual(self.said_by("esp32.toml"), [*told, self.NONE_BEGUN])
+        (self.folder / "bad.toml").write_text(text, encoding="utf-8")
+        told = f"its map, {self.folder}/esp32.toml, is no fuse map: station-site check says why."
+        self.assertEqual(self.said_by("bad.toml"), [f"{self.folder}/bad.toml: {told}", self.NONE_BEGUN])
 
 
 if __name__ == "__main__":

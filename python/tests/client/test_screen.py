@@ -182,7 +182,7 @@ class Screen(unittest.TestCase):
             self.browser.until(f"document.body.classList.contains('{kind}')")
             found.append(self.browser.value(looks))
             if kind == "STOPPED":
-                self.assertEqual(self.text("#notice"), "The line stands: have it go on first.")
+                self.assertEqual(self.text("#notice"), "The line stands: type go, or press Go on.")
         self.browser.call("Network.emulateNetworkConditions", offline=False, **speed)
         for place in zip(*found):
             self.assertEqual(len(set(place)), 3, place)

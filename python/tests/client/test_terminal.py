@@ -108,7 +108,7 @@ class Begun(BenchCase):
             self.assertEqual([it[1] for it in found if it], [str(place) for place in range(1, 9)])
             self.assertTrue(any("STOPPED #####" in line and line.startswith("#####") for line in lines), lines)
             self.assertIn("This shift: passed 0, first pass 0, failed: command failed 8", " ".join(lines))
-            told = "The line stands: have it go on first. Type help"
+            told = "The line stands: type go, or press Go on. Type help"
             self.assertTrue(any(line.startswith(told) for line in lines), lines)
             terminal.type("help")
             self.assertIn("The words are: stop, go,", terminal.until("Type help"))

@@ -384,6 +384,7 @@ def main(settings: Settings, arguments: argparse.Namespace) -> int:
     settings = settings_for(recipe, settings, vars(arguments))
     take(recipe.display.words)
     os.chdir(recipe.file.parent)  # from where the commands of sockets and hooks count
+    print("Looking at the recipe and at each socket's command: this takes some seconds.", flush=True)
     faults = recipe_faults(recipe, settings.spool)
     if faults:
         warn(*(f"{recipe.file}: {fault}." for fault in faults), "No chip was begun: mend this, and start again.")

@@ -104,6 +104,7 @@ class Recipe:
     folder: Optional[Path] = None
     keep_folder: bool = False
     display: Display = Display()
+    map_file: Path = Path()
 
     def digest(self) -> str:
         """What the server knows the map by."""
@@ -127,6 +128,7 @@ def recipe_of(file: Path) -> Recipe:
 def _recipe(file: Path, table: Mapping[str, Any]) -> Recipe:
     _known(table, TOP + TABLES, "the recipe")
     here = file.parent
+    map_file = _map(_text(table, "map", "the recipe"), file)
     stop = _table(table, "stop")
     _known(stop, ("lost_in_a_row",), "[stop]")
     hooks = {name: _command(name, it, here, LONGEST_HOOK) for name, it in _table(table, "hooks").items()}
@@ -137,7 +139,7 @@ def _recipe(file: Path, table: Mapping[str, Any]) -> Recipe:
         file,
         _text(table, "name", "the recipe"),
         _name(table, "order", "the recipe"),
-        _map(_text(table, "map", "the recipe"), here),
+        map_file.read_text(encoding="utf-8"),
         _one_of(table.get("family"), names(), "family"),
         _sockets(_table(table, "sockets"), here),
         tuple(_wish(it, f"wish {place}", here) for place, it in enumerate(_tables(table, "wish"), 1)),
@@ -149,6 +151,7 @@ def _recipe(file: Path, table: Mapping[str, Any]) -> Recipe:
         here / _text(table, "folder", "the recipe") if "folder" in table else None,
         _truth(table, "keep_folder"),
         _display(_table(table, "screen"), here, [str(table["order"]), *_table(table, "sockets")]),
+        map_file,
     )
 
 
@@ -240,11 +243,13 @@ def _sockets(table: Mapping[str, Any], here: Path) -> dict[str, tuple[str, ...]]
     return {name: _words(words, f"the socket {name!r}", here) for name, words in table.items()}
 
 
-def _map(name: str, here: Path) -> str:
-    found = here / name if (here / name).is_file() else map_of_family(name)
+def _map(name: str, recipe: Path) -> Path:
+    """The file of a map: one beside the recipe, which is no map of its own, or a family's."""
+    beside = recipe.parent / name
+    found = beside if beside.is_file() and not beside.samefile(recipe) else map_of_family(name)
     if not found:
-        raise ValueError(f"there is no map {name} in {here}, and no family has one of this name")
-    return found.read_text(encoding="utf-8")
+        raise ValueError(f"there is no map {name} in {recipe.parent}, and no family has one of this name")
+    return found
 
 
 def _display(table: Mapping[str, Any], here: Path, scanned: Sequence[str]) -> Display:

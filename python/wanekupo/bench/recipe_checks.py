@@ -42,7 +42,7 @@ def _map_faults(recipe: Recipe) -> Iterator[str]:
     try:
         layout = Layout(recipe.map)
     except (ValueError, KeyError, TypeError, AttributeError):
-        yield "its map is no fuse map: station check-map says why"
+        yield f"its map, {recipe.map_file}, is no fuse map: station-site check says why"
         return
     if layout.name != family.name and layout.name in names():
         yield f"its map is that of an {layout.name}, and its family is {family.name}"

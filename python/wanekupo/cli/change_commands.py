@@ -74,7 +74,8 @@ def _make_order(settings: Settings, args: argparse.Namespace) -> int:
     meant = meaning_of(args.not_before, time.strftime("%Y%m%d%H%M%SZ", time.gmtime()))
     if meant and not args.yes:
         warn(f"{meant} Nobody can cancel an order, or change it.")
-        if sys.stdin.isatty() and sys.stderr.isatty() and not _agreed(args):
+        first = f"{args.prefix}{args.first:0{args.width}}"
+        if not _agreed(f"Make {args.name}, {args.quantity} serial numbers from {first} on?"):
             raise StationError("no order was made", "Give the command again with --not-before T, or with --yes.")
     return asks(make_order)(settings, args)
 
@@ -88,10 +89,11 @@ def meaning_of(not_before: Optional[str], now: str) -> str:
     return ""
 
 
-def _agreed(args: argparse.Namespace) -> bool:
-    first = f"{args.prefix}{args.first:0{args.width}}"
-    asked = shown(f"Make {args.name}, {args.quantity} serial numbers from {first} on? Type yes: ")
-    print(asked, end="", file=sys.stderr, flush=True)
+def _agreed(asked: str) -> bool:
+    """Whether a person on a terminal says yes; where there is none nobody is asked."""
+    if not (sys.stdin.isatty() and sys.stderr.isatty()):
+        return True
+    print(shown(f"{asked} Type yes: "), end="", file=sys.stderr, flush=True)
     return sys.stdin.readline().strip().lower() == "yes"
 
 
@@ -220,6 +222,19 @@ def _settle(station: Station, args: argparse.Namespace) -> Any:
     return station.get("/v1/device", chip=args.chip)
 
 
+def _add_scrap(parser: argparse.ArgumentParser) -> None:
+    required_words("chip")(parser)
+    parser.add_argument("--yes", action="store_true", help="ask nothing, also on a terminal")
+
+
+def _scrap(settings: Settings, args: argparse.Namespace) -> int:
+    """Scraps a chip, for good. A person is asked once, on a terminal."""
+    asked = f"Scrap the chip {args.chip} for good, by a seat with which no bench works?"
+    if not args.yes and not _agreed(asked):
+        raise StationError("no chip was scrapped", "Give the command again, and type yes, or give --yes.")
+    return asks(lambda it, _: it.scrap(args.chip) and None)(settings, args)
+
+
 # An identity.
 
 
@@ -311,7 +326,7 @@ COMMANDS = [
     Command("settle", "burn and read back what a chip awaits", _add_burning, asks(_settle)),
     Command("identity", "show a device's record, or with a public key give it one", _add_identity, _identity),
     Command("ship", "ship a device", required_words("chip"), asks(lambda it, args: it.ship(args.chip) and None)),
-    Command("scrap", "scrap a device", required_words("chip"), asks(lambda it, args: it.scrap(args.chip) and None)),
+    Command("scrap", "scrap a device, for good", _add_scrap, _scrap),
     Command(
         "import",
         "import serial numbers, any number of rows, in parts of 500; again, it goes on",

@@ -69,7 +69,7 @@ EXAMPLES = {
     "yield": "yield monday.csv friday.csv",
     "manifest": "manifest o17 --out o17.csv --minisign lots.key",
     "certify": "certify spool --ca-folder acme-ca",
-    "verify": "verify spool/acme-ca/T0001.pem --trusted ca.pem",
+    "verify": "verify spool/T0001.pem --trusted acme-ca/ca.pem",
     "shift": "shift acme=line1.journal --from 2026-12-01T06:00 --to 2026-12-01T14:00 --html shift.html",
     "seal": "seal acme-seals --customer acme --minisign seals.key",
     "audit": "audit copy/books.db journals/ --from 2026-12-01T00:00Z --to 2026-12-02T00:00Z --html audit.html",

@@ -93,7 +93,7 @@ COMMANDS = [
     Command("device", "show a device", required_words("chip"), show_command("/v1/device", "chip")),
     Command(
         "ledger",
-        "show a device's ledger: what was done with it",
+        "show a device's ledger: what was done with it, and by whom; when is in the journal",
         required_words("chip"),
         show_command("/v1/ledger", "chip"),
     ),

@@ -26,7 +26,10 @@ REFUSALS = {
         "One that only looks changes nothing: take the seat's own. The site's report takes the manager's.",
     ),
     9: ("the request is no JSON", "This client isn't the server's: mend it."),
-    10: ("the request lacks something, or has a word of another form", "Look at the words: names, digits and numbers."),
+    10: (
+        "the request lacks something, or has a word of another form",
+        "Look at the words. A chip is asked for by its 12 digits: wanekupo devices shows which has a serial number.",
+    ),
     13: ("the customer has imported no such map", "Import the map first: wanekupo map FILE."),
     14: ("the customer has no order of this name", "Look at the name, or make the order first."),
     15: (
@@ -46,7 +49,7 @@ REFUSALS = {
     26: ("something can't be burnt any more, as its write lock is", "Leave it out, or put the chip aside."),
     27: ("something can't be read any more, as its read lock is burnt", "Leave it out, or put the chip aside."),
     28: ("the field has no such lock", "Look at the map, and leave the lock out."),
-    29: ("the text is no fuse map", "station check-map FILE says where."),
+    29: ("the text is no fuse map", "On the server's machine station-site check FILE says where."),
     30: ("a prefix or a serial number has another form", "It has capital letters, digits and hyphens, 32 at most."),
     31: ("the order's last number has more digits than its width", "Take a greater width, or fewer numbers."),
     32: ("each serial number of the order is given", "Make another order."),
