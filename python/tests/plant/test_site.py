@@ -141,7 +141,7 @@ def test_wishes(place, tmp_path, more, to, holder):
 def test_the_seat_of_health_gets_no_token(place):
     plan = GrowthPlan()
     site.add_wishes(words("add-seat", "acme", "health"), place, plan)
-    assert plan.wishes == [SeatWish("health", "acme", "", "")]
+    assert plan.wishes == [SeatWish("health", "acme", is_made=True)]
 
 
 @pytest.mark.parametrize("kind", ["file", "link", "no folder"])
