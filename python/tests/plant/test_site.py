@@ -135,7 +135,8 @@ def test_wishes(place, tmp_path, more, to, holder):
     (tmp_path / "keys").mkdir()
     plan = GrowthPlan()
     site.add_wishes(words("add-seat", "acme", "a1", "a5", *more), place, plan)
-    assert plan.wishes == [SeatWish("a5", "acme", str(tmp_path / to) if to else "", holder, True)], "a1 is there already"
+    wish = SeatWish("a5", "acme", str(tmp_path / to) if to else "", holder, True)
+    assert plan.wishes == [wish], "a1 is there already"
 
 
 def test_the_seat_of_health_gets_no_token(place):
