@@ -12,7 +12,7 @@ from types import SimpleNamespace
 import pytest
 from wanekupo.plant.restore import journals as restore_journals
 from wanekupo.plant.backup.copies import BackupError
-from wanekupo.plant.restore.plan import RestoreError
+from wanekupo.plant.restore.plan import CustomerPlan, RestoreError
 from scripts import script
 from wanekupo.common.store_user import UserError
 from wanekupo.common.errors import StationError
@@ -221,11 +221,21 @@ def test_what_keeps_stations_puts_no_store_in_place(monkeypatch, tmp_path, place
 
 
 def test_the_restored_store_is_backed_up_before_it_gets_its_name(monkeypatch, tmp_path, place, capsys):
+    place.db = restore.STORE
     status, saved = ended(monkeypatch, tmp_path, place, [], leave_out=["bolt"])
     assert status == 0 and place.calls == ["backed up", "put_in_place"]
     assert saved == [("P", str(tmp_path / "site.toml"), str(place.made), tmp_path / "restored-2", "a restore")]
     told = capsys.readouterr().out
-    assert "stop at 11 or 12 by themselves: a1" in told and "expected: b1" in told and "bolt is left out" in told
+    assert "stop at 11 or 12 by themselves: a1" in told and "bolt is left out" in told
+    assert "These may not, as their next number may be the one expected: b1" in told and "practice" not in told
+
+
+def test_a_restore_elsewhere_may_be_a_practice(monkeypatch, tmp_path, place, capsys):
+    """A line that goes on isn't to be resynchronized for it."""
+    place.db = tmp_path / "books.db"
+    assert ended(monkeypatch, tmp_path, place, [])[0] == 0
+    told = capsys.readouterr().out
+    assert 0 < told.index("Was this a practice? Then start nothing, and resynchronize no") < told.index("Stations may")
 
 
 def test_no_backup_no_store(monkeypatch, tmp_path, place):
@@ -404,8 +414,28 @@ def test_replay(monkeypatch, tmp_path, place, capsys):
 
 
 def test_a_folder_that_cannot_be_read_may_have_a_journal():
-    with pytest.raises(RestoreError, match="can't read /j/b1"):
-        restore_journals._unread(PermissionError(13, "Permission denied", "/j/b1"))
+    for kind in (PermissionError, OSError):
+        with pytest.raises(RestoreError, match="can't read /j/b1: a journal may be there") as error:
+            restore_journals._unread(kind(5, "why", "/j/b1"))
+        assert ("chgrp -R station" in str(error.value)) == (kind is PermissionError)
+
+
+@pytest.mark.parametrize("mode, opened", [(0o000, "pc1"), (0o700, "pc1/a1.journal")])
+def test_a_missing_right_leaves_nobody_out(tmp_path, monkeypatch, mode, opened):
+    """Neither a folder's nor a file's: who issues a customer's numbers again for that loses what is there."""
+    folder = tmp_path / "all/pc1"
+    folder.mkdir(parents=True)
+    (folder / "a1.journal").write_text("")
+
+    def refuse(path, *_):
+        raise PermissionError(13, "Permission denied", str(path))
+
+    monkeypatch.setattr(restore_journals, "lines_of" if mode else "journals_below", lambda path, **_: refuse(path))
+    acme = CustomerPlan("acme", {"a1": ""}, True)
+    source = restore_journals.Source(folder, frozenset({"a1"}))
+    with pytest.raises(RestoreError, match=f"can't read .*{opened}: .*`chgrp -R station`") as error:
+        restore_journals.take_journals([source], {"acme": acme}, [])
+    assert "leave-out" not in str(error.value) and "Nothing was moved" in str(error.value)
 
 
 def test_gather(monkeypatch, tmp_path, capsys):

@@ -54,7 +54,12 @@ def test_no_server_has_the_store(place, monkeypatch):
     monkeypatch.setattr(restore_place, "is_open", lambda port: port == 880)
     with pytest.raises(RestoreError, match="somebody listens on port 880"):
         place.refuse_server(880)
+    with pytest.raises(RestoreError, match="for a practice take another machine, and stop nothing; else stop the"):
+        place.refuse_server(880)
     place.refuse_server(881)
+    place.db = restore_place.STORE
+    with pytest.raises(RestoreError, match="port 880: stop the server, or have it stopped"):
+        place.refuse_server(880)
     monkeypatch.setattr(restore_place, "holders_of", lambda db: [42] if db == place.db else [])
     with pytest.raises(RestoreError, match="the process 42 has"):
         place.refuse_server(881)

@@ -256,6 +256,16 @@ def test_a_customer_without_a_token_is_told_and_one_without_journals_needs_none(
     assert choose_seats({"bolt": bolt}, {}, [], Path("tokens")) == [] and not bolt.seat
 
 
+def test_an_outer_token_in_a_folder_is_named():
+    """`station-site` names the files of outer ones SEAT.token too."""
+    acme = customer(journals=[("a1", [])])
+    with pytest.raises(RestoreError, match=r"a1\.token there is an outer one: station-token inner a1 --to FILE"):
+        choose_seats({"acme": acme}, {"a1": "wanekupo_" + "0" * 64}, [], Path("tokens"))
+    with pytest.raises(RestoreError) as error:
+        choose_seats({"acme": acme}, {"a1": "another's"}, [], Path("tokens"))
+    assert "outer" not in str(error.value)
+
+
 def test_a_folder_of_tokens_has_plain_files_of_its_users_own(tmp_path):
     """Root reads them: it follows no link there, and waits for no pipe."""
     (tmp_path / "a1.token").write_text("abc\n")

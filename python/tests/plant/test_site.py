@@ -4,6 +4,7 @@ import os
 import signal
 import subprocess
 import sys
+from dataclasses import replace
 from types import SimpleNamespace
 
 import pytest
@@ -11,7 +12,7 @@ from scripts import script
 from wanekupo.common.site_file import read_site
 from wanekupo.common.store_user import STOPS
 from wanekupo.plant.site.apply import Stopped, start_behind
-from wanekupo.plant.site.plan import PLACED, PREPARED, GrowthPlan, SeatWish, keep_plan, read_plan
+from wanekupo.plant.site.plan import PLACED, PREPARED, STOPPING, GrowthPlan, SeatWish, keep_plan, read_plan
 from wanekupo.common.token_file import TokenSeat, TokenError, Tokens, put, tokens_text
 
 site = script("site")
@@ -134,13 +135,14 @@ def test_wishes(place, tmp_path, more, to, holder):
     (tmp_path / "keys").mkdir()
     plan = GrowthPlan()
     site.add_wishes(words("add-seat", "acme", "a1", "a5", *more), place, plan)
-    assert plan.wishes == [SeatWish("a5", "acme", str(tmp_path / to) if to else "", holder)], "a1 is there already"
+    wish = SeatWish("a5", "acme", str(tmp_path / to) if to else "", holder, True)
+    assert plan.wishes == [wish], "a1 is there already"
 
 
 def test_the_seat_of_health_gets_no_token(place):
     plan = GrowthPlan()
     site.add_wishes(words("add-seat", "acme", "health"), place, plan)
-    assert plan.wishes == [SeatWish("health", "acme", "", "")]
+    assert plan.wishes == [SeatWish("health", "acme", is_made=True)]
 
 
 @pytest.mark.parametrize("kind", ["file", "link", "no folder"])
@@ -207,7 +209,7 @@ def test_prepare(place, tmp_path, capsys):
     assert given(place.next.read_text())["acme"].seats == {"a1": ONE, "a2": HELLO} and place.site.read_text() == TEXT
     plan = read_plan(place.plan)
     assert (plan.stage, plan.is_tried, plan.others) == (PREPARED, True, [str(tmp_path / "two.toml")])
-    assert plan.wishes == [SeatWish("a2", "acme", str(tmp_path / "a2.token"), "")]
+    assert plan.wishes == [SeatWish("a2", "acme", str(tmp_path / "a2.token"), "", True)]
     told = capsys.readouterr().out
     assert "gain" in told and "a copy took it" in told and "two.toml" in told and "nothing is taken away" in told
     site.prepare(words("add-issuer", "acme", "n"), place)
@@ -269,6 +271,59 @@ def test_one_run_at_a_time(place, command):
         with pytest.raises(TokenError) as error:
             getattr(site, command)(words("add-seat", "acme", "a2", "--apply"), place)
     assert error.value.status == 3 and place.calls == []
+
+
+def known(place):
+    return set(site.known_seats(place).seats)
+
+
+def test_what_is_given_up_leaves_no_seat(place, monkeypatch, capsys):
+    """Also where it was prepared in two runs; the seats that were there stay, as another store may have them."""
+    monkeypatch.setattr(site, "is_up", lambda it: True)
+    put(place.tokens, tokens_text(Tokens({it: TokenSeat(it, "acme", it) for it in ("a1", "a7")})))
+    for seat in ("a2", "a2", "a7", "health"):
+        site.prepare(words("add-seat", "acme", seat), place)
+    assert known(place) == {"a1", "a2", "a7", "health"}
+    site.drop(words("drop"), place)
+    assert known(place) == {"a1", "a7"} and not place.next.exists() and not place.plan.exists()
+    assert "tokens.conf: a2, health\n" in capsys.readouterr().out and place.site.read_text() == TEXT
+    site.drop(words("drop"), place)
+    assert known(place) == {"a1", "a7"}
+
+
+def test_a_seat_that_is_a_sites_or_has_tokens_is_not_given_up(place, monkeypatch):
+    monkeypatch.setattr(site, "is_up", lambda it: True)
+    seats = [TokenSeat("a1", "acme", "hello"), TokenSeat("a2", "acme", "abc", given=1)]
+    put(place.tokens, tokens_text(Tokens({it.seat: it for it in seats})))
+    keep_plan(place.plan, GrowthPlan(wishes=[SeatWish(it, "acme", is_made=True) for it in ("a1", "a2", "a3")]))
+    site.drop(words("drop"), place)
+    assert known(place) == {"a1", "a2"}
+
+
+@pytest.mark.parametrize("stage, is_up, told", [
+    (STOPPING, True, "under way"), (PLACED, True, "under way"), (PREPARED, False, "doesn't run"),
+])  # fmt: skip
+def test_nothing_is_given_up_that_a_store_may_hold(place, monkeypatch, stage, is_up, told):
+    """On the second of two machines the plan may be older than the store's text."""
+    monkeypatch.setattr(site, "is_up", lambda it: is_up)
+    site.prepare(words("add-seat", "acme", "a2"), place)
+    keep_plan(place.plan, replace(read_plan(place.plan), stage=stage))
+    with pytest.raises(TokenError, match=told):
+        site.drop(words("drop"), place)
+    assert known(place) == {"a2"} and place.next.exists() and read_plan(place.plan).stage == stage
+
+
+def test_a_cut_run_gives_up_the_text_first(place, monkeypatch):
+    """Seats whose tokens are gone would be in a site for good."""
+    monkeypatch.setattr(site, "is_up", lambda it: True)
+    site.prepare(words("add-seat", "acme", "a2"), place)
+    with monkeypatch.context() as patch:
+        patch.setattr(site, "put", lambda *_: 1 / 0)
+        with pytest.raises(ZeroDivisionError):
+            site.drop(words("drop"), place)
+    assert known(place) == {"a2"} and not place.next.exists() and read_plan(place.plan).wishes
+    site.drop(words("drop"), place)
+    assert known(place) == set() and not place.plan.exists()
 
 
 def test_apply_of_nothing(place, capsys):

@@ -209,6 +209,8 @@ def _check_owner(path: Path) -> None:
     there = os.lstat(path)
     if stat.S_ISLNK(there.st_mode):
         raise TokenError(1, f"{path} is a link")
+    if os.geteuid() != there.st_uid == 0:
+        raise TokenError(1, f"{path} is root's: do this as root")
     if there.st_uid != os.geteuid() or stat.S_IMODE(there.st_mode) & 0o022:
         raise TokenError(1, f"{path} belongs to somebody else, or others may write it")
 

@@ -44,7 +44,7 @@ from wanekupo.plant.restore.journals import half_of_memory, sources_of, take_jou
 from wanekupo.plant.restore.lost_store import (
     NEEDED, by_customer, lost_contradictions, last_numbers, lost_copy, missing_rows, number_gaps, seats_out_of_step,
 )  # fmt: skip
-from wanekupo.plant.restore.place import StorePlace, check_backup, check_folders, free_name, serve_alone
+from wanekupo.plant.restore.place import STORE, StorePlace, check_backup, check_folders, free_name, serve_alone
 from wanekupo.plant.restore.plan import (
     CustomerPlan, Requests, RestoreError, absolute, asked_of, check_customers, check_left_out, choose_seats,
     customers_of, name_customer, requests_of_seats, tokens_at, station_error_sentence,
@@ -229,10 +229,12 @@ def end_restore(args: argparse.Namespace, place: StorePlace, keeps: list[str], r
             "Give them no token until its journals are brought back:",
             f"{PAGES}/operate/backup-and-restore.md, 'Leave a customer out'.",
         )
+    if place.db != STORE:
+        print_lines("Was this a practice? Then start nothing, and resynchronize no station. Else:")
     print_lines(f"These seats stop at 11 or 12 by themselves: {' '.join(stops) or 'none'}.")
     if chance:
-        print_lines(f"These don't, as their next number is the one expected: {' '.join(chance)}.")
-        print_lines("End the programs of these stations before the server starts.")
+        print_lines(f"These may not, as their next number may be the one expected: {' '.join(chance)}.")
+        print_lines("On the machines of these seats end the programs that ask, before the server starts.")
     goes_on = "At each, before anything else: wanekupo number --resynchronize."
     print_lines(f"Stations may go on: systemctl start station. {goes_on}")
     return ON
@@ -290,7 +292,7 @@ def restore_parser() -> argparse.ArgumentParser:
     parser.add_argument("backup", type=Path, metavar="BACKUP")
     parser.add_argument("site", type=Path, metavar="SITE")
     parser.add_argument("journals", nargs="*", metavar="JOURNAL")
-    parser.add_argument("--db", default="/var/lib/station/books.db", metavar="STORE", help="where the store is to be")
+    parser.add_argument("--db", default=str(STORE), metavar="STORE", help="where the store is to be")
     parser.add_argument("--program", default="station", help="the program")
     parser.add_argument("--tokens", type=Path, default=Path("/etc/station/tokens.conf"), help="the tokens of seats")
     parser.add_argument("--seat", action="append", default=[], metavar="NAME", help="ask by this seat of a customer's")

@@ -61,8 +61,15 @@ def sources_of(words: Iterable[str], customers: dict[str, CustomerPlan], folders
     return found
 
 
+class Unreadable(RestoreError):
+    """What the store's user may not read. That is soon mended, so nobody is left out for it."""
+
+
 def _unread(error: OSError) -> NoReturn:
-    raise RestoreError(f"this user can't read {shown(str(error.filename))}: a journal may be there") from None
+    told = f"this user can't read {shown(str(error.filename))}: a journal may be there"
+    if isinstance(error, PermissionError):
+        raise Unreadable(f"{told}. Have `chgrp -R station` and `chmod -R g+rX` let it. Nothing was moved") from None
+    raise RestoreError(told) from None
 
 
 def _entries(path: Path) -> list[os.DirEntry[str]]:
@@ -216,6 +223,10 @@ def take_journals(sources: Iterable[Source], customers: dict[str, CustomerPlan],
             if sum(read.values()) > MOST_FOLDERS * MOST:
                 raise MemoryError
             found = journals_in(source, sizes, frozenset(owner))
+        except Unreadable:
+            raise
+        except PermissionError as error:
+            _unread(error)
         except (RestoreError, StationError, OSError) as error:
             raise _error_of(source, owner, cause_of(error)) from None
         except MemoryError:

@@ -31,6 +31,8 @@ from wanekupo.common.files import hold_lock, replace_file, sync
 from wanekupo.common.signing import digest_of_file
 
 HOST = "127.0.0.1"
+# Where the one server of a machine has its store: a restore elsewhere may be a practice.
+STORE = Path("/var/lib/station/books.db")
 FORM = "%Y-%m-%dT%H%M%SZ"
 
 
@@ -102,7 +104,9 @@ class StorePlace:
             told = f"somebody listens on port {port}"
         else:
             return
-        raise RestoreError(f"{told}: stop the server, or have it stopped by --stop station. Nothing was moved")
+        practice = "for a practice take another machine, and stop nothing; else " if self.db != STORE else ""
+        words = "stop the server, or have it stopped by --stop station"
+        raise RestoreError(f"{told}: {practice}{words}. Nothing was moved")
 
     @contextlib.contextmanager
     def locked(self) -> Iterator[None]:
@@ -246,7 +250,9 @@ def check_backup(backup: Path) -> dict[str, Any]:
     about = said_in(backup)
     for name in FILES if about else ():
         if digest_of_file(backup / name) != about["sha256"][name]:
-            raise RestoreError(f"{backup / name} isn't as it was made: take another backup")
+            opened = "a program opened it, as a test by `station replay` does, or it is damaged"
+            told = f"{backup / name} isn't as it was made: {opened}"
+            raise RestoreError(f"{told}. Decrypt or copy that backup anew, or take another one")
     return about
 
 

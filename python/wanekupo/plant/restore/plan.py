@@ -15,7 +15,7 @@ from typing import Any
 
 from wanekupo.plant.backup.copies import BackupError
 from wanekupo.common.store_user import UserError, read_small
-from wanekupo.common.token_file import Outer, TokenError, Tokens, check_folder, read, tokens_of
+from wanekupo.common.token_file import PREFIX, Outer, TokenError, Tokens, check_folder, read, tokens_of
 from wanekupo.common.errors import StationError
 from wanekupo.common.site_file import SiteFileError, read_site_file
 from wanekupo.seat.journal import Asked, requests_in, serials_of
@@ -192,6 +192,8 @@ def choose_seats(customers: dict[str, CustomerPlan], tokens: dict[str, str], nam
         if not fit:
             seats = ", ".join(customer.seats) or "it has none"
             told = f"no token of {customer.name} is in {at}: one of these seats' is needed: {seats}"
+            if outer := next((it for it in customer.seats if tokens.get(it, "").startswith(PREFIX)), ""):
+                told += f". {outer}.token there is an outer one: station-token inner {outer} --to FILE writes its own"
             raise RestoreError(f"{told}. station-token writes that file; or name a folder that has a file SEAT.token")
         fit.sort(key=lambda seat: (seat not in named, not seat.startswith(OWN), seat in busy, seat))
         customer.seat, customer.token = fit[0], tokens[fit[0]]

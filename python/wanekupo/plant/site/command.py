@@ -5,13 +5,14 @@
     station-site add-pool acme 020000030000 65536
     station-site add-issuer acme acme-2
     station-site apply                             what was prepared: stops, backs up, puts in place, starts, asks
+    station-site drop                              gives up what was prepared
     station-site check FILE                        where a site or a map is wrong, and why, by the program
     station-site diff OLD NEW                      what NEW adds, in words; 1 where something goes
 
 An `add` prepares: it writes the new text beside the site file, as site.next.toml, tests it, and stops nothing. It may
-be given again, and others add to it. With `--apply` the steps of `apply` follow. To give it all up remove
-site.next.toml and site.growth before `apply`: from then on nothing can be taken back. A run that was cut is begun again
-by the same words, or by `apply`; no token is lost or made twice.
+be given again, and others add to it. With `--apply` the steps of `apply` follow. Before `apply` all of it can be given
+up by `drop`, which takes the seats that were made for it out of the tokens' file too: from then on nothing can be taken
+back. A run that was cut is begun again by the same words, or by `apply`; no token is lost or made twice.
 
 A new seat's inner token is in the tokens' file alone (station-token(8)). Its outer one is in a new file, SEAT.token of
 the folder `--to`, made once the server knows the seat; a seat `health`, or any with --no-token, gets none. With
@@ -32,14 +33,17 @@ from typing import Any
 
 
 from wanekupo.common.process import end_tool
-from wanekupo.plant.site.apply import Stopped, apply, say
+from wanekupo.plant.site.apply import Stopped, apply, is_up, say
 from wanekupo.plant.site.growth import with_customer, with_items
 from wanekupo.plant.site.place import Place, text_in
 from wanekupo.plant.site.plan import PREPARED, GrowthPlan, SeatWish, drop_plan, keep_plan, read_plan
 from wanekupo.plant.site.trials import checked, is_map, tested_growth, tested_others, tried_over_copy
 from wanekupo.common.rooms import ROOMS
 from wanekupo.common.store_user import STOPS
-from wanekupo.common.token_file import HEALTH, NAME, TokenError, Tokens, alone, check_folder, put, read, tokens_of
+from wanekupo.common.files import sync
+from wanekupo.common.token_file import (
+    HEALTH, NAME, TokenError, Tokens, alone, check_folder, put, read, tokens_of, tokens_text,
+)  # fmt: skip
 from wanekupo.common.site_file import SiteCustomer, digest_of, read_site
 
 NAMED = "station-site"
@@ -85,6 +89,7 @@ def seat_of(place: Place, customer: str, name: str, is_trial: bool) -> dict[str,
 def add_wishes(args: argparse.Namespace, place: Place, plan: GrowthPlan) -> None:
     """Which of the new seats get an outer token, and where: in a file that isn't there yet."""
     there = read_site(text_in(place.site), str(place.site)).seats()
+    known, made = known_seats(place).seats, {it.seat for it in plan.wishes if it.is_made}
     for seat in (it for it in args.seats if it not in there):
         file = Path(args.to).absolute() / f"{seat}.token"
         is_without = args.no_token or seat == HEALTH
@@ -94,7 +99,8 @@ def add_wishes(args: argparse.Namespace, place: Place, plan: GrowthPlan) -> None
             check_folder(file.parent)
         if not is_without and os.path.lexists(file):
             raise TokenError(1, f"{file} is there already, and would be the file of a new token: --to FOLDER")
-        plan.add(SeatWish(seat, args.customer, "" if is_without else str(file), args.holder))
+        is_made = seat in made or seat not in known
+        plan.add(SeatWish(seat, args.customer, "" if is_without else str(file), args.holder, is_made))
 
 
 def new_ones(there: SiteCustomer, kind: str, items: list[Any]) -> list[Any]:
@@ -209,6 +215,34 @@ def apply_command(args: argparse.Namespace, place: Place) -> None:
         apply(place, plan)
 
 
+def drop(args: argparse.Namespace, place: Place) -> None:
+    """Gives up what is prepared. The new text goes first: no `apply` puts seats in place whose tokens are gone."""
+    with alone(place.plan, args.patience):
+        plan = read_plan(place.plan)
+        if plan.stage != PREPARED:
+            raise TokenError(1, f"a growth is under way, and nothing of it can be taken back: `{NAMED} apply` ends it")
+        if not is_up(place):  # as where another machine put the new text in front of the store
+            raise TokenError(1, "the server doesn't run, so nobody sees that its store holds the old text: start it")
+        there = read_site(text_in(place.site), str(place.site)).seats()
+        place.next.unlink(missing_ok=True)
+        sync(place.next.parent)
+        drop_seats(args, place, {it.seat for it in plan.wishes if it.is_made and it.seat not in there})
+        drop_plan(place.plan)
+        say("nothing is prepared any more")
+
+
+def drop_seats(args: argparse.Namespace, place: Place, made: set[str]) -> None:
+    """Takes seats of no site out of the tokens' file, but those of which somebody got a token."""
+    with alone(place.tokens, args.patience):
+        tokens = known_seats(place)
+        gone = [seat for seat in sorted(made) if seat in tokens.seats and not tokens.seats[seat].given]
+        for seat in gone:
+            del tokens.seats[seat]
+        if gone:
+            put(place.tokens, tokens_text(tokens))
+            say(f"out of {place.tokens}: {', '.join(gone)}")
+
+
 def check(args: argparse.Namespace, place: Place) -> None:
     """The faults of one file; what of a site is another store's too."""
     path = Path(args.file)
@@ -229,7 +263,7 @@ def diff(args: argparse.Namespace, place: Place) -> None:
 
 
 COMMANDS = {"add-customer": add, "add-seat": add, "add-pool": add, "add-issuer": add, "apply": apply_command,
-            "check": check, "diff": diff}  # fmt: skip
+            "drop": drop, "check": check, "diff": diff}  # fmt: skip
 
 
 # ---- words

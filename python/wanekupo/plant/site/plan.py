@@ -18,12 +18,14 @@ PREPARED, STOPPING, PLACED = "prepared", "stopping", "placed"
 
 @dataclass
 class SeatWish:
-    """A new seat; the file of its outer token, or nothing where it gets none; and who gets it."""
+    """A new seat; the file of its outer token, or nothing where it gets none; who gets it; and whether this growth made
+    its inner token."""
 
     seat: str
     customer: str
     to: str = ""
     holder: str = ""
+    is_made: bool = False
 
 
 @dataclass
