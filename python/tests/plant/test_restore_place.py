@@ -369,7 +369,7 @@ def test_what_is_no_backup(backup, name, change):
         path.write_text("") if change == "empty" else path.unlink()
         if change == "folder":
             path.mkdir()
-    with pytest.raises(RestoreError, match="take another backup|it is no backup"):
+    with pytest.raises(RestoreError, match="take another (backup|one)|it is no backup"):
         check_backup(backup)
 
 
