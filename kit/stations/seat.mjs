@@ -5,8 +5,11 @@
  * Its state file has the number of the next request, the request under way, the last one that was accepted, and why it
  * stopped. It is synced before a request is sent, so that a start behind a kill sends the same bytes again, before
  * anything else. A refusal as 11 or 12 ends it and each later start, until a person looked why and took the state file
- * away. It shows the protocol, and has neither the lock nor the look for foreign files that a station of a plant has.
- * Node 18 or later, no package.
+ * away. Node 18 or later, no package.
+ *
+ * It shows the protocol alone. Before it gets a real chip it needs what the page for stations asks for besides: the MAC's
+ * CRC, the MAC compared before each step, the order's reply compared with what was asked, the form of each member of a
+ * reply, a look at the report before a registration, a lock, and a look for files of others.
  */
 
 import { spawnSync } from "node:child_process";

@@ -5,8 +5,9 @@
     station-restore .. --tokens FOLDER                               a folder with SEAT.token for one seat a customer
     station-restore .. --without a7,b3                               seats that asked for nothing that isn't known
 
-BACKUP is a folder that station-backup made, SITE the newest site file, JOURNAL a journal, or a folder of journals;
-acme=PATH where neither its lines nor its name have a seat of the site. Name those of all stations of all customers.
+BACKUP is a folder that station-backup made, SITE the newest site file. JOURNAL is a file or a folder of one customer's
+journals, always as CUSTOMER=PATH, or alone the folder of all stations' folders, whose seats --folders has. Name those
+of all stations of all customers.
 
 It refuses while a server has the store, has its lock, and looks at all of these before it moves anything. Then it puts
 the backup's files into STORE's folder under other names, and what was there aside; it brings back what the journals
