@@ -7,6 +7,7 @@ are more of them in seal_clocks.py.
 
 import contextlib
 import functools
+import hashlib
 import json
 import shutil
 import sqlite3
@@ -14,7 +15,7 @@ from dataclasses import dataclass
 from pathlib import Path
 from typing import Callable
 
-from books.seal_plant import END, START, chip_of
+from books.seal_plant import END, MAP, START, chip_of
 from wanekupo.seat.journal import request_digest
 
 ONE, TWO, WAITING = chip_of(1), chip_of(2), chip_of(8)
@@ -22,6 +23,7 @@ OF_ONE = f"customer = 'acme' AND chip = '{ONE}'"
 OF_TWO = f"customer = 'acme' AND chip = '{TWO}'"
 OF_WAITING = f"customer = 'acme' AND chip = '{WAITING}'"
 OTHER_KEY = "X'01" + 64 * "0" + "'"
+OLD_MAP = hashlib.sha256(MAP.encode()).hexdigest()[:8]
 
 
 @dataclass(frozen=True)
@@ -227,8 +229,8 @@ FORGED = [
     Forged(
         "a map's text",
         ("UPDATE map SET body = replace(body, 'name = \"esp32\"', 'name = \"esp33\"')",),
-        seal=("The map 6096097c", "text_sha256 was 6096097c"),
-        audit=("map", "the map 6096097c", "isn't in the store as it was asked for"),
+        seal=(f"The map {OLD_MAP}", f"text_sha256 was {OLD_MAP}"),
+        audit=("map", f"the map {OLD_MAP}", "isn't in the store as it was asked for"),
     ),
     Forged(
         "a seat's number",
