@@ -7,8 +7,8 @@
 The command brings the chip on the bench from registered to shipped, and ends with status 0; README.md has its contract.
 The kit starts it, lets faults befall its requests, kills it and the server, cuts the power of the chip, and looks at
 each request and each line of the log as it comes. At the end it compares the server's books, the station's files and
-its log. It prints a table and a line for each fault. The status is 1 where it found a fault, or where something of the
-table wasn't reached, 2 for a wrong word, else 0.
+its log. It prints a table and a line for each fault. The status is 1 where it found a fault, where something of the
+table wasn't reached, or where --minutes cut the run, 2 for a wrong word, else 0.
 
 What befalls which request is the seed's; the moments of kills are the machine's too. Python 3.9 or later, standard
 library alone, on Linux; strace, which each distribution has, for the row `synced`.
@@ -42,10 +42,10 @@ def parser_of() -> argparse.ArgumentParser:
     parser = argparse.ArgumentParser(prog="kit", description="Tests a station, which may be written in any language.")
     parser.add_argument("--program", help="the server's program; else the repository's, or /usr/bin/station")
     parser.add_argument("--seed", type=int, default=1, help="what befalls which request (1)")
-    parser.add_argument("--chips", type=int, default=8, help="how many lives have faults (8)")
+    parser.add_argument("--chips", type=int, default=8, help="how many chips are disturbed (8)")
     parser.add_argument("--minutes", type=float, default=10, help="behind these nothing is begun (10)")
     parser.add_argument(
-        "--late-copies", choices=("claimed", "yes", "no"), default="claimed", help="the life with a late copy"
+        "--late-copies", choices=("claimed", "yes", "no"), default="claimed", help="the chip with a late copy"
     )
     parser.add_argument("--first", action="store_true", help="end at the first fault")
     parser.add_argument("--folder", type=Path, help="a folder to make, in which all files stay; else they are removed")
@@ -65,15 +65,18 @@ def ran(options: Options, folder: Path) -> int:
     print(findings.table())
     befell = sum(course.schedule.befell.values())
     print(
-        f"{len(course.jobs)} chips, {course.watch.requests} requests, {befell} faults; {station.starts} starts of the "
-        f"station, {station.kills} kills of it and {course.server.kills} of the server; seed {options.seed}"
+        f"{len(course.jobs)} chips, {course.watch.requests} requests, {befell} disturbances; {station.starts} starts "
+        f"of the station, {station.kills} kills of it and {course.server.kills} of the server; seed {options.seed}"
     )
     if others:
         print(f"{others} lines of the log are JSON in other bytes than the clients write, which is taken too")
     missed = findings.unlooked()
     if missed:
         print(f"not reached: {', '.join(missed)}")
-    return 1 if findings.count() or missed else 0
+    left = options.chips - course.whole
+    if left and not findings.count():
+        print(f"cut by --minutes: {left} of {options.chips} disturbed chips weren't begun, or not to their end")
+    return 1 if findings.count() or missed or left else 0
 
 
 def stop(*_: object) -> None:

@@ -1,6 +1,7 @@
 #!/usr/bin/env python3
 """A simulated ESP32 behind the words of espefuse.py 4.7.0 that a station uses, in a file.
 
+    chip.py FILE make 240ac4000001
     chip.py FILE dump
     chip.py FILE burn_bit BLOCK0 198 7
     chip.py FILE burn_key --no-protect-key flash_encryption flash.key
@@ -175,6 +176,13 @@ class Chip:
         return "\n".join([*lines, "", '=== Run "dump" command ===', ""])
 
 
+def mac_of(text: str) -> str:
+    """A factory MAC without colons, in lower case."""
+    if not re.fullmatch("[0-9a-f]{12}", text):
+        raise argparse.ArgumentTypeError("a MAC is 12 lowercase hexadecimal digits")
+    return text
+
+
 def parser_of() -> argparse.ArgumentParser:
     parser = argparse.ArgumentParser(description="A simulated ESP32 behind espefuse's words.")
     parser.add_argument("file", type=Path, help="the chip")
@@ -183,6 +191,7 @@ def parser_of() -> argparse.ArgumentParser:
     for passed_over in ("--virt", "--do-not-confirm"):
         parser.add_argument(passed_over, action="store_true", help=argparse.SUPPRESS)
     commands = parser.add_subparsers(dest="command", required=True)
+    commands.add_parser("make").add_argument("mac", type=mac_of)
     commands.add_parser("dump")
     commands.add_parser("execute_scripts").add_argument("script", type=Path)
     burn_bit, burn_key = commands.add_parser("burn_bit"), commands.add_parser("burn_key")
@@ -198,13 +207,13 @@ def parser_of() -> argparse.ArgumentParser:
 
 def main() -> int:
     args = parser_of().parse_args()
-    chip = Chip(args.file)
+    chip = Chip.make(args.file, args.mac) if args.command == "make" else Chip(args.file)
     try:
         if args.command == "dump":
             print(chip.dump(), end="")
         elif args.command == "execute_scripts":
             chip.run_script(args.script.read_text("utf-8"))
-        else:
+        elif args.command != "make":
             chip.burn(chip.wanted(args))
     except Fatal as fatal:
         print(f"\nA fatal error occurred: {fatal}")

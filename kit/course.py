@@ -63,7 +63,7 @@ class Course:
         self.others = checks.Others(Caller(self.server, OTHER))
         self.jobs: list[Job] = []
         self.scrapped: dict[str, int] = {}
-        self.is_cut = False
+        self.is_cut, self.was_late, self.whole = False, False, 0  # `whole` chips had all of their disturbances
         self.end = time.monotonic() + 60 * options.minutes
 
     def close(self) -> None:
@@ -105,7 +105,8 @@ class Course:
         self.jobs.append(job)
         ends = 0
         for start in range(STARTS):
-            if start == STARTS // 2 or self.is_late():
+            self.was_late = self.is_late()
+            if start == STARTS // 2 or self.was_late:
                 self.schedule.calm()
             is_killed = not is_calm and not self.is_late() and start < STARTS // 2 and self.chance.random() < KILLED
             status = self.run_once(job, is_killed)
@@ -163,6 +164,7 @@ class Course:
                 break
             self.schedule.begin(number)
             goes_on = self.bring(chip_job(kit / f"chip-{number}", self.maps, self.options.seed, number))
+            self.whole += goes_on and not self.was_late
         self.schedule.calm()
         self.proxy.wait_for_copies()
         self.findings.looked("repeated", sum(self.schedule.befell.values()))
@@ -186,8 +188,9 @@ class Course:
         return self.bring(job, is_calm=True) and not self.is_found()
 
     def run_late_copy(self) -> bool:
-        """Another seat has the order's one place. A registration is held, its repeat is refused as 18, the other seat
-        gives the place back, and the held copy is done. The station's next request is refused as 12."""
+        """A registration is held, and another seat gets the order's one place meanwhile, so that its repeat is refused
+        as 18: a look at the report before it saw a free number. Then the other seat gives the place back, and the held
+        copy is done. The station's next request is refused as 12."""
         claims = self.own / CLAIMS
         claimed = claims.exists() and LATE_COPIES in claims.read_text("utf-8", "replace").split()
         wanted = self.options.late_copies
@@ -199,13 +202,18 @@ class Course:
         self.rival.post("/v1/order", order)
         digest = self.rival.post("/v1/map", {"text": self.maps[1].read_bytes().decode()})["map"]
         blank = [["00000000"] * words for words in (7, 8, 8, 8)]
-        self.rival.post("/v1/device", {"chip": other, "order": "one", "map": digest, "blocks": blank})
+        members = {"chip": other, "order": "one", "map": digest, "blocks": blank}
         number = self.options.chips + 1
         job = chip_job(self.folder / "kit" / f"chip-{number}", self.maps, self.options.seed, number, order)
         self.watch.is_late_phase, self.proxy.hold = True, "/v1/device"
+        self.proxy.meanwhile = lambda: self.rival.post("/v1/device", members)
         status = self.run_once(job, False)
+        if not self.proxy.held:
+            self.jobs.append(job)
+            self.findings.fault("late", f"it sent no registration, and ended with status {status}")
+            return False
         told = f"a registration was refused as 18, and it ended with status {status}"
-        self.findings.held("late", status not in (0, None) and self.proxy.held, told)
+        self.findings.held("late", status not in (0, None), told)
         self.rival.post("/v1/scrap", {"chip": other})
         self.scrapped["one"] = 1
         self.findings.held("late", self.proxy.deliver_held() == [200], "the held copy isn't accepted")

@@ -9,6 +9,10 @@ from typing import Any, Mapping, Optional
 from kit.protocol import AT, NAMED, digest, known
 
 
+# The members of a reply's line beside `at`.
+REPLY = (("nr", int, "whole number"), ("status", int, "whole number"), ("reply", dict, "object of JSON"))
+
+
 def is_asked(line: Mapping[str, Any]) -> bool:
     return "asked" in line
 
@@ -102,5 +106,9 @@ def _wrong(line: Any) -> Optional[str]:
         return None if line.get("digest") == digest(path, asked) else "has another digest than its members"
     if "resynchronized" in line:
         return None
-    is_reply = isinstance(line.get("nr"), int) and isinstance(line.get("reply"), dict)
-    return None if is_reply and isinstance(line.get("status"), int) else "is neither a request nor a reply"
+    for name, form, told in REPLY:
+        if not isinstance(line.get(name), form):
+            if name not in line:
+                return f"is no request, and has no {name}"
+            return f"is neither a request nor a reply: its {name} is no {told}"
+    return None

@@ -60,6 +60,7 @@ class Proxy:
         self.begun: Callable[[], None] = lambda: None
         self.hold: Optional[str] = None  # the path of which the next request is held, and its repeats go on
         self.held: list[bytes] = []
+        self.meanwhile: Callable[[], object] = lambda: None  # what is done while it is held, before its repeat
         self.away = 0.0  # until then nothing is passed on
         self.copies: list[threading.Thread] = []
         self.listener = socket.create_server((HOST, 0))
@@ -96,6 +97,7 @@ class Proxy:
         if asked and self.hold == path:
             self.hold = None
             self.held.append(data)
+            self.meanwhile()
             self.watch.ends(asked, Fault("held", "had no reply", "nothing"), 0, None)
             return False
         fault = None if is_free else self._next_fault(method, path)

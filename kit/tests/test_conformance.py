@@ -2,8 +2,10 @@
 
 from __future__ import annotations
 
+import contextlib
 import hashlib
 import http.server
+import io
 import json
 import os
 import re
@@ -16,8 +18,11 @@ import unittest
 from concurrent.futures import ThreadPoolExecutor
 from pathlib import Path
 from types import SimpleNamespace
+from unittest import mock
 
-from kit import checks, job, protocol
+import kit.__main__ as command
+from kit import checks, job, journal, protocol
+from kit.course import Course, Options
 from kit.findings import Findings
 from kit.syncs import can_trace
 
@@ -48,6 +53,7 @@ FOUND = {
     "other-record": ("record", r"240ac4000001: record.json isn't the server's record"),
     "ends-early": ("ended", r"it ended with status 0, and 240ac4000001 isn't shipped"),
     "claims-late": ("late", r"it doesn't go on behind a late copy"),
+    "own-orders": ("late", r"it sent no registration, and ended with status 1"),
 }
 # Where the station over the client in Python finds it, on a machine without its package.
 PLACES = {**os.environ, "PYTHONPATH": str(ROOT / "python")}
@@ -95,6 +101,27 @@ class Stations(unittest.TestCase):
                 status, told = done.result()
                 self.assertEqual(status, 1, told)
                 self.assertRegex(told, rf"\nFAULT {row}: .*{words}")
+
+
+class Brief(Course):
+    """A run whose minutes end with its first disturbed chip."""
+
+    def is_late(self):
+        return len(self.jobs) > 2 and checks.is_shipped(self.books, self.jobs[2])
+
+
+class Cut(unittest.TestCase):
+    """A run that --minutes cut isn't status 0, also where each row was reached and nothing was found."""
+
+    def test_a_chip_that_was_not_begun(self):
+        printed, words = io.StringIO(), [*map(str, RIGHT["own"])]
+        options = Options(words, PROGRAM, seed=1, chips=2, minutes=10, late_copies="no", is_first=False)
+        with tempfile.TemporaryDirectory() as folder, contextlib.redirect_stdout(printed):
+            with mock.patch.object(command, "Course", Brief):
+                status = command.ran(options, Path(folder).resolve())
+        told = printed.getvalue()
+        self.assertEqual((status, "FAULT" in told, "not reached" in told), (1, False, False), told)
+        self.assertIn("cut by --minutes: 1 of 2 disturbed chips", told)
 
 
 class Few(unittest.TestCase):
@@ -204,6 +231,19 @@ class Checks(unittest.TestCase):
         for row, faults in (("o,2,0,0,0,0,2,0,0,0", 0), ("o,2,0,0,0,0,1,0,0,1", 1), ("p,2,0,0,0,0,2,0,0,0", 2)):
             found = self.found(checks.look_at_report, Books(report=head + row), self.jobs(), {})
             self.assertEqual(len(found), faults, found)
+
+    def test_lines(self):
+        at = {"at": "2026-11-27T06:00:00Z"}
+        for line, wanted in (
+            ({"nr": 1, "status": 200, "reply": {}}, []),
+            ({"nr": 1, "status": "200", "reply": {}}, ["line 1 is neither a request nor a reply: its status is"]),
+            ({"nr": 1, "status": 200}, ["line 1 is no request, and has no reply"]),
+        ):
+            with tempfile.TemporaryDirectory() as folder:
+                (Path(folder) / "log").write_text(json.dumps({**at, **line}) + "\n")
+                found = journal.Journal(Path(folder) / "log").faults()
+            self.assertEqual([it[: len(words)] for it, words in zip(found, wanted)], wanted)
+            self.assertEqual(len(found), len(wanted))
 
     def test_others(self):
         targets = ("report", "devices", "order", "device", "ledger", "identity")

@@ -145,13 +145,15 @@ def change_reply(name, path, **members):
     return change
 
 
-def change_line(name, path, is_lost=False, **asked):
-    """Has the first request to a path of a journal ask for something else. Its reply may be lost, too."""
+def change_line(name, path, /, is_lost=False, **asked):
+    """Has the first request to a path of a journal ask for something else; a member of None goes. Its reply may be
+    lost, too."""
 
     def change(folder):
         lines = [json.loads(it) for it in (folder / name).read_text().splitlines()]
         place = next(place for place, it in enumerate(lines) if it.get("path") == f"/v1/{path}")
-        lines[place]["asked"].update(asked)
+        asks = {**lines[place]["asked"], **asked}
+        lines[place]["asked"] = {name: it for name, it in asks.items() if it is not None}
         lines[place]["digest"] = request_digest(f"/v1/{path}", lines[place]["asked"])
         if is_lost:
             own = {it: lines[place][it] for it in ("at", "seat")}

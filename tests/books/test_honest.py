@@ -61,3 +61,32 @@ def test_an_honest_plant(program, tmp_path, work):
     status, text = run("audit", tmp_path / "books.db", tmp_path / "acme", *period, "--program", program)
     count = sum("asked" in line for lines in it.lines.values() for line in lines)
     assert (status, f"The program answered {count} lines of acme once more." in text) == (0, True), text
+
+
+def refused(it, seat, path, **members):
+    """A request that is refused as 18, and of which a late copy is accepted; its station hears of the refusal alone. A
+    person has it go on."""
+    it.ask(seat, path, **members)
+    number = it.lines[seat][-1]["nr"]
+    it.lines[seat][-1] |= {"status": 409, "reply": {"error": "quantity_reached", "no": 18}}
+    it.lines[seat].append({"seat": seat, "at": it.lines[seat][-1]["at"], "resynchronized": number + 1})
+
+
+@pytest.mark.parametrize("is_last", [False, True])
+def test_a_late_copy(program, tmp_path, is_last):
+    """It is told as one, and its number isn't said to have no line."""
+    (tmp_path / "site.toml").write_text(site_text(), encoding="ascii")
+    words = [program, "replay", "--site", tmp_path / "site.toml", "--db", tmp_path / "books.db"]
+    with Program(list(map(str, words)), 600) as running:
+        it = Line(tmp_path, running)
+        digest = it.ask("a1", "map", text=MAP)["map"]
+        it.order("a1", "one", "G", 5)
+        refused(it, "a1", "device", chip=chip_of(1), order="one", map=digest, blocks=shown(chip_of(1)))
+        if not is_last:
+            it.ship("a1", chip_of(2), "one")
+        it.write()
+        running.end()
+    period = ["--from", "2000-01-01", "--to", "2099-01-01", "--csv", tmp_path / "found.csv"]
+    status, text = run("audit", tmp_path / "books.db", tmp_path / "acme", *period, "--program", program)
+    kinds = [row.partition(",")[0] for row in (tmp_path / "found.csv").read_text().splitlines()[1:]]
+    assert (status, kinds) == (1, ["late_copy"]), text

@@ -75,6 +75,10 @@ FORGED = {
         change_line("acme/a1.journal", "plan", wishes=[{**WISHES[0], "field": "NONE"}]),
         "the program refuses it as 19 unknown_field",
     ),
+    "an order without a name": (
+        change_line("acme/a1.journal", "order", name=None),
+        "the program refuses it as 10 bad_member",
+    ),
     "a prefix that none has": (change_order(prefix="g"), "the program refuses it as 30 bad_serial"),
     "a number with more digits": (change_order(first=99_999), "the program refuses it as 31 number_too_wide"),
     "a quantity that none has": (change_order(quantity=10_001), "the program refuses it as 40 limit"),

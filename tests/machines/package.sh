@@ -189,15 +189,20 @@ record='"issuer":"acme-ca","key_sha256":"'$key'","mac":null,"not_after":"9999123
 same 'a record' "$(client identity $part --csr /root/part.csr)" "{\"chip\":\"$part\",$record}"
 same 'its request' "$(sha256sum < "$root/root/spool/A999.csr")" "$(sha256sum < "$root/root/part.csr")"
 
-step 'the pages: each link of theirs leads to a file, and the tutorial has its two'
+step 'the pages: each link of theirs leads to a file, they have no script, and the tutorial has its two'
 cat > "$root/tmp/links.py" <<'EOF'
 import pathlib, re
-docs = pathlib.Path("/usr/share/doc/wanekupo/docs")
-pages = [*docs.resolve().rglob("*.md")]
-links = [(page, it) for page in pages for it in re.findall(r"\]\(([^)#\s]+)", page.read_text("utf-8")) if ":" not in it]
-print([f"{page}: {it}" for page, it in links if not (page.parent / it).exists()], len(pages) > 25 and len(links) > 200)
+links, scripts = [], []
+for folder in map(pathlib.Path, ("/usr/share/doc/wanekupo", "/usr/share/doc/wanekupo-client")):
+    for page in [*folder.glob("*.md"), *folder.glob("*.html"), *(folder / "docs").resolve().rglob("*.*")]:
+        form = {".md": r"\]\(([^)#\s]+)", ".html": r'(?:href|src)="([^"#]+)'}.get(page.suffix)
+        text = page.read_text("utf-8") if form else ""
+        links += [(page, it) for it in re.findall(form, text) if ":" not in it] if form else []
+        scripts += [page] * text.count("<script")
+pages = {page for page, _ in links}
+print([f"{page}: {it}" for page, it in links if not (page.parent / it).exists()], scripts, len(pages) > 40, len(links) > 900)
 EOF
-same 'links that lead nowhere' "$(in_root python3 /tmp/links.py)" '[] True'
+same 'links that lead nowhere' "$(in_root python3 /tmp/links.py)" '[] [] True True'
 same 'the map of the tutorial' "$(in_root station check-map /usr/share/doc/wanekupo/examples/map.toml)" 'ok esp32-sample 4 7'
 grep -q 'serve --site /usr/share/doc/wanekupo/examples/site.toml ' "$root/usr/share/doc/wanekupo-client/docs/first-chip.md"
 

@@ -5,6 +5,7 @@ builds there for that kernel. Nothing is installed on this machine. `booted` boo
 repository, both read-only, and a disk, and runs a script in it.
 """
 
+import fcntl
 import os
 import shlex
 import shutil
@@ -70,16 +71,17 @@ LVM = "activation {\n udev_sync = 0\n udev_rules = 0\n}\ndevices {\n obtain_devi
 
 
 def made(cache: Path) -> Path:
-    """The guest's root folder in a cache, which is made where there is none."""
+    """The guest's root folder in a cache, which is made where there is none. A run beside this one waits for it."""
     root, begun = cache / "root", cache / "root.new"
-    if root.is_dir():
-        return root
     cache.mkdir(exist_ok=True)
-    print(f"guest: makes {root}, with a module for ZFS: some 10 to 25 minutes, by {cache}/log", flush=True)
-    with open(cache / "log", "wb") as log:
+    with open(cache / "log", "ab") as log:
+        fcntl.flock(log, fcntl.LOCK_EX)
+        if root.is_dir():
+            return root
+        print(f"guest: makes {root}, with a module for ZFS: some 10 to 25 minutes, by {cache}/log", flush=True)
         shutil.rmtree(begun, ignore_errors=True)
-        some = os.cpu_count() or 1
-        gently = ["nice", "-n", "5", "taskset", "-c", f"0-{max(some - 2, 0)}"]
+        given = sorted(map(str, os.sched_getaffinity(0)))
+        gently = ["nice", "-n", "5", "taskset", "-c", ",".join(given[1:] or given)]
         first = ["debootstrap", "--variant=minbase", "--components=main,contrib", "bookworm", str(begun), MIRROR]
         then = ["unshare", "--mount", "chroot", str(begun), "sh", "-c", INSTALL]
         for words in (first, then):
@@ -87,7 +89,7 @@ def made(cache: Path) -> Path:
                 raise Failed(f"{words[0]} failed: the end of {cache}/log says why")
             begun.joinpath("usr/sbin/policy-rc.d").write_text("#!/bin/sh\nexit 101\n", encoding="utf-8")
             begun.joinpath("usr/sbin/policy-rc.d").chmod(0o755)
-    begun.rename(root)
+        begun.rename(root)
     return root
 
 
@@ -138,7 +140,8 @@ def booted(cache, words, program, disk, is_reset=False):
         shown = sorted({str(ROOT), str(program.parent)})
         initramfs = _initramfs(root, image.name.partition("-")[2], command, shown, Path(folder).resolve())
         # Without KVM, which a machine that is a guest itself may have and not serve.
-        qemu = ["qemu-system-x86_64", "-accel", "tcg,thread=multi", "-smp", "2", "-m", MEMORY]
+        # The program takes a processor of x86-64-v2, as qemu's own default is none.
+        qemu = ["qemu-system-x86_64", "-accel", "tcg,thread=multi", "-cpu", "max", "-smp", "2", "-m", MEMORY]
         qemu += ["-nographic", "-no-reboot", "-nodefaults", "-serial", "stdio"]
         qemu += ["-kernel", str(image), "-initrd", str(initramfs)]
         qemu += ["-append", "console=ttyS0 panic=-1 no_timer_check loglevel=4"]

@@ -323,6 +323,10 @@ def test_health_seat(place):
     place.nginx()
     expect("up", (status, told(place.ask(None, "/health"))), (0, (200, "up\n")))
     expect("it asks with its own token", b"Bearer hello" in place.recorder.heads[-1], True)
+    time.sleep(3.1)  # nginx's clock has whole seconds
+    expect("a query", told(place.ask(None, "/health?x&name=y")), (200, "up\n"))
+    expect("none is passed on", place.recorder.heads[-1].split(b" ")[1], b"/v1/order?name=health")
+    expect("what is kept for two seconds", told(place.ask(None, "/health")), (200, "up\n"))
 
 
 def test_encryption(place):

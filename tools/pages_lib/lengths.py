@@ -9,8 +9,7 @@ from pages_lib.markdown import page_text, pages
 from pages_lib.promises_page import PROMISES_PAGE
 
 PRINTED = ("bench/RESULTS.md", PROMISES_PAGE)
-# The second is what was reached: it only goes down, and not below 4,400.
-README_LINES, ALL_LINES = 75, 4430
+README_LINES, ALL_LINES = 75, 4400
 
 
 def lines_of_pages() -> dict[str, int]:

@@ -41,19 +41,29 @@ def fences_of(page: str) -> Iterator[tuple[str, str]]:
     yield from re.findall(r"(?ms)^```(\w*)\n(.*?)^```$", page_text(page))
 
 
+def headings_in(text: str) -> list[str]:
+    """The headings of a page's text."""
+    return re.findall(r"(?m)^#+ (.*)$", FENCE.sub("", text))
+
+
+def anchors_in(text: str) -> list[str]:
+    """The anchors of a page's text: those of its headings, and its own."""
+    found = list[str]()
+    for heading in headings_in(text):
+        anchor = re.sub(r"[^\w\- ]", "", heading.lower()).strip().replace(" ", "-")
+        found.append(f"{anchor}-{found.count(anchor)}" if anchor in found else anchor)
+    return found + re.findall(r'<a id="([^"]+)">', FENCE.sub("", text))
+
+
 def headings_of(page: str) -> list[str]:
     """The headings of a page."""
-    return re.findall(r"(?m)^#+ (.*)$", prose_of(page))
+    return headings_in(page_text(page))
 
 
 @functools.cache
 def anchors_of(page: str) -> list[str]:
     """The anchors of a page: those of its headings, and its own."""
-    found = list[str]()
-    for heading in headings_of(page):
-        anchor = re.sub(r"[^\w\- ]", "", heading.lower()).strip().replace(" ", "-")
-        found.append(f"{anchor}-{found.count(anchor)}" if anchor in found else anchor)
-    return found + re.findall(r'<a id="([^"]+)">', prose_of(page))
+    return anchors_in(page_text(page))
 
 
 def links_of(page: str) -> list[str]:

@@ -4,17 +4,18 @@
   or to a list of its files; one to docs/promises.toml leads to the list that is made of it.
 - A heading gets the anchor that the pages link to, since mkdocs makes others where a heading has marks in it.
 - What belongs to an item of a list stands four columns in.
+- One page more has all headings.
 """
 
 import json
 import os
 import re
 import shutil
-from collections.abc import Iterator
+from collections.abc import Callable, Iterable, Iterator, Mapping
 from pathlib import Path
 
 from pages_lib import commands
-from pages_lib.markdown import anchors_of, headings_of, page_text, pages
+from pages_lib.markdown import anchors_in, anchors_of, headings_in, page_text, pages
 from pages_lib.promises_page import PROMISES, PROMISES_PAGE
 from pages_lib.rattle import TOP, tracked
 from pages_lib.sentences import ITEM, Reader
@@ -22,6 +23,7 @@ from pages_lib.sentences import ITEM, Reader
 LINK = re.compile(r"\]\(([^)\s]+)\)")
 HEADING = re.compile(r"(#+) (.*)")
 PICTURES = (".svg", ".png")
+CONTENTS, CONTENTS_HEAD = "headings.md", "# All headings\n\nWhat each page tells: look for a word with your browser."
 
 # The parts of the site in their order: a title, and what the paths of its pages begin with.
 PARTS = [
@@ -39,29 +41,22 @@ class Site:
     """The folder that mkdocs reads."""
 
     def __init__(self, folder: Path) -> None:
-        self.folder = folder
+        self.folder, self.order = folder, list[object]()
 
     def make(self) -> None:
         """Copies the pages, with what they link to, and adds that of the commands."""
-        for page in pages():
+        texts = {page: page_text(page) for page in pages()} | {commands.PAGE: commands.commands_page()}
+        for page in texts:
             path = self.folder / page
             path.parent.mkdir(parents=True, exist_ok=True)
-            path.write_text("\n".join(self.lines(page)) + "\n", encoding="utf-8")
-        (self.folder / commands.PAGE).write_text(commands.commands_page(), encoding="utf-8")
+            lines = self.lines(page) if page in pages() else texts[page].rstrip("\n").split("\n")
+            path.write_text("\n".join(lines) + "\n", encoding="utf-8")
+        (self.folder / CONTENTS).write_text(contents(texts), encoding="utf-8")
+        self.order = order(texts)
 
     def lines(self, page: str) -> Iterator[str]:
         """The lines of a page in mkdocs' form."""
-        reader, anchors = Reader(), iter(anchors_of(page)[: len(headings_of(page))])
-        for line in page_text(page).rstrip("\n").split("\n"):
-            is_code = reader.is_code(line)
-            heading = None if is_code else HEADING.fullmatch(line)
-            if heading:
-                reader.margins = [0]
-                yield f"{heading[1]} {self.linked(page, heading[2])} {{#{next(anchors)}}}"
-            elif not line.strip() or reader.fence or line.lstrip().startswith("```"):
-                yield line
-            else:
-                yield moved(line if is_code else self.linked(page, line), reader, is_code)
+        return in_form(page_text(page), anchors_of(page), lambda text: self.linked(page, text))
 
     def linked(self, page: str, text: str) -> str:
         """A text with its links as they have to be on the site."""
@@ -93,10 +88,44 @@ class Site:
         return copy
 
     def configuration(self, out: Path) -> str:
-        """What mkdocs is told: mkdocs.yml, where the pages are and where the site is written, and their order."""
-        parts = {"docs_dir": str(self.folder), "site_dir": str(out), "nav": order()}
-        added = "\n".join(f"{key}: {json.dumps(value, ensure_ascii=False)}" for key, value in parts.items())
-        return (TOP / "mkdocs.yml").read_text("utf-8") + added + "\n"
+        """What mkdocs is told of the pages that were made: mkdocs.yml, and what `told` adds."""
+        return (TOP / "mkdocs.yml").read_text("utf-8") + told(self.folder, out, self.order)
+
+
+def told(folder: Path, out: Path, rows: list[object]) -> str:
+    """For mkdocs: where the pages are and where the site is written, and their order."""
+    parts = {"docs_dir": str(folder), "site_dir": str(out), "nav": rows}
+    return "".join(f"{key}: {json.dumps(value, ensure_ascii=False)}\n" for key, value in parts.items())
+
+
+def in_form(text: str, anchors: Iterable[str], linked: Callable[[str], str]) -> Iterator[str]:
+    """The lines of a page's text in mkdocs' form: its headings by their anchors, its links as `linked` makes them."""
+    reader, left = Reader(), iter(anchors)
+    for line in text.rstrip("\n").split("\n"):
+        is_code = reader.is_code(line)
+        heading = None if is_code else HEADING.fullmatch(line)
+        if heading:
+            reader.margins = [0]
+            yield f"{heading[1]} {linked(heading[2])} {{#{next(left)}}}"
+        elif not line.strip() or reader.fence or line.lstrip().startswith("```"):
+            yield line
+        else:
+            yield moved(line if is_code else linked(line), reader, is_code)
+
+
+def plain(heading: str) -> str:
+    """A heading's text without links."""
+    return re.sub(r"\[([^\]]*)\]\([^)]*\)", r"\1", heading)
+
+
+def contents(texts: Mapping[str, str]) -> str:
+    """The page of all headings of these pages, in their order."""
+    lines = [CONTENTS_HEAD]
+    for page in in_order(texts):
+        headings = [plain(it) for it in headings_in(texts[page])]
+        links = [f"- [{it}]({page}#{anchor})" for it, anchor in zip(headings, anchors_in(texts[page]))]
+        lines += [f"\n## {headings[0]}\n", *(links[1:] or links)]
+    return "\n".join(lines) + "\n"
 
 
 def moved(line: str, reader: Reader, is_code: bool) -> str:
@@ -110,23 +139,26 @@ def moved(line: str, reader: Reader, is_code: bool) -> str:
     return " " * (indent - reader.margins[-1] + 4 * depth) + line.lstrip()
 
 
-def title_of(page: str) -> str:
+def title_of(page: str, text: str) -> str:
     """A page's title."""
-    headings = headings_of(page)
+    headings = headings_in(text)
     return re.sub(r"[`*]", "", headings[0]) if headings else Path(page).stem
 
 
-def order() -> list[object]:
+def in_order(texts: Mapping[str, str]) -> list[str]:
     """The pages in their order: the README, then each part, in which a README is the first."""
-    left = [page for page in pages() if page != "README.md"]
-    found: list[object] = [{"Wanekupo": "README.md"}] if "README.md" in pages() else []
+    parts = {page: next(number for number, (_, start) in enumerate(PARTS) if page.startswith(start)) for page in texts}
+    return sorted(texts, key=lambda it: (it != "README.md", parts[it], not it.endswith("README.md"), it))
+
+
+def order(texts: Mapping[str, str]) -> list[object]:
+    """The pages as mkdocs shows them: the README, the page of all headings, then each part."""
+    left = [page for page in in_order(texts) if page != "README.md"]
+    found: list[object] = [{"Wanekupo": "README.md"}, {"All headings": CONTENTS}]
     for title, start in PARTS:
-        part = [page for page in left if page.startswith(start)]
-        left = [page for page in left if page not in part]
-        rows = [{title_of(page): page} for page in sorted(part, key=lambda it: (not it.endswith("README.md"), it))]
-        rows += [{"The commands": commands.PAGE}] if commands.PAGE.startswith(start or ".") else []
-        if rows:
-            found.append({title: rows})
+        rows = [{title_of(page, texts[page]): page} for page in left if page.startswith(start)]
+        left = [page for page in left if not page.startswith(start)]
+        found += [{title: rows}] if rows else []
     return found
 
 

@@ -55,7 +55,7 @@ later_last x s mid seat a =
     by (inr next) = let now : last_at x.0.seat mid ≡ number_of_wanted x.0.wanted = last_is x s mid a in
         inr (omega (arith, now, next))
 
-last_grows : (x : Exchange) (s mid : SoloState) (seat : List ℕ)
+pub last_grows : (x : Exchange) (s mid : SoloState) (seat : List ℕ)
     → Accepts x.0.seat (number_of_wanted x.0.wanted) x.1 s mid → last_at seat s ≤ last_at seat mid
 last_grows x s mid seat a = by (later_last x s mid seat a)
   where

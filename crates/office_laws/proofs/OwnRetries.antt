@@ -28,12 +28,12 @@ not_success (Unkept _) = refl
 not_success _ = refl
 
 -- a put of another row leaves the seats
-abbrev LeavesSeats : Put → Type 0
+abbrev pub LeavesSeats : Put → Type 0
 LeavesSeats p = (s : SoloState) → (with_put p s).seats ≡ s.seats
 
 -- the puts of a command leave the seats: the seat's own row is put after them
 module _ (c : Section) (seat : List ℕ) (v : Sight) where
-  abbrev LeaveSeats : Option Effect → Type 0
+  abbrev pub LeaveSeats : Option Effect → Type 0
   LeaveSeats None = Unit {0}
   LeaveSeats (Some made) = AllByRecursion LeavesSeats made.puts
 
@@ -56,7 +56,7 @@ module _ (c : Section) (seat : List ℕ) (v : Sight) where
   map_leaves text true = tt
   map_leaves text false = (λ _. refl, tt)
 
-  effect_leaves : (change : Changing) → LeaveSeats (effect c seat v change)
+  pub effect_leaves : (change : Changing) → LeaveSeats (effect c seat v change)
   effect_leaves (MakeOrder n) = after_some (v.issuer n.issuer) _ (λ given. (λ _. refl, tt))
   effect_leaves (ImportMap text) = map_leaves text (is_some (v.text (sha256 text)))
   effect_leaves (RegisterDevice n) =
@@ -70,7 +70,7 @@ module _ (c : Section) (seat : List ℕ) (v : Sight) where
       after_some (option_and_then result_ok (merged_rows v n)) _ (λ i. records_leave n.issuer i.added)
 
 -- after puts that leave the seats, and the seat's row, the seats are those of before with the row in its place
-seats_after : (ps : List Put) (row : SeatState) (s : SoloState) → AllByRecursion LeavesSeats ps
+pub seats_after : (ps : List Put) (row : SeatState) (s : SoloState) → AllByRecursion LeavesSeats ps
     → (with_puts (ps ++ seat_put row ∷ []) s).seats ≡ with_row solo_seat_cmp row s.seats
 seats_after [] row s leave = refl
 seats_after (p ∷ ps) row s leave =
@@ -99,7 +99,7 @@ retry_repeats (Some s) n digest body e =
     by false same false is e = cc
 
 -- what is next has the number after it
-retry_next : (found : Option SeatState) (n : ℕ) (digest : List ℕ) → retry_of found n digest ≡ Next
+pub retry_next : (found : Option SeatState) (n : ℕ) (digest : List ℕ) → retry_of found n digest ≡ Next
     → n ≡ last_number_of_seat found + 1
 retry_next None n digest e = by (n == 1) refl e
   where

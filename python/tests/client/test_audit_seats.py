@@ -83,7 +83,7 @@ class SeatCase(unittest.TestCase):
         """What is told of a seat, and the journals behind it."""
         journals = [seated(self.book(lines, f"j{place}"), store) for place, lines in enumerate(books)]
         (span,) = spans_of(journals, store, PERIOD)
-        return [*span.faults, *(told for _, told in span.lost)], journals
+        return [*span.told(()), *(told for _, told in span.lost)], journals
 
 
 class Turns(SeatCase):
@@ -241,6 +241,19 @@ class Turns(SeatCase):
                 self.assertEqual((fault.place(), fault.told[:22]), (str(self.folder / "pc7"), "isn't read to its end:"))
                 shutil.rmtree(self.folder / "pc7")
                 (self.folder / "pc7").mkdir()
+
+    def test_what_nests_deep(self):
+        """Nor does a member that nests deeper than Python goes, also of a path that is no request's."""
+        for name in ("pc7", "pc8"):
+            (self.folder / name).mkdir()
+        self.book(row(1, 2, "07"), "pc8/a")
+        nested = json.loads(600 * "[" + 600 * "]")
+        for path, member in (("/v1/ledger", "entries"), ("/v1/devices", "devices"), ("/v1/order", "x")):
+            with self.subTest(path):
+                first = asked("07:00:00", 1, "c", path), answered("07:00:00", 1, **{member: nested})
+                self.book([*first, *done("07:01:00", 2, "c")], "pc7/a")
+                books = steps.shipped_books(self.folder, {name: frozenset(["a1"]) for name in ("pc7", "pc8")})
+                self.assertEqual([len(it.steps) for it in books], [2, 2])
 
     def test_whose_a_folder_is(self):
         """A line counts in its seat's own folder alone; one without a name is the folder's only seat's."""

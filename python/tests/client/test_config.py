@@ -16,6 +16,7 @@ from pathlib import Path
 from support import MAC, ROOT
 
 from wanekupo.bench import recipe
+from wanekupo.seat.profiles import profile_of
 from wanekupo.seat.settings import Settings, settings_of, token_of
 from wanekupo.common.errors import BadSettings
 
@@ -51,7 +52,8 @@ class Config(unittest.TestCase):
             file = folder / "wanekupo.toml"
             file.write_text(
                 'url = "https://station.example"\ntoken = "a1.token"\nstate = "/var/a1.json"\njournal = "journals"\n'
-                'ca = "~/ca.pem"\ninsecure = true\npatience = 7\nseat = "a1"\noperator = "Zoë"\nspool = "spool"\n',
+                'ca = "~/ca.pem"\ninsecure = true\npatience = 7\nseat = "a1"\noperator = "Zoë"\nspool = "spool"\n'
+                'profile = "matter-dac:FFF1:8000"\n',
                 encoding="utf-8",
             )
             home = Path(os.path.expanduser("~"))
@@ -66,6 +68,7 @@ class Config(unittest.TestCase):
                 "a1",
                 "Zoë",
                 folder / "spool",
+                profile_of("matter-dac:FFF1:8000"),
             )
             self.assertEqual(settings_of({}, {}, [file]), expected)
             named = {f"WANEKUPO_{name.upper()}": str(value) for name, value in vars(expected).items()}
@@ -127,7 +130,7 @@ class Example(unittest.TestCase):
     def test_its_files(self):
         """The page, which shows none of them, has a link to each, by which a reader finds it."""
         names = {it.name for it in (ROOT / "deploy" / "thermostat").iterdir()}
-        self.assertEqual(names, {"thermostat.toml", "make-csr", "flash", "label", "read-csr"})
+        self.assertEqual(names, {"thermostat.toml", "make-csr", "flash", "label", "read-csr", "dac"})
         self.assertEqual(set(re.findall(r"\]\(\.\./\.\./deploy/thermostat/([\w.-]+)\)", self.page)), names)
 
     def test_the_man_page(self):

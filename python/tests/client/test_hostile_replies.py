@@ -5,11 +5,13 @@ from __future__ import annotations
 
 import copy
 import json
+import re
 import unittest
 
-from running import FACTS, BenchCase, script
+from running import FACTS, BenchCase, macs_of, script
+from simulated_chip import SimulatedChip
 from support import DIGEST as MAP_DIGEST
-from support import LIFE, MAC, MAP, ORDER, PUBLIC_KEY, StationCase, steps
+from support import LIFE, MAC, MAP, ORDER, PUBLIC_KEY, StationCase, exchanged, steps, whole
 from test_lots import Forging
 
 from wanekupo.common.errors import NotTheServer
@@ -147,6 +149,20 @@ class AtStation(StationCase):
             self.assertEqual(station.finish().reply["serial"], "A998")
 
 
+class Forgetting(Forging):
+    """Changes what is asked on its way."""
+
+    forgotten = (b"", b"")
+
+    def pass_on(self, client):
+        request = whole(client)
+        head, _, body = request.partition(b"\r\n\r\n")
+        if b" /v1/plan " in head:
+            body = re.sub(*self.forgotten, body)
+            head = re.sub(rb"(?i)(content-length: )\d+", b"\\g<1>%d" % len(body), head)
+        client.sendall(exchanged(self.program.port, b"%s\r\n\r\n%s" % (head, body)))
+
+
 class AtBench(BenchCase):
     SOCKETS = ("left",)
 
@@ -195,6 +211,26 @@ class AtBench(BenchCase):
         self.assertEqual((word, reason), ("LABEL", "no_label"))
         self.assertIn("the addresses of A001 aren't those of its order", sentence)
         self.assertFalse((self.folder / "hooked").exists())
+
+    def test_wishes_that_are_lost(self):
+        """A server that forgets wishes, as a hostile one does, has no chip pass without them: not one with nothing
+        burnt, and none with locks over a key block that has no key."""
+        forgotten = [(rb'"wishes":\[.*?\]', b'"wishes":[]'), (rb'\{[^{}]*"kind":"key"[^{}]*\},', b"")]
+        self.order(quantity=2)
+        proxy = self.proxy(kind=Forgetting)
+        bench = self.run_bench(self.recipe(url=proxy.url))
+        for mac, change, names in zip(macs_of(2), forgotten, ("BLOCK1, JTAG_DISABLE, ", "BLOCK1")):
+            proxy.forgotten = change
+            self.put("left", mac)
+            bench.said("left")
+            bench.until(lambda board, mac=mac: board["sockets"][0]["chip"] == mac)
+            word, reason, told = bench.ended("left")
+            self.assertEqual((word, reason), ("FAIL", "other_wishes"), told)
+            self.assertIn(f"({names}", told)
+            blocks = SimulatedChip.at(self.folder / "places" / "left").blocks
+            self.assertEqual(blocks[0] & 0x10080, 0)
+            self.assertEqual(self.asked("GET", f"/v1/device?chip={mac}")[1]["serial"], None)
+            self.take("left", mac)
 
     def test_a_plan(self):
         """Nothing is burnt by a plan of another form, nor by one that has more than is wished for."""

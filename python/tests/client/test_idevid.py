@@ -16,6 +16,7 @@ from commanding import NEEDS_KEYS
 
 from wanekupo.lots.idevid import chain_fault, certificate_faults, is_early, late_fault, moment_now
 from wanekupo.lots.spools import certificates_of
+from wanekupo.seat.profiles import profile_of
 
 SERIAL = "A998"
 P256 = "ec -pkeyopt ec_paramgen_curve:prime256v1"
@@ -41,6 +42,38 @@ HONEST = [
     {"key": "ed448"},
     {"extensions": {"crlDistributionPoints": LIST, "authorityInfoAccess": f"caIssuers;{LIST}"}},
     {"number": "7F" + 19 * "FF"},
+]
+# Of two profiles: what is changed of an honest certificate of each, and what is said of it.
+AR = {"profile": "802.1ar"}
+DAC = {"profile": "matter-dac:FFF1:8000", "ca": "pai", "subject": "/serialNumber=A998/vid=FFF1/pid=8000"}
+PROFILED = [
+    (AR, None),
+    ({**AR, "key": "ec -pkeyopt ec_paramgen_curve:secp384r1", "md": "sha384"}, None),
+    ({**AR, "key": "rsa -pkeyopt rsa_keygen_bits:4096", "ca": "rsa"}, None),
+    ({**AR, "extensions": {"crlDistributionPoints": LIST}}, None),
+    ({**AR, "key": "ec -pkeyopt ec_paramgen_curve:secp521r1"}, "its key is on the curve secp521r1, and not RSA "),
+    ({**AR, "key": "ed25519"}, r"its key is of another kind \(Ed25519PublicKey\), and not RSA "),
+    ({**AR, "key": "rsa:1024"}, "its key is RSA of 1024 bits, and not of 2048 or more"),
+    ({**AR, "md": "sha512"}, "it is signed by ecdsa-with-SHA512 .*, and not by ecdsa-with-SHA256 or "),
+    ({**AR, "ca": "rsa", "md": "sha384"}, "it is signed by sha384WithRSAEncryption "),
+    ({**AR, "subject": "/serialNumber=A998/vid=FFF1"}, "its subject is .*, vid=FFF1 as .*alone"),
+    (DAC, None),
+    ({**DAC, "ca": "product"}, None),
+    ({**DAC, "extensions": {"authorityInfoAccess": f"caIssuers;{LIST}"}}, None),
+    ({**DAC, "subject": "/serialNumber=A998/vid=FFF1"}, "its subject is .*, and not .*, pid=8000 as .* alone"),
+    ({**DAC, "subject": "/serialNumber=A998/vid=FFF1/pid=8001"}, "its subject is .*pid=8001 as .*, and not "),
+    ({**DAC, "subject": "/serialNumber=A998/vid=fff1/pid=8000"}, "its subject is .*vid=fff1 as .*, and not "),
+    ({**DAC, "subject": "/serialNumber=A998/pid=8000/vid=FFF1", "more": "-preserveDN"}, "its subject is .*, and not "),
+    ({**DAC, "subject": "/serialNumber=A998"}, "its subject is serialNumber=A998 as PrintableString, and not "),
+    ({**DAC, "subject": f"{DAC['subject']}/CN=Mvid:FFF2"}, "its subject is .*, commonName=Mvid:FFF2 as .*alone"),
+    ({**DAC, "ca": "root"}, "its issuer's name has no vid, and not FFF1"),
+    ({**DAC, "ca": "vendor"}, "its issuer's name has FFF2 vid, and not FFF1"),
+    ({**DAC, "ca": "other"}, "its issuer's name has 8001 pid, and not 8000"),
+    ({**DAC, "key": "ec -pkeyopt ec_paramgen_curve:secp384r1"}, "its key is on the curve secp384r1, and not EC "),
+    ({**DAC, "md": "sha384"}, "it is signed by ecdsa-with-SHA384 .*, and not by ecdsa-with-SHA256$"),
+    ({**DAC, "extensions": {"crlDistributionPoints": LIST}}, "it has the extension cRLDistributionPoints "),
+    ({**DAC, "extensions": {"extendedKeyUsage": "clientAuth"}}, "it has the extension extendedKeyUsage "),
+    ({**DAC, "extensions": {"authorityInfoAccess": f"caIssuers;{LIST}{250 * 'x'}"}}, "it has [67].. bytes as DER"),
 ]
 BROKEN = [
     # The subject.
@@ -68,7 +101,7 @@ BROKEN = [
     ({"key": "dsa:dsa.pem"}, r"its key is of another kind \(DSAPublicKey\), and not RSA of 2048 bits or more, EC on "),
     ({"record": {"key_sha256": 64 * "0"}}, "it has another key than the record: the SHA-256 is .*, and not 0000"),
     # How it is signed, and its number.
-    ({"md": "sha1"}, r"it is signed by ecdsa-with-SHA1 \(1.2.840.10045.4.1\), and not by ECDSA or RSA"),
+    ({"md": "sha1"}, r"it is signed by ecdsa-with-SHA1 \(1.2.840.10045.4.1\), and not by ecdsa-with-SHA256 or "),
     ({"md": "sha224"}, "it is signed by ecdsa-with-SHA224 "),
     ({"ca": "rsa", "md": "md5"}, "it is signed by md5WithRSAEncryption "),
     ({"ca": "rsa", "more": "-sigopt rsa_padding_mode:pss"}, "it is signed by rsassaPss|it is signed by RSASSA-PSS"),
@@ -93,7 +126,7 @@ BROKEN = [
     ({"extensions": {"certificatePolicies": "1.2.3.4"}}, "it has the extension certificatePolicies "),
     ({"extensions": {"nameConstraints": "permitted;DNS:bank.example"}}, "it has the extension nameConstraints "),
     ({"extensions": {"1.2.3.4": "critical,ASN1:NULL"}}, r"it has the extension .*\(1.2.3.4\), critical, wh"),
-    ({"extensions": {"1.2.3.4": "ASN1:NULL"}}, r"it has the extension .*\(1.2.3.4\), which no device's"),
+    ({"extensions": {"1.2.3.4": "ASN1:NULL"}}, r"it has the extension .*\(1.2.3.4\), which no certificate of plain"),
     ({"extensions": {"crlDistributionPoints": f"critical,{LIST}"}}, r"it has the extension cRLD.*, critical, which no"),
 ]
 
@@ -121,11 +154,13 @@ def settings_of(extensions, changes):
     own.pop(changes.get("without"), None)
     strings = changes.get("strings")
     return "\n".join([
+        "oid_section = matter",
         *(["openssl_conf = setup", "[setup]", "stbl_section = strings", "[strings]", strings] if strings else []),
         "[ca]", "default_ca = one",
         "[one]", "database = index.txt", "serial = serial", "new_certs_dir = .", "policy = any",
         "unique_subject = no", "x509_extensions = its",
-        "[any]", *(f"{it} = optional" for it in ("organizationName", "serialNumber", "commonName")),
+        "[matter]", "vid = 1.3.6.1.4.1.37244.2.1", "pid = 1.3.6.1.4.1.37244.2.2",
+        "[any]", *(f"{it} = optional" for it in ("organizationName", "serialNumber", "commonName", "vid", "pid")),
         "[its]", *(f"{name} = {text}" for name, text in own.items()), "",
     ])  # fmt: skip
 
@@ -139,8 +174,15 @@ class Idevid(unittest.TestCase):
         cls.folder = Path(folder.name)
         (cls.folder / "index.txt").touch()
         need(cls.folder, "openssl dsaparam -out dsa.pem 1024")
-        for name, key in (("root", P256), ("rsa", RSA)):
-            cls.made(name, "root" if name == "root" else name, {"key": key, "subject": f"/O=Acme/CN={name}"}, CA)
+        for name, key, more in (
+            ("root", P256, ""),
+            ("rsa", RSA, ""),
+            ("pai", P256, "/vid=FFF1"),
+            ("product", P256, "/vid=FFF1/pid=8000"),
+            ("vendor", P256, "/vid=FFF2"),
+            ("other", P256, "/vid=FFF1/pid=8001"),
+        ):
+            cls.made(name, name, {"key": key, "subject": f"/O=Acme/CN={name}{more}"}, CA)
 
     @classmethod
     def made(cls, name, ca, changes, extensions):
@@ -160,7 +202,8 @@ class Idevid(unittest.TestCase):
         need(self.folder, "openssl req -in device.csr -noout -pubkey | openssl pkey -pubin -outform DER -out key.der")
         digest = hashlib.sha256((self.folder / "key.der").read_bytes()).hexdigest()
         record = {"serial": SERIAL, "key_sha256": digest, "not_before": BEGINNING, "not_after": END}
-        return list(certificate_faults(certificate, {**record, **changes.get("record", {})}))
+        profile = profile_of(changes.get("profile", "plain"))
+        return list(certificate_faults(certificate, {**record, **changes.get("record", {})}, profile))
 
     def test_honest_ones(self):
         for changes in HONEST:
@@ -177,6 +220,29 @@ class Idevid(unittest.TestCase):
                 self.assertEqual(len(faults), 1, faults)
                 self.assertRegex(faults[0], f"^(?:{told})")
 
+    def test_each_profile(self):
+        """What a profile has, and what breaks one of its lines, and that alone."""
+        for changes, told in PROFILED:
+            with self.subTest(changes):
+                faults = self.faults(changes)
+                self.assertEqual(len(faults), 1 if told else 0, faults)
+                self.assertRegex("".join(faults), f"^(?:{told})" if told else "^$")
+
+    def test_another_key_of_the_issuer(self):
+        """What names another key than the PAI's has no chain to it."""
+        for keyid, told in (("keyid:always", "^$"), (f"DER:30168014{20 * '5A'}", "no chain leads to ")):
+            device = self.made("device", "pai", {**DAC, "extensions": {"authorityKeyIdentifier": keyid}}, OWN)
+            self.assertRegex("".join(chain_fault(device, [], self.folder / "pai.pem")), told)
+
+    def test_names_of_profiles(self):
+        """Each is named in one way."""
+        for name in ("plain", "802.1ar", "matter-dac:FFF1:8000"):
+            self.assertEqual(str(profile_of(name)), name)
+        wrong = "matter-dac", *(f"matter-dac:{it}" for it in ("FFF1", "fff1:8000", "FFF1:0000", "FFF1:8000:1"))
+        for name in ("", "Plain", "plain:", "802.1ar:FFF1:8000", *wrong):
+            with self.assertRaisesRegex(ValueError, "is plain, 802.1ar, or matter-dac:VID:PID"):
+                profile_of(name)
+
     def test_what_breaks_more(self):
         """A version that has no extensions, a key in another form of DER, and what can't be read at all."""
         for changes, told in (
@@ -184,6 +250,7 @@ class Idevid(unittest.TestCase):
             ({"key": f"{P256} -pkeyopt ec_param_enc:explicit"}, "its key (can't be read|isn't in the one form of DER)"),
             ({"key": "rsa-pss -pkeyopt rsa_keygen_bits:2048"}, "its key isn't in the one form of DER"),
             ({"extensions": {"subjectAltName": "ASN1:NULL"}}, "its extensions can't be read"),
+            ({**DAC, "key": RSA}, r"its key is of another kind \(RSAPublicKey\), and not EC on secp256r1$"),
         ):
             with self.subTest(changes):
                 if "version" in changes:

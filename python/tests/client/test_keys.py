@@ -66,6 +66,27 @@ class Keys(CommandCase):
         self.assertEqual(self.ran("identity", MAC, "--csr", self.folder / "two.csr", "--spool", self.spool)[0], 1)
         self.assertEqual((self.spool / "A998.csr").read_bytes(), (self.folder / "one.csr").read_bytes())
 
+    def test_a_weak_key(self):
+        """Below 112 bits of strength no key gets a record, and a request none whose key its profile hasn't."""
+        number, matter = self.number(), ("--profile", "matter-dac:FFF1:8000")
+        for kind, form, more, told in (
+            ("rsa:1024", "csr", (), "its key is RSA of 1024 bits, and not of 2048 or more"),
+            ("rsa:1024", "pem", (), "its key of 1024 bits has less than 112 bits of strength"),
+            ("rsa:512", "der", (), "its key of 512 bits has less than 112 bits of strength"),
+            ("ec -pkeyopt ec_paramgen_curve:prime192v1", "csr", (), "its key is on the curve secp192r1, and not RSA"),
+            ("ec -pkeyopt ec_paramgen_curve:prime192v1", "pem", (), "its key of 192 bits has less than 112 bits"),
+            ("ec -pkeyopt ec_paramgen_curve:secp256k1", "csr", (), "its key is on the curve secp256k1, and not RSA"),
+            ("ed25519", "csr", ("--profile", "802.1ar"), "its key is of another kind (Ed25519PublicKey), and not RSA"),
+            ("ec -pkeyopt ec_paramgen_curve:secp384r1", "csr", matter, "its key is on the curve secp384r1, and not EC"),
+        ):
+            made_key(self.folder, "one", kind)
+            words = ["identity", MAC, f"--{form}", self.folder / f"one.{form}", "--spool", self.spool, *more]
+            status, out, err = self.ran(*words)
+            self.assertEqual((status, out, told in err, "Nothing was sent." in err), (2, "", True, True), (words, err))
+        self.assertEqual((self.number(), list(self.spool.iterdir())), (number, []))
+        made_key(self.folder, "one", "ec -pkeyopt ec_paramgen_curve:secp256k1")
+        self.assertEqual(self.ran("identity", MAC, "--pem", self.folder / "one.pem")[0], 0)
+
     def test_what_is_sent_to_nobody(self):
         """A request with a changed byte, a private key, and what is neither: the number stays, and nothing is kept."""
         made_key(self.folder, "one")

@@ -21,6 +21,7 @@ from wanekupo.books import folder
 from wanekupo.books import store
 from wanekupo.books.chain import NONE, Chain, sealed
 from wanekupo.common.errors import StationError, UnsafeFile
+from wanekupo.common.moments import moment_of
 from wanekupo.seat.journal import journals_of
 from wanekupo.books.lost import given_up, lost_text
 
@@ -128,6 +129,17 @@ class Journals(Folder):
         chips, told = self.lost()
         self.assertIn("pc8", chips)
         self.assertEqual([it.startswith(f"{self.folder}/all/pc7 isn't read to its end: ") for it in told], [True])
+
+    def test_no_customer_hides_anothers_lost_chip(self):
+        """A line of an earlier time, of the same chip's name, is another customer's chip; one of the same customer's
+        office is the same chip."""
+        early = lines("a1", "pc8").replace(AT, "2026-01-01T00:00:00Z")
+        (self.folder / "all/pc7/y.journal").write_text(early)
+        for customers in ({}, {"a1": "acme", "b1": "bolt"}):
+            found, _ = given_up([self.folder / "all"], moment_of(AT), None, self.seats, customers)
+            self.assertEqual([it[2] for it in found], ["pc7", "pc8"])
+        found, _ = given_up([self.folder / "all"], None, None, self.seats, {"a1": "acme", "b1": "acme"})
+        self.assertEqual([it[2] for it in found], ["pc8", "pc7"])
 
     def test_what_a_station_wrote_is_printed_in_a_line(self):
         """Neither a screen of it, nor what would be a command to a terminal."""

@@ -239,7 +239,7 @@ def test_a_server_that_does_not_start_is_told(place, monkeypatch, fails, is_up):
 
 @pytest.mark.parametrize("held, words", [
     (NEW, "holds the new text by now"), (OLD, "still holds the old text"), ("x", "holds another text than these two"),
-    (TokenError(4, "why"), "isn't known: why"), (OSError(5, "why"), "isn't known"),
+    (TokenError(4, "why"), "isn't known: why"), (OSError(5, "why"), "isn't known"), (UserError("why"), "isn't known"),
 ])  # fmt: skip
 def test_which_text_the_store_holds(place, held, words):
     """The store is looked at while the server is stopped, and the server is started in any case."""

@@ -271,6 +271,14 @@ def test_both_folders_are_one_users(tmp_path, number, is_fit):
             backup.tested_user(store, tmp_path)
 
 
+def test_a_folder_is_held_no_longer_than_it_is_looked_at(tmp_path, monkeypatch):
+    monkeypatch.setattr(backup, "opened", lambda folder: os.open(folder, os.O_RDONLY))
+    with pytest.raises(ValueError), backup.held_open(tmp_path) as handle:
+        raise ValueError
+    with pytest.raises(OSError):
+        os.fstat(handle)
+
+
 @pytest.mark.parametrize("is_mount, told", [(True, ""), (False, "{0} is no mount point, and is on the disk of {1}: ")])
 def test_disk_of(tmp_path, monkeypatch, is_mount, told):
     """A disk that isn't mounted is no reason to give its folder away."""

@@ -137,7 +137,8 @@ def test_no_error_is_no_fault_and_others_pass(tmp_path):
 def test_sqlite3_runs_in_its_safe_mode_and_reads_alone(machine):
     backup_copy.safely("a", "b")
     ((words, more),) = machine.calls
-    assert words == ["sqlite3", "-safe", "-readonly", "a", "b"] and more["stdin"] == subprocess.DEVNULL
+    assert words == ["sqlite3", "-init", "/dev/null", "-safe", "-readonly", "a", "b"]
+    assert more["stdin"] == subprocess.DEVNULL
 
 
 def test_who_has_what_a_command_prints_to_holds_nobody():
@@ -164,7 +165,7 @@ def test_counts_of(tmp_path, machine):
     (tmp_path / "c.db-shm").write_text("")
     assert backup_copy.copied_counts(tmp_path / "c.db", "s") == ["orders 2", "devices 3", "records 4", "seat a1 17"]
     ((words, _),) = machine.calls
-    assert words[:5] == ["sqlite3", "-safe", "-readonly", "-bail", str(tmp_path / "c.db")]
+    assert words[:7] == ["sqlite3", "-init", "/dev/null", "-safe", "-readonly", "-bail", str(tmp_path / "c.db")]
     assert not (tmp_path / "c.db-shm").exists()
 
 
@@ -287,7 +288,7 @@ def test_the_program_opens_a_second_copy_before_sqlite3_reads_one(store, tmp_pat
     order = [words for words, _ in machine.calls if "--version" not in words]
     trial = str(tmp_path / "made/trial/books.db")
     assert order[0] == [program, "replay", "--site", site, "--db", trial, "--existing"]
-    assert [words[4] for words in order[1:]] == [str(tmp_path / "made/books.db"), trial]
+    assert [words[6] for words in order[1:]] == [str(tmp_path / "made/books.db"), trial]
 
 
 def changed(path):

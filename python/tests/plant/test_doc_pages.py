@@ -2,8 +2,10 @@
 
 import ast
 import re
+import shutil
 import sys
 
+import pytest
 from conftest import DEPLOY, TOP
 
 from wanekupo.cli.main import COMMANDS
@@ -39,6 +41,35 @@ def test_all_pages(tmp_path):
     assert told == {row.name for row in COMMANDS}
 
 
+def test_words_that_only_sources_have(tmp_path):
+    """A page for who has the packages names no path of the sources, but those of the proof, which say that they do."""
+    doc_pages.make(tmp_path)
+    folders = "tests|tools|crates|bench|deploy|clients|python|kit/tests"
+    paths = re.compile(rf"(?<![\w/.-])(?:{folders})/\w|\brepository\b|`rt \w")
+    pages = [it for it in tmp_path.rglob("*.md") if it.parent.name != "proof"]
+    assert len(pages) > 15
+    assert [(it.name, found) for it in pages for found in paths.findall(it.read_text("utf-8"))] == []
+    for page in (tmp_path / "docs/proof").glob("*.md"):
+        assert doc_pages.OF_SOURCES in page.read_text("utf-8")
+
+
+@pytest.mark.skipif(not shutil.which("mkdocs"), reason="there is no mkdocs here")
+def test_site(tmp_path):
+    """Without a script, and with all headings on one page, each of which leads to its place."""
+    texts = {
+        "README.md": "# Wanekupo\n\n[A shift](docs/line/shift.md#what-the-yield-is)\n",
+        "docs/line/shift.md": "# A shift\n\n## What the yield is\n\n- one\n  two\n",
+    }
+    (tmp_path / "docs/line").mkdir(parents=True)
+    doc_pages.make_site(tmp_path, texts)
+    made = {str(it.relative_to(tmp_path / "html")): it for it in (tmp_path / "html").rglob("*.*")}
+    assert sorted(made) == ["docs/line/shift.html", "headings.html", "index.html"]
+    assert all("<script" not in it.read_text("utf-8") for it in made.values())
+    for name in ("index.html", "headings.html"):
+        assert 'href="docs/line/shift.html#what-the-yield-is"' in made[name].read_text("utf-8")
+    assert 'id="what-the-yield-is"' in made["docs/line/shift.html"].read_text("utf-8")
+
+
 def texts_of(tree):
     """The texts of a module but its docstrings, each value in it by what makes it, in braces."""
     known = {id(node.value) for node in ast.walk(tree) if isinstance(node, ast.Expr)}
@@ -69,7 +100,7 @@ def test_errors_name_pages_that_are_there():
 def test_manuals_name_pages_that_are_there():
     """So does the README of the packages; in a manual a page is named from the packages' folder of pages on."""
     files = [TOP / "debian/README.md", *(TOP / "debian/man").iterdir(), *DEPLOY.glob("*.[158]")]
-    named = [(it.name, page) for it in files for page in re.findall(r"[\w/-]+\.md\b", it.read_text("utf-8"))]
+    named = [(it.name, page) for it in files for page in re.findall(r"\w[\w/-]*\.md\b", it.read_text("utf-8"))]
     assert len(named) >= 20
     assert not [it for it in named if not any((top / it[1]).is_file() for top in (TOP, TOP / "docs"))]
 

@@ -8,7 +8,7 @@ import pytest
 from conftest import DEPLOY
 
 pytestmark = pytest.mark.skipif(not shutil.which("rsync"), reason="there is no rsync")
-SIZE = "#!/bin/sh\ncase $2 in *pc7) echo 2000001 $2;; *) echo 2000000 $2;; esac | tr ' ' '\\t'\n"
+SIZE = "#!/bin/sh\ncase $3 in *pc7) echo 2000001 $3;; *) echo 2000000 $3;; esac | tr ' ' '\\t'\n"
 
 
 @pytest.fixture
@@ -35,6 +35,16 @@ def test_a_folder_that_is_too_large_is_named_and_left_out(kept: Path) -> None:
     told = run(kept)
     found = [it.relative_to(kept).parts[1:] for it in kept.rglob("*.journal")]
     assert found == [("pc8", "x", "a.journal")] and "too much in pc7\n" in told
+
+
+def test_holes_count_by_their_length(kept: Path) -> None:
+    """They cost a station nothing; a copy reads them for hours, and as the smallest one it would come first."""
+    (kept.parents[1] / "bin/du").unlink()
+    for number in range(21):
+        with open(kept.parents[1] / f"lib/journals/all/pc7/x/{number}.journal", "wb") as file:
+            file.truncate(100_000_000)
+    told = run(kept)
+    assert "too much in pc7\n" in told and [it.name for it in kept.glob("*/*")] == ["pc8"]
 
 
 def test_a_day_of_a_clock_that_was_ahead_is_not_the_last_one(kept: Path) -> None:

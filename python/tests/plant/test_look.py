@@ -201,7 +201,7 @@ def test_the_contents_of_a_half(monkeypatch, own, tmp_path):
     assert look.contents(own) == look.Contents({"a1": 17, "b1": 0}, {"x"})
     program, sqlite3 = (words for words, _, _ in user.calls)
     assert program == ("station", "replay", "--site", "/etc/station/site.toml", "--db", "books.db", "--existing")
-    assert sqlite3[:4] == ("sqlite3", "-safe", "-readonly", "books.db")
+    assert sqlite3[:6] == ("sqlite3", "-init", "/dev/null", "-safe", "-readonly", "books.db")
     with pytest.raises(OSError):
         os.fstat(store.handle)
     store.handle, store.user = os.open(tmp_path, os.O_RDONLY), SimpleNamespace(number=8)

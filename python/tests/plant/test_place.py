@@ -180,7 +180,7 @@ def test_held_text(place, monkeypatch, refused):
     own = (place.db, 42)
     assert text == "AB" and made == [own, ("new", Path("/copy1")), ("old", Path("/copy1")), own]
     ((*words, statement),) = place.user.calls
-    assert words == ["sqlite3", "-safe", "-readonly", "/copy4"] and "site_text" in statement
+    assert words == ["sqlite3", "-init", "/dev/null", "-safe", "-readonly", "/copy4"] and "site_text" in statement
 
 
 @pytest.mark.parametrize("refused, out, fails, told", [

@@ -63,9 +63,11 @@ def digest_of(bits):
 
 
 @pytest.mark.parametrize(
-    ("word", "other"), [("words = 8", "words = 999999999999"), ("words = 1", "words = -1"), ("bit = 8", "bit = -8")]
+    ("word", "other"), [("words = 8", "words = 999999999999"), ("words = 1", "words = -1"), ("bit = 8", "bit = -8"),
+                        ("bit = 8", f"bit = 8\nx = {600 * '['}{600 * ']'}")]  # fmt: skip
 )
 def test_a_map_that_no_server_has_takes_no_memory(word, other):
+    """Nor does one that nests deeper than Python goes end an audit or a seal."""
     assert layout_of(TEXT).bits_length() == 36
     with pytest.raises(BadMap):
         layout_of(TEXT.replace(word, other, 1))

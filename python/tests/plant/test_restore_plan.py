@@ -145,10 +145,11 @@ def test_no_memory_is_told_by_the_customer():
         raise MemoryError
 
 
-def test_what_nobody_thought_of_is_told_by_the_customer():
-    with pytest.raises(RestoreError, match=r"^bolt: its journals have what no station writes \(KeyError.* bolt$"):
-        with name_customer("bolt"):
-            raise KeyError("x" * 900)
+@pytest.mark.parametrize("kind", [KeyError, RecursionError])
+def test_what_nobody_thought_of_is_told_by_the_customer(kind):
+    told = rf"^bolt: its journals have what no station writes \({kind.__name__}.* bolt$"
+    with pytest.raises(RestoreError, match=told), name_customer("bolt"):
+        raise kind("x" * 900)
     with pytest.raises(OSError, match="full"), name_customer("bolt"):  # the disk is nobody's
         raise OSError("full")
 

@@ -242,6 +242,12 @@ def test_nothing_more_is_no_growth(place, capsys):
     assert not place.next.exists() and not place.plan.exists() and "has all of it already" in capsys.readouterr().out
 
 
+def test_what_is_only_prepared_is_not_in_the_site(place, capsys):
+    for _ in range(2):
+        site.prepare(words("add-issuer", "acme", "n"), place)
+        assert "gain" in capsys.readouterr().out, "given again it is told again"
+
+
 def test_under_way_nothing_is_prepared(place):
     keep_plan(place.plan, GrowthPlan(PLACED))
     with pytest.raises(TokenError, match="under way"):
@@ -324,6 +330,17 @@ def test_a_cut_run_gives_up_the_text_first(place, monkeypatch):
     assert known(place) == {"a2"} and not place.next.exists() and read_plan(place.plan).wishes
     site.drop(words("drop"), place)
     assert known(place) == set() and not place.plan.exists()
+
+
+def test_the_disk_has_lost_the_text_before_a_seat_goes(place, monkeypatch):
+    """Else a power cut brings the text back, with a seat whose token is gone."""
+    monkeypatch.setattr(site, "is_up", lambda it: True)
+    site.prepare(words("add-seat", "acme", "a2"), place)
+    done = []
+    monkeypatch.setattr(site, "sync", lambda path: done.append((path, place.next.exists())))
+    monkeypatch.setattr(site, "put", lambda path, text: done.append(path))
+    site.drop(words("drop"), place)
+    assert done == [(place.next.parent, False), place.tokens]
 
 
 def test_apply_of_nothing(place, capsys):

@@ -82,9 +82,10 @@ def test_a_word_says_it_is_off(monkeypatch):
     assert answered(monkeypatch, own, words=[True]) == 7 and own.calls == ["take_word"]
 
 
-def test_before_this_machine_is_the_primary_only_a_word_counts(monkeypatch):
+@pytest.mark.parametrize("role", ["Secondary", "Unknown"])
+def test_before_this_machine_is_the_primary_only_a_word_counts(monkeypatch, role):
     """No command fences here: by hand nobody comes past it."""
-    own = FakeHalf(state(role="Secondary"))
+    own = FakeHalf(state(role=role))
     assert answered(monkeypatch, own, fenced=True) == 1 and own.calls == ["take_word"]
 
 

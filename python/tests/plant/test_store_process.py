@@ -209,8 +209,8 @@ def test_where_memory_runs_out_these_are_ended_first(monkeypatch):
     assert own.run("cat", "/proc/self/oom_score_adj").stdout == "1000\n"
     steps = []
     monkeypatch.setattr(store_user, "end_first", lambda: steps.append("end_first"))
-    monkeypatch.setattr(store_user.os, "setgroups", lambda groups: None)
-    monkeypatch.setattr(store_user.os, "getgrouplist", lambda *_: [])
+    monkeypatch.setattr(store_user.os, "setgroups", lambda groups: steps.append(groups))
+    monkeypatch.setattr(store_user.os, "getgrouplist", lambda name, group: [name, group])
     for name in ("setresgid", "setresuid"):
         monkeypatch.setattr(store_user.os, name, lambda *_, name=name: steps.append(name))
     libc = SimpleNamespace(prctl=lambda *_: 0, syscall=lambda *words: steps.append(words) or 1)
@@ -220,7 +220,8 @@ def test_where_memory_runs_out_these_are_ended_first(monkeypatch):
     monkeypatch.setattr(store_user.os, "uname", lambda: SimpleNamespace(machine="x86_64"))
     USER._become(os.getppid())
     # keyctl(2): 250 on x86-64, KEYCTL_JOIN_SESSION_KEYRING is 1, and without a name it is a new one.
-    assert steps == ["end_first", (250, 1, None), "setresgid", "setresuid"]
+    # setuid(2) leaves the groups as they are, so root's go first.
+    assert steps == ["end_first", (250, 1, None), ["station", 4243], "setresgid", "setresuid"]
 
 
 @pytest.mark.parametrize("number, is_refused", [(errno.ENOSYS, False), (errno.EPERM, False), (errno.EDQUOT, True)])

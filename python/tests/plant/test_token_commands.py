@@ -364,7 +364,9 @@ def test_the_seat_of_health_needs_no_outer_token(file, capsys):
 
 def test_inner(file, tmp_path, capsys):
     put(file, tokens_text(seats()))
+    before = file.stat().st_ino
     done(file, "inner", "a1", "--to", str(tmp_path / "a1.token"))
+    assert file.stat().st_ino == before, "nothing is written, as nothing changes"
     made = tmp_path / "a1.token"
     assert made.read_text() == "abc\n" and stat.S_IMODE(made.stat().st_mode) == 0o600
     out, err = capsys.readouterr()

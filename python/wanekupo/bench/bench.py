@@ -66,10 +66,11 @@ APART = re.compile(r"[\s,;|/]+")
 
 
 class Bench:
-    """A recipe's sockets over one seat. `spool` is where requests for certificates are kept."""
+    """A recipe's sockets over one seat. `spool` is where requests for certificates are kept, of the profile's form."""
 
-    def __init__(self, recipe: Recipe, station: Station, kept: BenchFiles, url: str, spool: Optional[Path]):
-        self.recipe, self.kept, self.spool, self._url = recipe, kept, spool, url
+    def __init__(self, recipe: Recipe, station: Station, kept: BenchFiles, settings: Settings):
+        self.recipe, self.kept, self._url = recipe, kept, settings.url
+        self.spool, self.profile = settings.spool, settings.profile
         sockets = [_found_in(name, kept) for name in recipe.sockets]
         if kept.operator():
             station.operated_by(kept.operator())
@@ -398,7 +399,7 @@ def main(settings: Settings, arguments: argparse.Namespace) -> int:
         tell: list[Callable[[str], None]] = []
         patient = replace(settings, patience=min(settings.patience, PATIENCE))
         station = stack.enter_context(station_of(patient, tell=lambda text: tell[0](text)))
-        bench = Bench(recipe, station, kept, settings.url, settings.spool)
+        bench = Bench(recipe, station, kept, settings)
         tell.append(bench.tell)
         page = Page(bench, port) if has_page else None
         ending = _ended_by_signals()

@@ -18,7 +18,8 @@ from wanekupo.chips.families import Blocks, Told, family_of
 from wanekupo.bench.hooks import HookResult, run_hook
 from wanekupo.bench.bench_files import BenchFiles, synced_files
 from wanekupo.common.files import PRIVATE, place_file
-from wanekupo.seat.keys import keep_csr, public_key_of
+from wanekupo.seat.keys import keep_csr, sound_key_of
+from wanekupo.seat.profiles import Profile
 from wanekupo.seat.lot_records import addresses_of
 from wanekupo.bench.parts import Part
 from wanekupo.bench.recipe import RecipeCommand, Recipe, Wish
@@ -69,6 +70,7 @@ class LifeBench(Protocol):
     recipe: Recipe
     kept: BenchFiles
     spool: Optional[Path]
+    profile: Profile
     supply: Supply
 
     def ask(self, call: Callable[[Station], Made]) -> Made: ...
@@ -138,6 +140,7 @@ class Life:
             state = self._burn_all(state, device.batch1, device.batch2)
             if state == "settled":
                 state = self._plan()
+        self._test_shown()
         record = self._identify() if state == "settled" else self._ask(Station.identity)
         self.serial = record.serial
         self._keep_csr(record)
@@ -229,6 +232,16 @@ class Life:
         if names:
             raise Ended("other_wishes", detail=_shown(names))
 
+    def _test_shown(self, work: Optional[Work] = None) -> None:
+        """Whatever a server says of a chip, what the recipe wishes has to stand in it, by what it shows itself. Where a
+        batch is to be burnt, this is asked of the keys over which it burns a lock: nobody sees them behind it."""
+        wanted = wanted_of(Layout(self.line.recipe.map), self._wishes())
+        names = wanted.unseen(self._blocks)
+        if work is not None:
+            names = [name for name in names if name in wanted.locked(work)]
+        if names:
+            raise Ended("other_wishes", detail=_shown(names))
+
     def _burn_all(self, state: str, *batches: Work) -> str:
         """Burns the batches that are awaited, one after the other, and gives the state behind them."""
         for number, work in enumerate(batches, 1):
@@ -238,11 +251,12 @@ class Life:
 
     def _burn(self, place: str, work: Work) -> str:
         """Burns a batch until the chip shows all of it, and sends what it shows: half a key would lose the chip."""
+        self._test_shown(work)
         for _ in range(TRIES):
             self._at(f"burn {place}")
             self.part.burn(work)
             self._at(f"read back {place}")
-            blocks = self.part.read()
+            self._blocks = blocks = self.part.read()
             if blocks.chip != self.chip:
                 raise Ended("other_chip")
             if shows_work(blocks, work):
@@ -323,7 +337,7 @@ class Life:
         if sum(it is not None for it in data.values()) != 1:
             raise Ended("no_public_key", detail="one of identity.csr, identity.pem and identity.der in FOLDER")
         try:
-            return public_key_of(**data)
+            return sound_key_of(self.line.profile, **data)
         except (StationError, ValueError) as error:
             raise Ended("no_public_key", detail=str(error)) from error
 

@@ -96,7 +96,8 @@ def audit_of(store: Books, books: Iterable[Book], period: Period, now: str, site
     audit.found += laid.found()
     audit.found += _left_faults(audit, laid, window, spans, lost, begun_customers(spans, store))
     audit.found += _idle_faults(lost, counted, store)
-    audit.found += [Found("numbers", it.at, it.customer, it.seat, "", told) for it in spans for told in it.faults]
+    late = {(it.seat, step.number) for it, step, kind, _ in laid.odd if kind == "late_copy"}
+    audit.found += [Found("numbers", it.at, it.customer, it.seat, "", told) for it in spans for told in it.told(late)]
     audit.found += [Found("journal", at, it.customer, it.seat, "", told) for it in spans for at, told in it.lost]
     audit.found += [Found(kind, at, customer, "", chip, told) for kind, at, customer, chip, told in store_faults(store)]
     audit.found += [Found(*it) for it in given_twice(journals)]

@@ -6,8 +6,10 @@ its state only go on, an order changes its next serial number alone, and a seat'
 
 from __future__ import annotations
 
+import re
 from collections import Counter
 from dataclasses import dataclass, field
+from itertools import chain
 from typing import Any, Iterable, Iterator, Optional
 
 from wanekupo.books.coherence import faults_of
@@ -16,6 +18,12 @@ from wanekupo.seat.states import LATER
 
 Members = dict[str, Any]
 Key = tuple[str, tuple[str, ...]]
+
+# The digits of a serial number behind its prefix.
+NUMBER = re.compile("[0-9]{1,64}")
+
+# What an issuer gives once.
+GIVEN = ("serial", "key_sha256")
 
 # How a row is named in a sentence, by its kind and the parts of its key.
 NAMES = {
@@ -39,9 +47,13 @@ class RowDifference:
     told: str
 
     def sentence(self) -> str:
-        *parts, last = self.key
-        named = NAMES[self.kind].format(*parts, last.lstrip("0") if self.kind == "entry" else last)
+        named = _named((self.kind, self.key))
         return f"{named[:1].upper()}{named[1:]}: {self.told}."
+
+
+def _named(key: Key) -> str:
+    kind, (*parts, last) = key
+    return NAMES[kind].format(*parts, last.lstrip("0") if kind == "entry" else last)
 
 
 @dataclass
@@ -184,10 +196,44 @@ def contradictions(text: Text) -> Iterator[RowDifference]:
     for kind, key in text.rows:
         if kind == "device":
             whose = key[0], key[1]
-            device = text.members((kind, key))
-            for told in faults_of(device, ledgers.pop(whose, []), records.pop(whose, [])):
-                yield RowDifference(kind, key, told)
+            device, its = text.members((kind, key)), records.pop(whose, [])
+            found = chain(faults_of(device, ledgers.pop(whose, []), its), _order_faults(text, whose[0], device, its))
+            yield from (RowDifference(kind, key, told) for told in found)
     for whose in ledgers:
         yield RowDifference("device", whose, "isn't there, though its ledger is")
     for whose in records.keys() - ledgers.keys():
         yield RowDifference("device", whose, "isn't there, though a record is of it")
+    yield from _twice(text)
+
+
+def _order_faults(text: Text, customer: str, device: Members, records: Iterable[Members]) -> Iterator[str]:
+    """What of a device's records isn't of its order: a number of the order's issuer, and the address of that number."""
+    key = "order", (customer, device["order"])
+    if key not in text.rows:
+        yield f"its order {device['order']} isn't there"
+        return
+    order = text.members(key)
+    for it in records:
+        digits = it["serial"].removeprefix(order["prefix"])
+        number = int(digits) - order["first"] if NUMBER.fullmatch(digits) else -1
+        own = f"{order['prefix']}{order['first'] + number:0{order['width']}}"
+        if (it["issuer"], it["serial"]) != (order["issuer"], own) or not 0 <= number < order["quantity"]:
+            yield f"its serial number {it['serial']} of {it['issuer']} is none of its order {order['name']}"
+        elif it["mac"] != (order["mac"] and f"{int(order['mac'], 16) + number * order['macs']:012x}"):
+            yield f"its address {_shown(it['mac'])} isn't that of its serial number {it['serial']}"
+
+
+def _twice(text: Text) -> Iterator[RowDifference]:
+    """Serial numbers and keys that an issuer gave twice, and addresses of two records or orders."""
+    first: dict[tuple[str, str, str], Key] = {}
+    rows = [(key, text.members(key)) for key in text.rows if key[0] in ("import", "order", "record")]
+    given = ((name, it["issuer"], it[name], key) for key, it in rows if key[0] != "order" for name in GIVEN)
+    macs = (("mac", "", it["mac"], key) for key, it in rows if key[0] == "record" and it["mac"])
+    for name, whose, value, key in chain(given, macs):
+        if (other := first.setdefault((name, whose, value), key)) != key:
+            yield RowDifference(*key, f"{name} {value} is also that of {_named(other)}")
+    blocks = ((it["mac"], it["quantity"] * it["macs"], key) for key, it in rows if key[0] == "order" and it["mac"])
+    orders = sorted((int(mac, 16), count, key) for mac, count, key in blocks)
+    for (mac, count, other), (behind, _, key) in zip(orders, orders[1:]):
+        if behind < mac + count:
+            yield RowDifference(*key, f"mac {behind:012x} is also an address of {_named(other)}")

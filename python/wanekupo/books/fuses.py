@@ -102,6 +102,6 @@ def layout_of(text: str) -> FuseWords:
         its = fields.fields.values()
         if not all(min(it.block, it.bit) >= 0 < it.count <= 32 * blocks[it.block] - it.bit for it in its):
             raise ValueError("a field lies in no block")
-    except (ValueError, LookupError, TypeError, AttributeError) as error:
+    except (ValueError, LookupError, TypeError, AttributeError, RecursionError) as error:
         raise BadMap(str(error)) from error
     return FuseWords(blocks, keys, fields)

@@ -26,8 +26,10 @@ MEMBERS = {
 }
 NAMES = {kind: frozenset(names.split()) for kind, names in MEMBERS.items()}
 
-# How many words the key of each kind has.
+# How many words the key of each kind has, and the members that the last of these are, but for an entry's number.
 WORDS = {"device": 2, "entry": 3, "import": 3, "map": 2, "order": 2, "record": 3, "seat": 2, "site": 1}
+KEYED = {"device": ["chip"], "map": ["map"], "order": ["name"], "seat": ["name"]}
+KEYED |= dict.fromkeys(("import", "record"), ["issuer", "serial"])
 
 # The kinds that a customer's own token shows.
 SHOWN = ("device", "entry", "order", "record")
@@ -35,7 +37,7 @@ SHOWN = ("device", "entry", "order", "record")
 # The digits of an entry's number in its key.
 DIGITS = 10
 KEY = re.compile("[A-Za-z0-9._@-]+")
-MASK = re.compile("[0-9a-f]{8}")
+MASK, MAC = re.compile("[0-9a-f]{8}"), re.compile("[0-9a-f]{12}")
 
 # Members as a row has them.
 COMPACT = json.JSONEncoder(sort_keys=True, separators=(",", ":"))
@@ -96,6 +98,14 @@ def _is_name(it: Any) -> bool:
     return it is None or isinstance(it, str)
 
 
+def _is_address(it: Any) -> bool:
+    return it is None or isinstance(it, str) and MAC.fullmatch(it) is not None
+
+
+def _is_width(it: Any) -> bool:
+    return _is_number(it) and 0 < it <= 64
+
+
 def _is_word(it: Any) -> bool:
     if not isinstance(it, dict) or it.keys() != {"block", "word", "mask"}:
         return False
@@ -121,12 +131,14 @@ def _is_pending(it: Any) -> bool:
 
 # What a member has to be, by its name: the same in each kind of row. One that isn't here is a text, a number or null.
 FORMS: dict[str, Callable[[Any], bool]] = {
-    **dict.fromkeys(("event", "issuer", "key_sha256", "map", "note", "state"), _is_text),
-    **dict.fromkeys(("first", "last", "macs", "n", "quantity", "schema", "width"), _is_number),
-    **dict.fromkeys(("chip", "mac", "next", "not_after", "not_before", "order", "reason", "serial"), _is_name),
+    **dict.fromkeys(("event", "issuer", "key_sha256", "map", "note", "prefix", "state"), _is_text),
+    **dict.fromkeys(("first", "last", "macs", "n", "quantity", "schema"), _is_number),
+    **dict.fromkeys(("chip", "next", "not_after", "not_before", "order", "reason", "serial"), _is_name),
     "bits": _is_bits,
     "keys": _is_keys,
+    "mac": _is_address,
     "pending": _is_pending,
+    "width": _is_width,
 }
 
 
@@ -144,4 +156,7 @@ def line_parts(text: str) -> tuple[str, tuple[str, ...], dict[str, Any]]:
         raise BadRow(f"is no row of books: {text[:60]!r}")
     if COMPACT.encode(found) != brace[1:] + members:
         raise BadRow(f"isn't written as a row is: {text[:60]!r}")
+    own = [f"{found['n']:0{DIGITS}}"] if kind == "entry" else [found[name] for name in KEYED.get(kind, ())]
+    if own != key[len(key) - len(own) :]:
+        raise BadRow(f"is of another name than its members: {text[:60]!r}")
     return kind, tuple(key), found

@@ -13,7 +13,7 @@ from bisect import bisect_left
 from collections import Counter, defaultdict
 from dataclasses import dataclass, field
 from itertools import accumulate
-from typing import Any, Iterable, Iterator, NamedTuple, Optional, Sequence, Union
+from typing import Any, Container, Iterable, Iterator, NamedTuple, Optional, Sequence, Union
 
 from wanekupo.books.clocks import NEVER, is_behind, longest_run
 from wanekupo.books.matches import Seated
@@ -26,8 +26,8 @@ from wanekupo.seat.journal_lines import form_fault
 
 @dataclass
 class Span:
-    """The numbers that a seat's journals have, from the first to the last, and what is missing between. `lost` are
-    lines that can't be, each with its time."""
+    """The numbers that a seat's journals have, from the first to the last. `gaps` are those between and behind them
+    that have no line, each from one to another one in words, and `lost` lines that can't be, each with its time."""
 
     seat: str
     customer: str
@@ -35,7 +35,15 @@ class Span:
     first: int = 0
     known: int = 0
     faults: list[str] = field(default_factory=list)
+    gaps: list[tuple[int, int, str]] = field(default_factory=list)
     lost: list[tuple[str, str]] = field(default_factory=list)
+
+    def told(self, late: Container[tuple[str, int]]) -> Iterator[str]:
+        """What is wrong with its numbers. Those of `late` copies, each behind its seat, have a line that was refused.
+        """
+        yield from self.faults
+        for first, last, told in self.gaps:
+            yield from () if all((self.seat, it) in late for it in range(first, last + 1)) else (told,)
 
 
 class Turn(NamedTuple):
@@ -286,10 +294,12 @@ def _count(span: Span, seat: StoredSeat, steps: list[Step], turns: Sequence[Turn
     for before, after in zip(numbers, numbers[1:]):
         if after > before + 1 and times[before] < period.end:
             where = f"between {times[before]} and {times[after]}"
-            span.faults.append(f"{_named(before + 1, after - 1)} no line, {where}")
+            span.gaps.append((before + 1, after - 1, f"{_named(before + 1, after - 1)} no line, {where}"))
     span.faults += _older_faults(done, turns, period)
-    end = _end_fault(seat, span, own, numbers[-1], period)
-    span.faults += filter(None, [end, _last_fault(seat, steps)])
+    if seat.last > numbers[-1]:
+        told = f"no line, behind {span.at}: the journal lacks its end, or a foreign hand"
+        span.gaps.append((numbers[-1] + 1, seat.last, f"{_named(numbers[-1] + 1, seat.last)} {told}"))
+    span.faults += filter(None, [_end_fault(seat, own, period), _last_fault(seat, steps)])
 
 
 def _older_faults(done: Sequence[Step], turns: Sequence[Turn], period: Period) -> Iterator[str]:
@@ -311,11 +321,9 @@ def _named(first: int, last: int) -> str:
     return f"the number {first} has" if first == last else f"the numbers {first} to {last} have"
 
 
-def _end_fault(seat: StoredSeat, span: Span, own: list[Step], asked: int, period: Period) -> Optional[str]:
-    """Whether the store and the journals end with the same number: journals reach as far as the store does. A line of
-    the period that the store doesn't know shows an older store, but for one that was answered behind it."""
-    if seat.last > asked:
-        return f"{_named(asked + 1, seat.last)} no line, behind {span.at}: the journal lacks its end, or a foreign hand"
+def _end_fault(seat: StoredSeat, own: list[Step], period: Period) -> Optional[str]:
+    """A line of the period that the store doesn't know shows an older store, but for one that was answered behind
+    it."""
     done = (it for it in own if it.is_done() and it.number > seat.last)
     unknown = next((it for it in done if period.start <= max(it.at, it.answered) < period.end), None)
     if unknown:

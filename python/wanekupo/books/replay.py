@@ -226,7 +226,7 @@ class Answers:
         own = {"the order": set[str](), "the map": set[str](), "the imported serial number": set[str]()}
         for step in self._requests.papers:
             if step.path == ORDER:
-                own["the order"].add(str(step.asked["name"]))
+                own["the order"].add(str(step.asked.get("name")))
             elif step.path == MAP:
                 own["the map"].add(step.digest_of_text())
             else:

@@ -160,14 +160,15 @@ class Step:
     def slim(self) -> None:
         """Leaves away what nobody asks for: journals are long. What is left is a text or a number, or short: whoever
         writes a journal may nest anything, which takes many times its bytes."""
-        asked = ASKED if self.event not in ("", "identified") or self.path not in PATHS else self.asked.keys()
+        is_whole = self.path in PATHS and self.event in ("", "identified")
+        asked = self.asked.keys() if is_whole else ASKED
         self.asked = {name: _once(it) for name, it in self.asked.items() if name in asked}
         if "wishes" in self.asked:
             self.asked["wishes"] = part_text(self.asked["wishes"])
         if "blocks" in self.asked:
             self.asked["blocks"] = self.asked["blocks"][:MOST_BLOCKS]
         works = {name: part_text(self.reply[name]) for name in WORKS & self.reply.keys()}
-        names = REPLIED if self.event not in ("", "identified") else REPLIED | REPLIES.get(self.path, {}).keys()
+        names = REPLIED | REPLIES[self.path].keys() if is_whole else REPLIED
         self.reply = {**{name: _once(it) for name, it in self.reply.items() if name in names}, **works}
 
     def is_done(self) -> bool:

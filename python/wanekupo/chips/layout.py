@@ -6,10 +6,12 @@ plan, and what is burnt of one that has its identity. The map's form is on the p
 
 from __future__ import annotations
 
+import hashlib
 import tomllib
 from dataclasses import dataclass
 from typing import Any, Iterable, Mapping, Optional, Sequence
 
+from wanekupo.chips.families import bytes_of
 from wanekupo.chips.work import Word, Work
 
 # A bit of the chip: its block in the map, and its place in that block.
@@ -129,6 +131,20 @@ class Wanted:
             locks = {"written": layout.write_lock(name), "read": layout.read_lock(name)}
             told += [f"{name} can't be {word} any more" for word, lock in locks.items() if lock in there]
         return told
+
+    def unseen(self, blocks: Sequence[Sequence[str]]) -> list[str]:
+        """The names of what is wished for and that a chip doesn't show, though no burnt read lock hides it."""
+        there = self.layout.shown(blocks)
+        seen = [it for it in self.layout.fields.values() if self.layout.read_lock(it.name) not in there]
+        digests = {it.name: hashlib.sha256(bytes_of(blocks[it.block])).hexdigest() for it in seen if it.key}
+        hidden = {it.place(at) for it in self.layout.fields.values() if it not in seen for at in range(it.count)}
+        keys = [name for name, digest in self.keys.items() if digests.get(name, digest) != digest]
+        return self.layout.names(self.ones - there - hidden, keys)
+
+    def locked(self, work: Work) -> set[str]:
+        """The names of the keys over which a batch burns a lock."""
+        locks = {name: {self.layout.write_lock(name), self.layout.read_lock(name)} for name in self.keys}
+        return {name for name, its in locks.items() if its & places_of(work)}
 
     def missing(self, works: Iterable[Work]) -> list[str]:
         """The names of what is wished for and is in none of the works."""

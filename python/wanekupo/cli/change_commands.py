@@ -16,7 +16,7 @@ from wanekupo.common.errors import BadKey, BadSettings, Refused, StationError
 from wanekupo.chips.espefuse import TOOLS, Espefuse, KeyFile, NoEspefuse, NoFuses, find_tool, typed_lines, wishes_of
 from wanekupo.chips.families import Blocks, dump_of, family_of, map_of_family, names
 from wanekupo.seat.forms import TIME
-from wanekupo.seat.keys import key_digest, keep_csr, public_key_of
+from wanekupo.seat.keys import key_digest, keep_csr, sound_key_of
 from wanekupo.common.printing import Progress, print_shown, say_json, warn
 from wanekupo.seat.replies import identity_of
 from wanekupo.seat.import_rows import rows_of
@@ -273,7 +273,7 @@ def _identity(settings: Settings, args: argparse.Namespace) -> int:
         told = "Make a folder, and give --spool FOLDER: the request for the certificate is kept there."
         raise BadSettings("there is no spool folder", told)
     try:
-        public_key = public_key_of(**{form: data})
+        public_key = sound_key_of(settings.profile, **{form: data})
     except BadKey as error:
         raise BadKey(f"{file} can't be used: {error}", error.advice) from error
 

@@ -114,6 +114,7 @@ def _common(is_told: bool) -> argparse.ArgumentParser:
     group.add_argument("--seat", metavar="NAME", help="the seat's name, for the journal")
     group.add_argument("--operator", metavar="NAME", help="who sits there, for the journal")
     group.add_argument("--spool", metavar="FOLDER", help="where requests for certificates are kept")
+    group.add_argument("--profile", metavar="NAME", help="what certificates may be: plain, 802.1ar, matter-dac:VID:PID")
     said = "the token is a new one of the same seat, whose state file goes on with it"
     group.add_argument("--new-token", action="store_true", help=said)
     if not is_told:

@@ -8,12 +8,13 @@ from pathlib import Path
 from wanekupo.cli.change_commands import asks
 from wanekupo.seat.command_line import Command, file_text, told_as_error
 from wanekupo.seat.settings import Settings, looking_station_of
-from wanekupo.common.errors import NotTheServer, StationError
+from wanekupo.common.errors import BadSettings, NotTheServer, StationError
 from wanekupo.seat.journal import issued, merged
 from wanekupo.seat.journal_lines import add_folders, named_folders
 from wanekupo.books.pages import write
 from wanekupo.books.lost import LOST, given_up, lost_csv, lost_formulas, lost_text
 from wanekupo.common.moments import moment_of
+from wanekupo.common.site_file import SiteFileError, read_site_file
 from wanekupo.common.printing import Formulas, Progress, print_shown, table_lines, warn
 from wanekupo.books.report_counts import as_csv, as_text, counts_of, difference_of, formulas_of
 from wanekupo.seat.journal_restore import restore
@@ -27,7 +28,8 @@ many were registered. given_up: how many were quarantined, or scrapped without t
 (shipped + given_up), each counted when it happened, so that more may be shipped than begun."""
 REPORT = "a file that report or site-report printed, or - for standard input"
 GIVEN_UP = """, each chip once, by the clocks of the stations. The order is known where a journal has the chip's
-registration. A read-back without a reply is told on standard error."""
+registration. A read-back without a reply is told on standard error. With --folders a chip is its customer's, by the
+site file, or where that isn't there its folder's: then one that two stations gave up is there twice."""
 
 
 def _add_journals(parser: argparse.ArgumentParser) -> None:
@@ -60,13 +62,26 @@ def _add_lost(parser: argparse.ArgumentParser) -> None:
     _add_journals(parser)
     _add_times(parser)
     add_folders(parser)
+    said = "with --folders, the site file, which says whose each seat is (%(default)s)"
+    parser.add_argument("--site", type=Path, default=Path("/etc/station/site.toml"), metavar="FILE", help=said)
     parser.add_argument("--csv", metavar="FILE", help="write it as comma-separated values too")
     parser.add_argument("--json", action="store_true", help="a line of JSON each, in place of a table")
 
 
+def _customers_at(site: Path) -> dict[str, str]:
+    """The customer of each seat by a site file; of none where it can't be read here."""
+    try:
+        return {seat: it.name for seat, it in read_site_file(site).seats().items()}
+    except OSError:
+        return {}
+    except SiteFileError as error:
+        raise BadSettings(str(error), "Name the file that the server runs with.") from error
+
+
 def _lost(_: Settings, args: argparse.Namespace) -> int:
     folders = named_folders(args.folders) if args.folders else None
-    lines, unanswered = given_up(args.journals, args.from_time, args.to_time, folders)
+    customers = _customers_at(args.site) if folders else {}
+    lines, unanswered = given_up(args.journals, args.from_time, args.to_time, folders, customers)
     warn(*(f"warning: {it}" for it in [*unanswered, *(lost_formulas(lines) if args.csv else [])]))
     if args.csv:
         write(Path(args.csv), lost_csv(lines))

@@ -47,6 +47,9 @@ PRINTED, RELAYED, SAID, SMALL = 16 << 20, 1 << 20, 4000, 1 << 20
 # user's may have its pipe, and how long one may take of which nothing else is said: a copy of a large store takes that.
 # What root has done whole, as a backup with its way off or a restore, may take a day; what writes a line, a minute.
 PATIENCE, LINGER, LONGEST, DAY, MINUTE = 10, 3, 3600, 86400, 60
+# How SQLite's command reads another user's file: it runs no command of that file's, and writes none. It would read the
+# .sqliterc of its user's home before it heeds -safe, and run what stands there.
+SQLITE = ("sqlite3", "-init", os.devnull, "-safe", "-readonly")
 # Whoever traces a process that has ended keeps it from root for as long as he likes.
 KEPT = "a process of the store's user has ended, and another one of his keeps it: it was given up"
 OOM_SCORE = "/proc/self/oom_score_adj"

@@ -25,16 +25,21 @@ from wanekupo.common.errors import PAGES, BadKey, BadSettings, StationError
 from wanekupo.common.files import IS_POSIX, OTHERS_WRITE, locked, opened_lock, replace_bytes, sync, tested_folder
 from wanekupo.lots.idevid import TIME, chain_fault, certificate_faults, late_fault, moment_now
 from wanekupo.lots.spools import CertificateRequest, certificates_of, der_of, pem_of
+from wanekupo.seat.profiles import PLAIN, Profile
 
 READABLE = 0o644
 OTHERS_READ = 0o044
+
+# The statuses by which another command says that it has issued nothing. Behind each other one nobody knows: a signal,
+# a reply that was lost.
+NOTHING = range(1, 64)
 
 # How many seconds a signature may take, and how many bytes have to be free: `openssl ca` tells of no full disk.
 LONGEST, ROOM = 120, 1 << 20
 
 # In the index of `openssl ca`: a row's state, its time of revocation, the certificate's own number and its subject.
 STATE, NUMBER, SUBJECT = 0, 3, 5
-OF_DEVICE = re.compile(r"/serialNumber=([A-Z0-9-]{1,64})")
+OF_DEVICE = re.compile(r"/serialNumber=([A-Z0-9-]{1,64})(?:/vid=[0-9A-F]{4}/pid=[0-9A-F]{4})?")
 
 # A key that stays in a token, as a configuration names it, and where that one's PIN is.
 TOKEN = re.compile(r"""^\s*private_key\s*=\s*["']?pkcs11:([^"'\n]*)""", re.MULTILINE)
@@ -58,8 +63,8 @@ class Authority:
     """The folder of a CA, which one process has at a time. The command that signs keeps the lock too, should this
     process end before it."""
 
-    def __init__(self, folder: Path, command: Optional[Sequence[str]] = None):
-        self.folder, self.command = folder, command
+    def __init__(self, folder: Path, profile: Profile = PLAIN, command: Optional[Sequence[str]] = None):
+        self.folder, self.profile, self.command = folder, profile, command
         self.trusted, self.issued, self._config = folder / "ca.pem", folder / "issued", folder / "ca.cnf"
         needed = [self.trusted] if command else [self.trusted, self._config]
         for file in needed:
@@ -134,14 +139,19 @@ class Authority:
     def keep(self, certificate: Any, record: Mapping[str, Any], told: str, faults: Sequence[str] = ()) -> bytes:
         """Keeps a certificate as the record's one, where it is as it has to be; else a person is told what to do."""
         serial = record["serial"]
-        wrong = [*faults, *certificate_faults(certificate, record), *chain_fault(certificate, [], self.trusted)]
+        wrong = [*faults, *certificate_faults(certificate, record, self.profile)]
+        wrong += chain_fault(certificate, [], self.trusted)
         if wrong:
             raise NotCertified(f"the certificate of {serial} isn't as it has to be: {'; '.join(wrong)}", told)
         pem = pem_of("CERTIFICATE", der_of(certificate)).encode()
         replace_bytes(self.issued / f"{serial}.pem", pem, READABLE)
+        self._forget(serial)
+        return pem
+
+    def _forget(self, serial: str) -> None:
+        """Has a certificate no longer be one that was asked for."""
         with contextlib.suppress(FileNotFoundError):
             (self.issued / f"{serial}.asked").unlink()
-        return pem
 
     def certified(self, record: Mapping[str, Any], request: CertificateRequest) -> tuple[bytes, bool]:
         """The certificate of a record, as PEM, and whether it was issued now. A request of it was looked at."""
@@ -189,12 +199,12 @@ class Authority:
             csr, out = Path(folder) / f"{record['serial']}.csr", Path(folder) / "out.pem"
             csr.write_text(request.pem, encoding="ascii")
             facts = {name.upper(): record[name] for name in ("serial", "chip", "issuer", "key_sha256", "not_after")}
-            facts |= {"CSR": str(csr), "NOT_BEFORE": begins}
+            facts |= {"CSR": str(csr), "NOT_BEFORE": begins, "SUBJECT": self.profile.subject(record["serial"])}
             if self.command:
                 out.write_bytes(self._ran(self.command, record["serial"], facts))
             else:
                 times = ["-startdate", begins, "-enddate", record["not_after"]]
-                files = ["-in", str(csr), "-out", str(out), "-subj", f"/serialNumber={record['serial']}"]
+                files = ["-in", str(csr), "-out", str(out), "-subj", self.profile.subject(record["serial"])]
                 self._ran([*self._openssl(), "-batch", "-notext", *times, *files], record["serial"])
             data = out.read_bytes()
         try:
@@ -219,8 +229,8 @@ class Authority:
         return ["openssl", "ca", "-config", "ca.cnf", *engine]
 
     def _ran(self, words: Sequence[str], what: str, facts: Optional[Mapping[str, str]] = None) -> bytes:
-        """What a command prints. One that ends with another status than 0 has issued nothing, and is asked again by the
-        next run."""
+        """What a command prints. One that didn't start, or that says so by its status, has issued nothing, and is asked
+        again by the next run. Of another command's other ends a person looks what became."""
         try:
             done = subprocess.run(
                 list(words),
@@ -232,16 +242,20 @@ class Authority:
                 timeout=LONGEST,
                 pass_fds=(self._lock,),
             )
-        except FileNotFoundError:
-            raise BadSettings(f"there is no command {words[0]}", "Look at its name.") from None
+        except OSError as error:
+            self._forget(what)
+            told = "Look at its name, and whether it may be run."
+            raise BadSettings(f"there is no command {words[0]} that starts ({error.strerror})", told) from None
         except subprocess.TimeoutExpired:
             told = "No other one was asked for. Look in the CA whether it was signed, and begin again."
             ended = f"{words[0]} didn't end within {LONGEST} seconds"
             raise BadSigner(f"the certificate of {what} wasn't had: {ended}", told) from None
+        ended = f"{words[0]} {_end_of(done)}"
+        if done.returncode and self.command and done.returncode not in NOTHING:
+            told = "No other one was asked for. Look in the CA whether it was signed, and begin again."
+            raise BadSigner(f"nobody knows whether the certificate of {what} was signed: {ended}", told)
         if done.returncode:
-            with contextlib.suppress(FileNotFoundError):
-                (self.issued / f"{what}.asked").unlink()
-            ended = f"{words[0]} {_end_of(done)}"
+            self._forget(what)
             told = "No other one was asked for. Look at the CA, its key and the PIN of that, and begin again."
             raise BadSigner(f"the certificate of {what} wasn't signed: {ended}", told)
         return done.stdout

@@ -21,8 +21,9 @@ from wanekupo.seat.settings import Settings, looking_station_of
 from wanekupo.common.errors import BadKey, BadSettings, NotTheServer, StationError, UnsafeFile
 from wanekupo.common.files import replace_bytes, tested_folder
 from wanekupo.seat.forms import CHIP, SERIAL
-from wanekupo.lots.idevid import REVOKED, TIME, chain_fault, certificate_faults, is_early, moment_now, weakness_of
-from wanekupo.seat.keys import library
+from wanekupo.lots.idevid import REVOKED, TIME, chain_fault, certificate_faults, is_early, moment_now
+from wanekupo.seat.keys import library, weakness_of
+from wanekupo.seat.profiles import Profile
 from wanekupo.common.printing import Progress, print_shown, say_json, warn
 from wanekupo.seat.replies import Listed
 from wanekupo.common.sentences import sentence_of
@@ -98,7 +99,10 @@ def certify(settings: Settings, args: argparse.Namespace) -> int:
     spool = Path(args.folder)
     serials = list(_serials_in(spool))
     counts = {"issued": 0, "present": 0, "refused": 0}
-    with Authority(Path(args.ca_folder), args.sign_with) as authority, looking_station_of(settings) as station:
+    with (
+        Authority(Path(args.ca_folder), settings.profile, args.sign_with) as authority,
+        looking_station_of(settings) as station,
+    ):
         if args.issuer and authority.issuer() not in (None, args.issuer):
             told = "Take that one's folder, or leave --issuer away."
             raise BadSettings(f"{args.ca_folder} certifies for {authority.issuer()}, and not for {args.issuer}", told)
@@ -150,7 +154,7 @@ def _certified(spool: Path, serial: str, authority: Authority, books: DevicesByS
         _check_kept(request, pem, spool / f"{serial}.csr")
     if pem is None or there != pem:
         listed, record = books.record(serial)
-        _check(request, record, spool / f"{serial}.csr")
+        _check(request, record, spool / f"{serial}.csr", authority.profile)
         authority.take(record["issuer"])
         if pem is None and there is not None:
             told = "Look where it is from, and take it out of the spool."
@@ -173,14 +177,14 @@ def _check_kept(request: CertificateRequest, pem: bytes, file: Path) -> None:
         raise NotCertified(f"{file} has another key than the certificate of its serial number", told)
 
 
-def _check(request: CertificateRequest, record: Mapping[str, Any], file: Path) -> None:
+def _check(request: CertificateRequest, record: Mapping[str, Any], file: Path, profile: Profile) -> None:
     """Holds a request to the record of its serial number: the key, and the chip where its subject names one."""
     if request.digest != record["key_sha256"]:
         told = "Look which chip each is of, before anything else. The device keeps its record."
         raise NotCertified(f"{file} has another key than the record of the chip {record['chip']}", told)
     x509 = library("x509")
     asked = x509.load_der_x509_csr(request.der)
-    weakness = ", ".join(weakness_of(asked.public_key()))
+    weakness = ", ".join(weakness_of(asked.public_key(), profile))
     if weakness:
         told = "No CA certifies it. Scrap the device, and have the next one made with another kind of key."
         raise NotCertified(f"{file}, of the chip {record['chip']}, can't be certified: {weakness}", told)
@@ -195,7 +199,7 @@ def _check(request: CertificateRequest, record: Mapping[str, Any], file: Path) -
 
 
 def verify_certificates(settings: Settings, args: argparse.Namespace) -> int:
-    trusted, crl = tested_crl(args.trusted, args.crl)
+    held = (settings.profile, *tested_crl(args.trusted, args.crl))
     library("x509")
     chains = {name: _chain_of(name) for name in dict.fromkeys(args.certificates)}
     serials = {name: _serial_of(chain[0]) for name, chain in chains.items() if chain}
@@ -205,7 +209,7 @@ def verify_certificates(settings: Settings, args: argparse.Namespace) -> int:
         for name, chain in chains.items():
             try:
                 if chain:
-                    print_shown(f"{name}: {_verified(chain, serials[name], books, trusted, crl)}\n")
+                    print_shown(f"{name}: {_verified(chain, serials[name], books, *held)}\n")
             except (NotCertified, BadKey) as error:
                 warn(f"{name}: {sentence_of(error)}")
                 refused += 1
@@ -240,12 +244,14 @@ def _serial_of(certificate: Any) -> str:
     return numbers[0] if len(numbers) == 1 and SERIAL.fullmatch(numbers[0]) else ""
 
 
-def _verified(chain: Sequence[Any], serial: str, books: DevicesBySerial, trusted: Path, crl: Optional[Path]) -> str:
+def _verified(
+    chain: Sequence[Any], serial: str, books: DevicesBySerial, profile: Profile, trusted: Path, crl: Optional[Path]
+) -> str:
     if not serial:
         raise NotCertified("it has no serialNumber of a record in its subject")
     listed, record = books.record(serial)
     whose = f"{serial}, the chip {listed.chip}"
-    wrong = [*certificate_faults(chain[0], record), *chain_fault(chain[0], chain[1:], trusted, crl)]
+    wrong = [*certificate_faults(chain[0], record, profile), *chain_fault(chain[0], chain[1:], trusted, crl)]
     if wrong == [REVOKED]:
         raise NotCertified(f"it is the certificate of {whose}, and its CA revoked it", "Trust this device no more.")
     if wrong:

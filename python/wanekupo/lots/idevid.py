@@ -15,29 +15,26 @@ from typing import Any, Callable, Iterator, Mapping, Optional, Sequence
 
 from wanekupo.common.errors import BadKey, BadSettings
 from wanekupo.common.process import run_command
-from wanekupo.seat.keys import library
+from wanekupo.seat.keys import library, weakness_of
+from wanekupo.seat.profiles import PID, PLAIN, VID, Profile
 from wanekupo.lots.spools import certificates_of, der_of, key_of_certificate, pem_of
 
 # The form of a time in a record, and the one of a validity without an end.
 TIME = "%Y%m%d%H%M%SZ"
 
-# The extensions that a certificate has, and whether each is marked critical. It may have those `BESIDES`, which aren't
-# critical, and none else.
+# The extensions that a certificate has, and whether each is marked critical. It may have its profile's `besides`, which
+# aren't critical, and none else.
 EXTENSIONS = {
     "basicConstraints": True,
     "keyUsage": True,
     "subjectKeyIdentifier": False,
     "authorityKeyIdentifier": False,
 }
-BESIDES = ("authorityInfoAccess", "cRLDistributionPoints")
 USAGES = "digital_signature content_commitment key_encipherment data_encipherment key_agreement".split()
 USAGES += ["key_cert_sign", "crl_sign"]
 
-# The keys that a device may have, and how its certificate may be signed.
-CURVES = ("secp256r1", "secp384r1", "secp521r1")
-LEAST_BITS, LEAST_EXPONENT = 2048, 65_537
-KEYS = f"RSA of {LEAST_BITS} bits or more, EC on {', '.join(CURVES)}, or Ed25519, Ed448"
-SIGNATURE = re.compile(r"ecdsa-with-SHA(256|384|512)|sha(256|384|512)WithRSAEncryption|ed25519|ed448")
+# The attributes of names that the library has no word for.
+NAMED = {oid: name for name, oid in (VID, PID)}
 
 # A certificate's own number is positive, and has 20 bytes at the most (RFC 5280, section 4.1.2.2).
 NUMBERS = range(1, 1 << 159)
@@ -68,65 +65,60 @@ def validity_of(certificate: Any) -> tuple[datetime, datetime]:
     return begins, ends
 
 
-def certificate_faults(certificate: Any, record: Record) -> Iterator[str]:
+def certificate_faults(certificate: Any, record: Record, profile: Profile = PLAIN) -> Iterator[str]:
     """What of a certificate isn't as its record wants it, each in words: what is there, and what is wanted."""
     library("x509")
     for part, look in PARTS.items():
         try:
-            yield from look(certificate, record)
+            yield from look(certificate, record, profile)
         except Exception as error:  # the library has errors of many kinds for what it can't read
             yield f"its {part} can't be read: {error}"
 
 
-def _head_faults(certificate: Any, _: Record) -> Iterator[str]:
+def _head_faults(certificate: Any, _: Record, profile: Profile) -> Iterator[str]:
     if certificate.version != library("x509").Version.v3:
         yield f"it is of X.509 {certificate.version.name}, and not of v3"
     if certificate.serial_number not in NUMBERS:
         yield f"its number is {certificate.serial_number:#x}, and not a positive one of 20 bytes at the most"
     oid = certificate.signature_algorithm_oid
-    if not SIGNATURE.fullmatch(oid._name):
-        told = "ECDSA or RSA (PKCS #1) with SHA-256, 384 or 512, or Ed25519, Ed448"
-        yield f"it is signed by {oid._name} ({oid.dotted_string}), and not by {told}"
+    if oid._name not in profile.signatures:
+        yield f"it is signed by {oid._name} ({oid.dotted_string}), and not by {' or '.join(profile.signatures)}"
+    if len(der_of(certificate)) > profile.longest:
+        yield f"it has {len(der_of(certificate))} bytes as DER, and {profile.longest} at the most are taken"
 
 
-def _subject_faults(certificate: Any, record: Record) -> Iterator[str]:
-    """The subject is one attribute, in the one form of DER: X.520 has a serial number as a PrintableString."""
+def _subject_faults(certificate: Any, record: Record, profile: Profile) -> Iterator[str]:
+    """The subject is the serial number and the profile's attributes, in the one form of DER: X.520 has a serial number
+    as a PrintableString. Of the issuer's name a profile's attributes are the same, where it has them; it has the
+    first."""
     x509, subject = library("x509"), certificate.subject
-    wanted = x509.Name([x509.NameAttribute(x509.NameOID.SERIAL_NUMBER, record["serial"])])
+    more = [x509.NameAttribute(x509.ObjectIdentifier(oid), value) for _, oid, value in profile.attributes]
+    wanted = x509.Name([x509.NameAttribute(x509.NameOID.SERIAL_NUMBER, record["serial"]), *more])
     if subject.public_bytes() != wanted.public_bytes():
-        shown = [" + ".join(f"{it.oid._name}={it.value} as {it._type.name}" for it in rdn) for rdn in subject.rdns]
-        there = ", ".join(shown)[:300] or "empty"
-        yield f"its subject is {there}, and not serialNumber={record['serial']} as PrintableString alone"
+        yield f"its subject is {_shown(subject)}, and not {_shown(wanted)} alone"
+    for place, it in enumerate(more):
+        found = [its.value for its in certificate.issuer.get_attributes_for_oid(it.oid)]
+        if found != [it.value] and (found or place == 0):
+            yield f"its issuer's name has {', '.join(found) or 'no'} {NAMED[it.oid.dotted_string]}, and not {it.value}"
 
 
-def _key_faults(certificate: Any, record: Record) -> Iterator[str]:
+def _shown(name: Any) -> str:
+    rdns = ([(NAMED.get(it.oid.dotted_string, it.oid._name), it) for it in rdn] for rdn in name.rdns)
+    shown = [" + ".join(f"{its}={it.value} as {it._type.name}" for its, it in rdn) for rdn in rdns]
+    return ", ".join(shown)[:300] or "empty"
+
+
+def _key_faults(certificate: Any, record: Record, profile: Profile) -> Iterator[str]:
     key = key_of_certificate(certificate)
     digest = hashlib.sha256(key).hexdigest()
     if digest != record["key_sha256"]:
         yield f"it has another key than the record: the SHA-256 is {digest}, and not {record['key_sha256']}"
     if key not in certificate.tbs_certificate_bytes:
         yield "its key isn't in the one form of DER"
-    yield from weakness_of(certificate.public_key())
+    yield from weakness_of(certificate.public_key(), profile)
 
 
-def weakness_of(key: Any) -> Iterator[str]:
-    """Why a public key is none that a device may have, in words."""
-    kinds = ("rsa", "ec", "ed25519", "ed448")
-    rsa, ec, ed25519, ed448 = (library(f"hazmat.primitives.asymmetric.{it}") for it in kinds)
-    if isinstance(key, rsa.RSAPublicKey):
-        exponent = key.public_numbers().e
-        if key.key_size < LEAST_BITS:
-            yield f"its key is RSA of {key.key_size} bits, and not of {LEAST_BITS} or more"
-        if exponent < LEAST_EXPONENT or exponent % 2 == 0:
-            yield f"its key is RSA with the exponent {exponent:#x}, and not an odd one from {LEAST_EXPONENT:#x} on"
-    elif isinstance(key, ec.EllipticCurvePublicKey):
-        if key.curve.name not in CURVES:
-            yield f"its key is on the curve {key.curve.name}, and not {KEYS}"
-    elif not isinstance(key, (ed25519.Ed25519PublicKey, ed448.Ed448PublicKey)):
-        yield f"its key is of another kind ({type(key).__name__.strip('_')}), and not {KEYS}"
-
-
-def _time_faults(certificate: Any, record: Record) -> Iterator[str]:
+def _time_faults(certificate: Any, record: Record, _: Profile) -> Iterator[str]:
     begins, ends = (it.strftime(TIME).rjust(15, "0") for it in validity_of(certificate))
     if record["not_before"] not in (None, begins):
         yield f"it begins at {begins}, and the record at {record['not_before']}"
@@ -136,7 +128,7 @@ def _time_faults(certificate: Any, record: Record) -> Iterator[str]:
         yield f"it ends at {ends}, and the record at {record['not_after']}"
 
 
-def _extension_faults(certificate: Any, _: Record) -> Iterator[str]:
+def _extension_faults(certificate: Any, _: Record, profile: Profile) -> Iterator[str]:
     extensions = list(certificate.extensions)
     found = {it.oid._name: it for it in extensions}
     for name, is_critical in EXTENSIONS.items():
@@ -147,9 +139,9 @@ def _extension_faults(certificate: Any, _: Record) -> Iterator[str]:
         else:
             yield from _value_faults(name, found[name].value, certificate)
     for it in extensions:
-        if it.oid._name not in EXTENSIONS and (it.critical or it.oid._name not in BESIDES):
+        if it.oid._name not in EXTENSIONS and (it.critical or it.oid._name not in profile.besides):
             told = f"{it.oid._name} ({it.oid.dotted_string}){', critical' if it.critical else ''}"
-            yield f"it has the extension {told}, which no device's certificate has"
+            yield f"it has the extension {told}, which no certificate of {profile.name} has"
 
 
 def _value_faults(name: str, value: Any, certificate: Any) -> Iterator[str]:
@@ -169,7 +161,7 @@ def _value_faults(name: str, value: Any, certificate: Any) -> Iterator[str]:
 
 
 # What is looked at, by the words for it.
-PARTS: Mapping[str, Callable[[Any, Record], Iterator[str]]] = {
+PARTS: Mapping[str, Callable[[Any, Record, Profile], Iterator[str]]] = {
     "head": _head_faults,
     "subject": _subject_faults,
     "key": _key_faults,

@@ -10,12 +10,16 @@ import hashlib
 import importlib
 import warnings
 from pathlib import Path
-from typing import Any, Optional
+from typing import Any, Iterator, Optional
 
 from wanekupo.common.errors import BadKey
 from wanekupo.common.files import replace_bytes
+from wanekupo.seat.profiles import LEAST_BITS, LEAST_EXPONENT, Profile
 
 READABLE = 0o644
+
+# The least bits of a curve with 112 bits of strength.
+LEAST_CURVE = 224
 
 
 def public_key_of(pem: Optional[bytes] = None, der: Optional[bytes] = None, csr: Optional[bytes] = None) -> bytes:
@@ -86,6 +90,42 @@ def _key_of_request(csr: bytes) -> bytes:
     if found not in request.tbs_certrequest_bytes:
         raise BadKey("the key of this request for a certificate isn't in the one form of DER", told)
     return found
+
+
+def sound_key_of(profile: Profile, **given: Optional[bytes]) -> bytes:
+    """The same, for a record: a weak key is refused before the server hears of it. A request for a certificate has one
+    of the profile's; of a key alone no certificate is asked for, and it has 112 bits of strength at least."""
+    found = public_key_of(**given)
+    key = library("hazmat.primitives.serialization").load_der_public_key(found)
+    weakness = ", ".join(weakness_of(key, profile) if given.get("csr") is not None else _shortness_of(key))
+    if weakness:
+        told = "Nothing was sent. Mend what makes the keys: a key that has a record can't be changed any more."
+        raise BadKey(weakness, told)
+    return found
+
+
+def _shortness_of(key: Any) -> Iterator[str]:
+    size = getattr(key, "key_size", LEAST_BITS)
+    is_curve = isinstance(key, library("hazmat.primitives.asymmetric.ec").EllipticCurvePublicKey)
+    if size < (LEAST_CURVE if is_curve else LEAST_BITS):
+        yield f"its key of {size} bits has less than 112 bits of strength"
+
+
+def weakness_of(key: Any, profile: Profile) -> Iterator[str]:
+    """Why a public key is none that a certificate of a profile may have, in words."""
+    kinds = ("rsa", "ec", "ed25519", "ed448")
+    rsa, ec, ed25519, ed448 = (library(f"hazmat.primitives.asymmetric.{it}") for it in kinds)
+    if isinstance(key, rsa.RSAPublicKey) and profile.has_rsa:
+        exponent = key.public_numbers().e
+        if key.key_size < LEAST_BITS:
+            yield f"its key is RSA of {key.key_size} bits, and not of {LEAST_BITS} or more"
+        if exponent < LEAST_EXPONENT or exponent % 2 == 0:
+            yield f"its key is RSA with the exponent {exponent:#x}, and not an odd one from {LEAST_EXPONENT:#x} on"
+    elif isinstance(key, ec.EllipticCurvePublicKey):
+        if key.curve.name not in profile.curves:
+            yield f"its key is on the curve {key.curve.name}, and not {profile.keys}"
+    elif not (profile.has_edwards and isinstance(key, (ed25519.Ed25519PublicKey, ed448.Ed448PublicKey))):
+        yield f"its key is of another kind ({type(key).__name__.strip('_')}), and not {profile.keys}"
 
 
 def key_digest(public_key: bytes) -> str:

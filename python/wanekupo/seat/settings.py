@@ -18,6 +18,7 @@ from typing import Any, Callable, Mapping, Optional, Sequence
 
 from wanekupo.common.errors import BadSettings
 from wanekupo.seat.journal import Journal
+from wanekupo.seat.profiles import PLAIN, Profile, profile_of
 from wanekupo.seat.station import Station
 
 FILES = (Path("~/.config/wanekupo.toml"), Path("/etc/wanekupo/client.toml"))
@@ -34,7 +35,8 @@ TRUTHS = {"1": True, "true": True, "yes": True, "0": False, "false": False, "no"
 @dataclass(frozen=True)
 class Settings:
     """`journal` is a file, or a folder that has a file a day; `spool` the folder that keeps the requests for
-    certificates; `seat` and `operator` are the names that each line of the journal has."""
+    certificates, and `profile` what these may be; `seat` and `operator` are the names that each line of the journal
+    has."""
 
     url: str = "http://127.0.0.1:8080"
     token: Optional[Path] = None
@@ -46,6 +48,7 @@ class Settings:
     seat: str = ""
     operator: str = ""
     spool: Optional[Path] = None
+    profile: Profile = PLAIN
 
 
 # What a setting's value may be, and how it is read. A path counts from the folder of the file that has it.
@@ -73,6 +76,10 @@ def _name(given: Any, folder: Path) -> str:
     return name
 
 
+def _profile(given: Any, folder: Path) -> Profile:
+    return profile_of(_text(given, folder))
+
+
 def _truth(given: Any, _: Path) -> bool:
     found = TRUTHS.get(str(given).lower())
     if found is None:
@@ -93,6 +100,7 @@ def _seconds(given: Any, _: Path) -> float:
 READERS: dict[str, Callable[[Any, Path], Any]] = {
     "url": _text, "token": _path, "state": _path, "journal": _path, "ca": _path, "insecure": _truth,
     "patience": _seconds, "seat": _name, "operator": _text, "spool": _path,
+    "profile": _profile,
 }  # fmt: skip
 
 

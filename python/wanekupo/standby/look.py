@@ -20,7 +20,7 @@ from pathlib import Path
 from wanekupo.common.errors import PAGES
 from wanekupo.standby import living
 from wanekupo.standby.half import Half, StandbyError, done, run_bounded
-from wanekupo.common.store_user import StoreFolder, user_named
+from wanekupo.common.store_user import SQLITE, StoreFolder, user_named
 from wanekupo.common.site_file import SiteFileError, read_site_file
 
 # A seat and its last number, in a line of a witness, and of what sqlite3 reads of a half.
@@ -146,7 +146,7 @@ def contents(half: Half) -> Contents:
             tested_owner(half, store)
             words = [settings.program, "replay", "--site", settings.site, "--db", "books.db", "--existing"]
             as_user(half, words, shown)
-            text = as_user(half, ["sqlite3", "-safe", "-readonly", "books.db", SEATS], shown)
+            text = as_user(half, [*SQLITE, "books.db", SEATS], shown)
             return Contents(numbers_of(text, seats_of(settings.site)), living.listed_tokens(store.handle))
         finally:
             os.close(store.handle)

@@ -69,7 +69,7 @@ def stick(place: Place) -> None:
             tar.addfile(found, io.BytesIO(text.encode()))
     place.second.stick.write_bytes(data.getvalue())
     place.second.ask("cd / && timeout 120 nc 10.0.2.100 10 < /dev/null > /run/stick.tar; tar xf /run/stick.tar", 200)
-    place.second.ask("chown -R station:station /run/stick && chown root:root /run/stick/journals.toml")
+    place.second.ask("chown -R station:station /run/stick/journals")
     place.second.ask("mkdir -p /var/backups/station")
     place.second.ask("chown station:station /var/backups/station && chmod 700 /var/backups/station")
 

@@ -254,7 +254,6 @@ def run_snapshot(args: argparse.Namespace) -> None:
 
 
 def begin_alone(args: argparse.Namespace) -> None:
-    with_lock(args)
     with sole_backup(args.into):
         begin(args)
 

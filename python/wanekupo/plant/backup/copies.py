@@ -19,6 +19,7 @@ from wanekupo.common.files import replace_file, sync
 from wanekupo.common.moments import now_text
 from wanekupo.common.process import succeeds
 from wanekupo.common.signing import digest_of_file
+from wanekupo.common.store_user import SQLITE
 
 FILES = ("books.db", "books.db-wal")
 ABOUT = "about.json"
@@ -77,7 +78,7 @@ def run_unpiped(*words: str) -> subprocess.CompletedProcess[str]:
 
 def safely(*words: str) -> subprocess.CompletedProcess[str]:
     """sqlite3 in its safe mode."""
-    return run_unpiped("sqlite3", "-safe", "-readonly", *words)
+    return run_unpiped(*SQLITE, *words)
 
 
 def is_served(db: Path) -> bool:

@@ -4,15 +4,17 @@ Each is noted before it is begun, and may be done twice. Once the new text is in
 store may hold it from the first moment of a start on: the new text opens a store of either.
 """
 
+import contextlib
 import http.client
 import os
 import shlex
 import signal
+import socket
 import ssl
 import stat
+import threading
 import time
-import urllib.error
-import urllib.request
+import urllib.parse
 from pathlib import Path
 
 from wanekupo.plant.trial_copy import Backup
@@ -189,23 +191,39 @@ def tell_failed(place: Place, plan: GrowthPlan, said: str) -> None:
 
 
 def status_of(url: str, token: str, certificate: str = "") -> int:
-    """The status of an answer. nginx is this machine's own: its certificate has to be the one of its file."""
-    context = None
-    if certificate:
-        context = ssl.create_default_context(cafile=certificate)
-        context.check_hostname = False
-        context.verify_flags |= ssl.VERIFY_X509_PARTIAL_CHAIN
-    request = urllib.request.Request(url)
-    if token:
-        request.add_unredirected_header("Authorization", f"Bearer {token}")
-    handlers: list[urllib.request.BaseHandler] = [urllib.request.ProxyHandler({})]
-    if context:
-        handlers.append(urllib.request.HTTPSHandler(context=context))
-    try:
-        with urllib.request.build_opener(*handlers).open(request, timeout=PATIENCE) as reply:
-            return int(reply.status)
-    except urllib.error.HTTPError as error:
-        return error.code
+    """The status of an answer. Where the server listens its user may answer a byte at a time for ever, or name another
+    place: so all of it has a bound, and root asks nobody else. nginx is this machine's own: its certificate has to be
+    the one of its file."""
+    at = urllib.parse.urlsplit(url)
+    asked = http.client.HTTPConnection(at.hostname or "", at.port, timeout=PATIENCE)
+    if at.scheme == "https":
+        context = ssl.create_default_context(cafile=certificate or None)
+        if certificate:
+            context.check_hostname = False
+            context.verify_flags |= ssl.VERIFY_X509_PARTIAL_CHAIN
+        asked = http.client.HTTPSConnection(at.hostname or "", at.port, timeout=PATIENCE, context=context)
+    own = {"Authorization": f"Bearer {token}"} if token else {}
+    with contextlib.closing(asked):
+        asked.connect()
+        late = threading.Event()
+        bound = threading.Timer(PATIENCE, _cut, (asked.sock, late))
+        bound.daemon = True
+        bound.start()
+        try:
+            asked.request("GET", f"{at.path or '/'}?{at.query}".rstrip("?"), headers={"Connection": "close", **own})
+            status = asked.getresponse().status
+        finally:
+            bound.cancel()
+    if late.is_set():
+        raise TimeoutError("it took too long")
+    return status
+
+
+def _cut(connection: socket.socket, late: threading.Event) -> None:
+    """Ends a connection of which an answer is still read."""
+    late.set()
+    with contextlib.suppress(OSError):
+        connection.shutdown(socket.SHUT_RDWR)
 
 
 def answer_of(who: str, url: str, token: str, certificate: str = "") -> int:

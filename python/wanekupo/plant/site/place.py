@@ -17,7 +17,9 @@ from pathlib import Path
 from wanekupo.plant.trial_copy import Backup, copy_files, copy_running, newest_backup
 from wanekupo.common.process import own_command
 from wanekupo.common.rooms import room
-from wanekupo.common.store_user import MINUTE, SMALL, StoreFolder, StoreUser, read_small, readable, reader_for, shown
+from wanekupo.common.store_user import (
+    MINUTE, SMALL, SQLITE, StoreFolder, StoreUser, read_small, readable, reader_for, shown,
+)  # fmt: skip
 from wanekupo.common.token_file import TokenError
 
 
@@ -119,7 +121,7 @@ class Place:
             if all(said):
                 raise TokenError(4, f"the program opens no copy of {self.db}: {said[0]}")
         with self.copied(self.db, self.size()) as copy:
-            words = ("sqlite3", "-safe", "-readonly", str(copy), "SELECT hex(body) FROM site_text")
+            words = (*SQLITE, str(copy), "SELECT hex(body) FROM site_text")
             done = self.user.run(*words)
         if done.returncode or not re.fullmatch(r"[0-9A-F]+\n", done.stdout):
             raise TokenError(4, f"sqlite3 can't read {self.db}: {shown(done.stderr).strip()}")

@@ -1,0 +1,10 @@
+-- The lemmas of this crate.
+pub mod Among
+pub mod Standing
+pub mod Serving
+pub mod Acting
+pub mod Events
+pub mod Refused
+pub mod Running
+pub mod Counts
+pub mod Counting

@@ -1,0 +1,82 @@
+-- What a station may conclude.
+use Rattle.std.specs.Prelude.{◌≡◌, ◌⊎◌, ℕ, suc, ◌≤◌, ◌==◌, if◌then◌else◌, List, [], ◌∷◌, Option, None, Some}
+use Rattle.std.specs.List.{AllByRecursion}
+use Rattle.seat_core.specs.declared.act.Act.{Act}
+use Rattle.seat_core.specs.declared.act.Act.TheVariants.{LogRequest, LogOutcome}
+use Rattle.seat_core.specs.declared.request.Answered.{Answered}
+use Rattle.seat_core.specs.declared.request.Outcome.TheVariants.{Done}
+use Rattle.seat_core.specs.declared.request.Sent.{Sent}
+use Rattle.seat_core.specs.declared.station.Place.{Place}
+use Rattle.seat_core.specs.declared.station.Place.TheVariants.{Unknown, Free, UnderWay}
+use Rattle.seat_laws.specs.Served.{Entry, IsInOrder, entry_of}
+use Rattle.seat_laws.specs.Runs.{IsAmong, World}
+
+-- the newest line of a request
+abbrev pub line_of_request : List Act → Option Sent
+line_of_request [] = None
+line_of_request (LogRequest sent ∷ log) = Some sent
+line_of_request (act ∷ log) = line_of_request log
+
+-- with this one, unless the newest has its number
+abbrev pub with_entry : Entry → List Entry → List Entry
+with_entry entry [] = entry ∷ []
+with_entry entry (newest ∷ older) =
+    if newest.number == entry.number then newest ∷ older else entry ∷ newest ∷ older
+
+abbrev pub with_reply : Option Sent → ℕ → List Entry → List Entry
+with_reply None reply done = done
+with_reply (Some sent) reply done = with_entry (entry_of sent reply) done
+
+-- What the log has as done, the newest first: each line of a reply, with the request of the line
+-- before it. A line that comes again, behind a stop, is no other request.
+abbrev pub done_in : List Act → List Entry
+done_in [] = []
+done_in (LogOutcome number (Done reply) ∷ log) =
+    with_reply (line_of_request log) reply (done_in log)
+done_in (act ∷ log) = done_in log
+
+-- the request is under way with this number, or kept aside where it is the next one's
+abbrev pub IsPending : Place → List ℕ → ℕ → ℕ → Type 0
+IsPending Unknown aside number request = ⊥
+IsPending (Free next) aside number request = (number ≡ next) × IsAmong request aside
+IsPending (UnderWay sent) aside number request =
+    (number ≡ sent.number) × IsAmong request (sent.request ∷ aside)
+
+-- the server has accepted one more than the log has: it is under way, or kept aside
+pub record IsOneMore (w : World) : Type 0 where
+  pub entry : Entry
+  pub books : w.books ≡ entry ∷ done_in w.log
+  pub pending :
+      IsPending w.station.file.place w.station.file.aside entry.number entry.request
+
+-- it was accepted, and got this reply
+abbrev pub WasDone : List Entry → Answered → Type 0
+WasDone [] told = ⊥
+WasDone (entry ∷ books) told =
+    ((entry.request ≡ told.request) × (entry.reply ≡ told.reply)) ⊎ WasDone books told
+
+-- The log is the books, but for at most one request, which is under way or aside. The books have each
+-- once, one number after the other. What was told as done was done, with that reply. The station
+-- hasn't stopped.
+pub record Concludes (first : ℕ) (w : World) : Type 0 where
+  pub books : (w.books ≡ done_in w.log) ⊎ IsOneMore w
+  pub once : IsInOrder first w.books
+  pub told : AllByRecursion (WasDone w.books) w.told
+  pub goes_on : w.station.file.stop ≡ None
+
+-- how many times it is there
+abbrev pub times : ℕ → List ℕ → ℕ
+times request [] = 0
+times request (other ∷ others) =
+    if other == request then suc (times request others) else times request others
+
+-- the requests that were done as copies of the station's, the newest first
+abbrev pub own_requests : List Entry → List ℕ
+own_requests [] = []
+own_requests (entry ∷ books) =
+    if entry.own then entry.request ∷ own_requests books else own_requests books
+
+-- Whoever else has the token: what the station sent of a request was done at most as often as the
+-- request was wanted.
+pub record IsDoneOnce (w : World) : Type 0 where
+  pub once : (request : ℕ) → times request (own_requests w.books) ≤ times request w.wanted

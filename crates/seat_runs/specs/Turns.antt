@@ -1,0 +1,108 @@
+-- A run of the office and of one of its stations.
+use Rattle.std.specs.Prelude.{◌≡◌, ◌⊎◌, ℕ, ◌+◌, ◌<◌, ◌==◌, false, if◌then◌else◌, List, [], ◌∷◌, Option, Some}
+use Rattle.office_tables.specs.declared.rows.SeatState.{SeatState}
+use Rattle.office_laws.specs.Prelude.{Exchange, SeatRun, last_number_of_seat, seat_named, view, writes}
+use Rattle.seat_core.specs.declared.event.Event.{Event}
+use Rattle.seat_core.specs.declared.request.Sent.{Sent}
+use Rattle.seat_laws.specs.Prelude.{Answer, Entry, HasRoom, IsAmong, MayBefall, Move, World, accepts, after_move}
+use Rattle.seat_laws.specs.Prelude.{beginning, entry_of, next_number, refuses}
+use Rattle.seat_laws.specs.Runs.{befalls, says, serves, stops}
+use Rattle.seat_runs.specs.Names.{IsCopy, IsQuestion, Names}
+
+-- One thing that happens: something befalls the station, or stops it when it has done so many acts
+-- of it; the office gets a copy of what was sent, or the question for the number; or it does anything
+-- else.
+pub data Turn : Type 0 where
+  meets : Event → Turn
+  halts : Event → ℕ → Turn
+  copies : Sent → Exchange → Turn
+  questions : Exchange → Turn
+  others : Exchange → Turn
+
+-- what the office did
+abbrev pub exchanges_in : List Turn → List Exchange
+exchanges_in [] = []
+exchanges_in (copies sent x ∷ turns) = x ∷ exchanges_in turns
+exchanges_in (questions x ∷ turns) = x ∷ exchanges_in turns
+exchanges_in (others x ∷ turns) = x ∷ exchanges_in turns
+exchanges_in (turn ∷ turns) = exchanges_in turns
+
+-- a reply of 200 to the next number makes the request the newest of those that were accepted
+abbrev pub with_accepted : ℕ → Sent → Answer → List Entry → List Entry
+with_accepted first sent (accepts reply) books =
+    if sent.number == next_number first books then entry_of sent reply ∷ books else books
+with_accepted first sent (refuses code expected) books = books
+
+-- what the number's question is answered
+abbrev pub number_said : Answer → Move
+number_said (accepts reply) = says 0 0
+number_said (refuses code expected) = says code expected
+
+abbrev pub after_turn : Names → ℕ → Turn → World → World
+after_turn v first (meets event) w = after_move (befalls event) w
+after_turn v first (halts event count) w = after_move (stops event count) w
+after_turn v first (copies sent x) w =
+    after_move (serves sent (v.read x.1) (with_accepted first sent (v.read x.1) w.books)) w
+after_turn v first (questions x) w = after_move (number_said (v.read x.1)) w
+after_turn v first (others x) w = w
+
+abbrev pub after_turns : Names → ℕ → List Turn → World → World
+after_turns v first [] w = w
+after_turns v first (turn ∷ turns) w = after_turns v first turns (after_turn v first turn w)
+
+-- the seat of the customer made it
+abbrev pub IsOf : List ℕ → List ℕ → Exchange → Type 0
+IsOf customer seat x = (x.0.section.name ≡ customer) × (x.0.seat ≡ seat)
+
+-- each request of the seat that writes is a copy of what the station sent, any number of times and as
+-- late as one likes, or its question; and what the station hears is an answer to what it sent last
+abbrev pub MayTurn : Names → List ℕ → List ℕ → World → Turn → Type 0
+MayTurn v customer seat w (meets event) = MayBefall w event
+MayTurn v customer seat w (halts event count) = MayBefall w event
+MayTurn v customer seat w (copies sent x) =
+    IsAmong sent w.sent × IsOf customer seat x × IsCopy v sent x.0.wanted
+MayTurn v customer seat w (questions x) = IsOf customer seat x × IsQuestion v x.0.wanted
+MayTurn v customer seat w (others x) =
+    (IsOf customer seat x → ⊥) ⊎ (writes x.0.wanted ≡ false)
+
+-- they may be, one after another, and the station forgets none of those that it keeps aside
+abbrev pub MayTurns : Names → List ℕ → List ℕ → ℕ → World → List Turn → Type 0
+MayTurns v customer seat first w [] = Unit {0}
+MayTurns v customer seat first w (turn ∷ turns) =
+    HasRoom w.station.file.place w.station.file.aside × MayTurn v customer seat w turn
+    × MayTurns v customer seat first (after_turn v first turn w) turns
+
+-- A run of the office, from sound tables, of a site that may grow, with the run of a station of one
+-- of its seats. Nothing of the seat is under way at first, and the seat never comes to the greatest
+-- number.
+pub record IsStationRun (v : Names) (customer seat : List ℕ) (first : ℕ) (r : SeatRun)
+    (turns : List Turn) : Type 0 where
+  pub office : exchanges_in turns ≡ r.exchanges
+  pub begins : first ≡ last_number_of_seat (seat_named seat (view customer r.old)) + 1
+  pub far : last_number_of_seat (seat_named seat (view customer r.new)) + 1 < 9007199254740991
+  pub turn : MayTurns v customer seat first beginning turns
+
+-- such a run, with its station, its seat and what happened
+pub record StationRun : Type 0 where
+  pub names : Names
+  pub customer : List ℕ
+  pub seat : List ℕ
+  pub first : ℕ
+  pub office : SeatRun
+  pub turns : List Turn
+  pub is_run : IsStationRun names customer seat first office turns
+
+-- the station and its books behind the run
+abbrev pub world_after : StationRun → World
+world_after s = after_turns s.names s.first s.turns beginning
+
+-- the seat's row in the customer's tables behind it
+abbrev pub row_after : StationRun → Option SeatState
+row_after s = seat_named s.seat (view s.customer s.office.new)
+
+-- the seat's row is of the newest accepted request, with its number, its digest and its reply
+abbrev pub IsRowOf : Names → ℕ → Option SeatState → List Entry → Type 0
+IsRowOf v first row [] = first ≡ last_number_of_seat row + 1
+IsRowOf v first row (newest ∷ older) = (r : SeatState) × (row ≡ Some r) × (r.last ≡ newest.number)
+    × (r.digest ≡ (v.request_of newest.request newest.number).digest)
+    × (newest.reply ≡ v.name_of r.reply)
