@@ -20,7 +20,7 @@ use Rattle.office_commands.specs.declared.refusal.Refusal.TheVariants.{OtherBody
 use Rattle.office_commands.specs.Prelude.{acceptance, refusal, refusal_number, unkept}
 use Rattle.office_rules.specs.declared.retry.Retry.{Retry}
 use Rattle.office_rules.specs.declared.retry.Retry.TheVariants.{Differs, Next, Repeats, Skips}
-use Rattle.office_rules.specs.Prelude.{Effect, Refusals, Response as Responding, decide, effect, kept_of}
+use Rattle.office_rules.specs.Prelude.{Effect, Refusals, Response as Responding, Sight, decide, effect, kept_of}
 use Rattle.office_rules.specs.Prelude.{refusals, respond_by_retry, respond_to, retry_of}
 use Rattle.office_laws.specs.Prelude.{SoloState, is_change, last_number_of_seat, seat_named, solo_sight, with_puts}
 use Rattle.office_laws.proofs.Lowest.{above, refusals_ascend}
@@ -73,9 +73,14 @@ low_unjudged : (code : ℕ) → (code < 11) ⊎ (code ≡ 50) → nat_lt 12 code
 low_unjudged code (inl low) t kept = let a = ltb-true 12 code t in omega arith
 low_unjudged code (inr is) t kept = let e : (code == 50) ≡ true = eq-eqb code 50 is in cc
 
-low_not : (code n : ℕ) → (code < 11) ⊎ (code ≡ 50) → 11 ≤ n → n < 50 → code ≡ n → ⊥
+pub low_not : (code n : ℕ) → (code < 11) ⊎ (code ≡ 50) → 11 ≤ n → n < 50 → code ≡ n → ⊥
 low_not code n (inl low) more less e = omega arith
 low_not code n (inr is) more less e = omega arith
+
+-- no refusal but 11 says a number
+pub few_expected : (reason : Refusal) → (refusal_number reason ≡ 11 → ⊥) → expected_in reason ≤ 9007199254740991
+few_expected (WrongNumber expected) other = absurd (other refl)
+few_expected _ other = omega arith
 
 -- a refusal of what came, or for now
 pub came_refused : (v : Names) (first : ℕ) (sent : Sent) (books : List Entry) (row : Option SeatState)
@@ -230,10 +235,17 @@ found_above n (c ∷ cs) reason all e = by c.0 (found_above n cs reason all.1) e
     by true later e = let same : c.1 ≡ reason = cc in subst (λ r. n < refusal_number r) same all.0
     by false later e = later e
 
+-- what refuses a command is above those of the number
+pub command_above : (c : Section) (v : Sight) (change : Changing) (reason : Refusal)
+    → first_that_holds (refusals c v change) ≡ Some reason → 12 < refusal_number reason
+command_above c v change reason holds =
+    found_above 12 (refusals c v change) reason
+    (above 12 12 (refusals c v change) (omega arith) (refusals_ascend c v change)) holds
+
 -- how the office's answer to a copy is read
 module _ (v : Names) (first : ℕ) (sent : Sent) (c : Section) (seat : List ℕ) (s mid : SoloState)
     (reply : Response) (books : List Entry) (is : IsRowOf v first (seat_named seat s) books)
-    (few : last_number_of_seat (seat_named seat mid) ≤ 9007199254740991) where
+    (few : last_number_of_seat (seat_named seat mid) + 1 < 9007199254740991) where
   abbrev asked : Request
   asked = v.request_of sent.request sent.number
 
@@ -266,13 +278,12 @@ module _ (v : Names) (first : ℕ) (sent : Sent) (c : Section) (seat : List ℕ)
       → asked.number ≡ last_number_of_seat (seat_named seat s) + 1
       → Performs (decide seat asked found made) → Read
   of_found change (Some reason) made holds leave next e =
-      read_same (refusal reason) (refuses (refusal_number reason) (expected_in reason)) e (v.reads_refusal reason)
-      (denied v first sent (seat_named seat s) books (refusal_number reason) (expected_in reason) is next
-      (found_above 12 (refusals c (solo_sight c seat s) change) reason
-      (above 12 12 (refusals c (solo_sight c seat s) change) (omega arith)
-      (refusals_ascend c (solo_sight c seat s) change)) holds))
+      let more = command_above c (solo_sight c seat s) change reason holds in
+      read_same (refusal reason) (refuses (refusal_number reason) (expected_in reason)) e
+      (v.reads_refusal reason (few_expected reason (λ q. omega arith)))
+      (denied v first sent (seat_named seat s) books (refusal_number reason) (expected_in reason) is next more)
   of_found change None None holds leave next e =
-      read_same (refusal unkept) (refuses 50 0) e (v.reads_refusal unkept)
+      read_same (refusal unkept) (refuses 50 0) e (v.reads_refusal unkept (omega arith))
       (came_refused v first sent books (seat_named seat s) 50 0 (inr refl) is)
   of_found change None (Some made) holds leave next e =
       let row : SeatState = kept_of seat asked made.body in
@@ -292,13 +303,17 @@ module _ (v : Names) (first : ℕ) (sent : Sent) (c : Section) (seat : List ℕ)
       read_same (acceptance body) (accepts (v.name_of body)) e (v.reads_reply body)
       (repeated v first sent (seat_named seat s) body books is (is_same (seat_named seat s) _ _ body rule))
   of_retry change Differs rule e =
-      read_same (refusal OtherBody) (refuses 12 0) e (v.reads_refusal OtherBody) (record {
+      read_same (refusal OtherBody) (refuses 12 0) e (v.reads_refusal OtherBody (omega arith)) (record {
         answers = other_answers v first sent (seat_named seat s) books is (is_different (seat_named seat s) _ _ rule);
         row_of = is;
       })
   of_retry change (Skips expected) rule e =
-      read_same (refusal (WrongNumber expected)) (refuses 11 expected) e (v.reads_refusal (WrongNumber expected))
-      (skipped v first sent (seat_named seat s) expected books is (is_skipped (seat_named seat s) _ _ expected rule))
+      let skips = is_skipped (seat_named seat s) _ _ expected rule in
+      let n = skips.next in
+      let same = ap last_number_of_seat (same_state (refusal (WrongNumber expected)) e) in
+      read_same (refusal (WrongNumber expected)) (refuses 11 expected) e
+      (v.reads_refusal (WrongNumber expected) (omega arith))
+      (skipped v first sent (seat_named seat s) expected books is skips)
   of_retry change Next rule e =
       of_found change (first_that_holds (refusals c (solo_sight c seat s) change))
       (effect c seat (solo_sight c seat s) change) refl (effect_leaves c seat (solo_sight c seat s) change)
@@ -314,5 +329,6 @@ module _ (v : Names) (first : ℕ) (sent : Sent) (c : Section) (seat : List ℕ)
   pub of_refused : (reason : Refusal) → (refusal_number reason < 11) ⊎ (refusal_number reason ≡ 50)
       → ◌≡◌ {A = Response × SoloState} (reply, mid) (refusal reason, s) → Read
   of_refused reason low e =
-      read_same (refusal reason) (refuses (refusal_number reason) (expected_in reason)) e (v.reads_refusal reason)
+      read_same (refusal reason) (refuses (refusal_number reason) (expected_in reason)) e
+      (v.reads_refusal reason (few_expected reason (low_not _ 11 low (omega arith) (omega arith))))
       (came_refused v first sent books (seat_named seat s) (refusal_number reason) (expected_in reason) low is)

@@ -1,5 +1,5 @@
 -- The question for the number is refused, and as 11 it says which number comes next.
-use Rattle.std.proofs.Common.{◌≡◌, ◌+◌, ◌<◌, ◌⊎◌}
+use Rattle.std.proofs.Common.{◌≡◌, ◌+◌, ◌<◌, ◌≤◌, ◌⊎◌}
 use Rattle.text_core.proofs.Kit.{◌∙◌, ℕ, inl, inr, true, List, Option}
 use Rattle.text_core.proofs.Kit.{refl, sym, ap, subst, option_map, unwrap_or, arith}
 use Rattle.http_replies.specs.Prelude.{Answer as Response}
@@ -18,7 +18,7 @@ use Rattle.office_laws.proofs.OwnRetries.{retry_next}
 use Rattle.seat_laws.specs.Prelude.{Answer, Entry, accepts, next_number, refuses}
 use Rattle.seat_runs.specs.Prelude.{IsRowOf, Names, expected_in}
 use Rattle.seat_runs.proofs.Retries.{is_different, is_same, is_skipped}
-use Rattle.seat_runs.proofs.Answering.{row_next}
+use Rattle.seat_runs.proofs.Answering.{few_expected, low_not, row_next}
 
 -- what is read says which number comes next, where it says one
 abbrev pub Expects : ℕ → List Entry → Answer → Type 0
@@ -42,12 +42,12 @@ module _ (v : Names) (first : ℕ) (c : Section) (seat : List ℕ) (s mid : Solo
   abbrev pub Says : Type 0
   Says = (mid ≡ s) × Expects first books (v.read reply)
 
-  says_as : (reason : Refusal) → ◌≡◌ {A = Response × SoloState} (reply, mid) (refusal reason, s)
+  says_as : (reason : Refusal) → expected_in reason ≤ 9007199254740991 → ◌≡◌ {A = Response × SoloState} (reply, mid) (refusal reason, s)
       → Expects first books (refuses (refusal_number reason) (expected_in reason)) → Says
-  says_as reason e expects = (
+  says_as reason few e expects = (
     ap (λ (p : Response × SoloState). p.1) e,
     subst (Expects first books)
-        (sym (ap (λ (p : Response × SoloState). v.read p.0) e ∙ v.reads_refusal reason)) expects,
+        (sym (ap (λ (p : Response × SoloState). v.read p.0) e ∙ v.reads_refusal reason few)) expects,
   )
 
   of_retry : (change : Changing) (retry : Retry)
@@ -65,7 +65,8 @@ module _ (v : Names) (first : ℕ) (c : Section) (seat : List ℕ) (s mid : Solo
       let g = v.greatest in absurd (omega arith)
   of_retry change (Skips expected) rule e =
       let skips = is_skipped (seat_named seat s) v.question.number v.question.digest expected rule in
-      says_as (WrongNumber expected) e (λ _. skips.next ∙ sym (row_next v first (seat_named seat s) books is))
+      let n = skips.next in
+      says_as (WrongNumber expected) (omega arith) e (λ _. skips.next ∙ sym (row_next v first (seat_named seat s) books is))
   of_retry change Next rule e =
       let n = retry_next (seat_named seat s) v.question.number v.question.digest rule in
       let g = v.greatest in absurd (omega arith)
@@ -78,4 +79,6 @@ module _ (v : Names) (first : ℕ) (c : Section) (seat : List ℕ) (s mid : Solo
 
   pub of_no_question : (reason : Refusal) → (refusal_number reason < 11) ⊎ (refusal_number reason ≡ 50)
       → ◌≡◌ {A = Response × SoloState} (reply, mid) (refusal reason, s) → Says
-  of_no_question reason low e = says_as reason e (low_silent v first books reason low)
+  of_no_question reason low e =
+      says_as reason (few_expected reason (low_not _ 11 low (omega arith) (omega arith))) e
+      (low_silent v first books reason low)

@@ -6,15 +6,16 @@ use Rattle.std.specs.Prelude.{MatchBool, take}
 use Rattle.http_replies.specs.Prelude.{Answer as Response, is_unavailable}
 use Rattle.office_tables.specs.Prelude.{Tables}
 use Rattle.office_commands.specs.Prelude.{refusal, unkept}
-use Rattle.office_laws.specs.Prelude.{Exchange, IsRun, SeatRun, SoloState, Wanted, alone_on, asks}
+use Rattle.office_laws.specs.Prelude.{Exchange, IsRun, Passes, SeatRun, SoloState, Wanted, alone_on, asks}
 use Rattle.office_laws.specs.Prelude.{exchanges_of, is_accepted, is_own, seat_named, view}
 use Rattle.office_laws.specs.Prelude.{writes}
 use Rattle.office_laws.proofs.Acting.{accepts as acceptance_of, last_at, last_grows, unaccepted}
 use Rattle.office_laws.proofs.RunLaws.{run_alone}
 use Rattle.office_laws.proofs.RunsAlone.{Own, RunsAlone}
+use Rattle.seat_core.specs.declared.event.Event.{Event}
 use Rattle.seat_core.specs.declared.request.Sent.{Sent}
 use Rattle.seat_core.specs.Prelude.{step_of}
-use Rattle.seat_laws.specs.Prelude.{Answer, Concludes, Entry, HasRoom, MayHappen, World, accepts}
+use Rattle.seat_laws.specs.Prelude.{Answer, Concludes, Entry, HasRoom, MayBefall, MayHappen, World, accepts}
 use Rattle.seat_laws.specs.Prelude.{after_move, beginning, noted, refuses}
 use Rattle.seat_laws.specs.Runs.{befalls, says, serves, stops}
 use Rattle.seat_laws.proofs.Serving.{IsSettled}
@@ -26,10 +27,10 @@ use Rattle.seat_runs.proofs.Answering.{Follows, of_copy, of_refused}
 use Rattle.seat_runs.proofs.Asking.{Expects, of_no_question, of_question}
 
 -- one exchange of a run of the customer's own machine, or one that isn't its own
-record Passed (customer : List ℕ) (x : Exchange) (ys : List Exchange) (s s2 : SoloState) : Type 0 where
-  mid : SoloState
-  step : ((is_own customer x ≡ true) × Own s x.0 x.1 mid) ⊎ ((is_own customer x ≡ false) × (mid ≡ s))
-  later : RunsAlone ys mid s2
+pub record Passed (customer : List ℕ) (x : Exchange) (ys : List Exchange) (s s2 : SoloState) : Type 0 where
+  pub mid : SoloState
+  pub step : ((is_own customer x ≡ true) × Own s x.0 x.1 mid) ⊎ ((is_own customer x ≡ false) × (mid ≡ s))
+  pub later : RunsAlone ys mid s2
 
 passed : (customer : List ℕ) (x : Exchange) (xs : List Exchange) (s s2 : SoloState)
     → RunsAlone (exchanges_of customer (x ∷ xs)) s s2 → Passed customer x (exchanges_of customer xs) s s2
@@ -49,7 +50,7 @@ step_last seat x s mid own = by (is_accepted x) refl
     by true is = last_grows x s mid seat (acceptance_of x s mid own is)
     by false is = let e : mid ≡ s = unaccepted x s mid own is in rw e (omega arith)
 
-run_last : (seat : List ℕ) (xs : List Exchange) (s s2 : SoloState) → RunsAlone xs s s2
+pub run_last : (seat : List ℕ) (xs : List Exchange) (s s2 : SoloState) → RunsAlone xs s s2
     → last_at seat s ≤ last_at seat s2
 run_last seat [] s s2 run = rw run (omega arith)
 run_last seat (x ∷ xs) s s2 run =
@@ -57,20 +58,23 @@ run_last seat (x ∷ xs) s s2 run =
     let b = run_last seat xs run.0 s2 run.2 in omega arith
 
 -- 503 is a constant
-abbrev IsUnkept : Exchange → Type 0
+abbrev pub IsUnkept : Exchange → Type 0
 IsUnkept x = is_unavailable x.1.status ≡ true → x.1 ≡ refusal unkept
 
-run_unkept : (xs : List Exchange) (t t2 : Tables) → IsRun xs t t2 → AllByRecursion IsUnkept xs
-run_unkept [] t t2 run = tt
-run_unkept (x ∷ xs) t t2 run = ((λ is. by (is_unavailable x.1.status) is _ run.1), run_unkept xs run.0 t2 run.2)
+pub passes_unkept : (x : Exchange) (t mid : Tables) → Passes t x.0 x.1 mid → IsUnkept x
+passes_unkept x t mid passes is = by (is_unavailable x.1.status) is _ passes
   where
-    by : (b : Bool) → b ≡ true → (P : Type 0) → MatchBool b ((x.1 ≡ refusal unkept) × (run.0 ≡ t)) P
+    by : (b : Bool) → b ≡ true → (P : Type 0) → MatchBool b ((x.1 ≡ refusal unkept) × (mid ≡ t)) P
         → x.1 ≡ refusal unkept
     by true e P passes = passes.0
     by false e P passes = cc
 
+run_unkept : (xs : List Exchange) (t t2 : Tables) → IsRun xs t t2 → AllByRecursion IsUnkept xs
+run_unkept [] t t2 run = tt
+run_unkept (x ∷ xs) t t2 run = (passes_unkept x t run.0 run.1, run_unkept xs run.0 t2 run.2)
+
 -- one of the customer's that isn't its own was answered 503
-not_own : (customer : List ℕ) (x : Exchange) → x.0.section.name ≡ customer → is_own customer x ≡ false
+pub not_own : (customer : List ℕ) (x : Exchange) → x.0.section.name ≡ customer → is_own customer x ≡ false
     → is_unavailable x.1.status ≡ true
 not_own customer x is own = by (is_unavailable x.1.status) refl
   where
@@ -82,7 +86,7 @@ not_own customer x is own = by (is_unavailable x.1.status) refl
 -- a copy that was sent comes to the office
 copy_follows : (v : Names) (customer seat : List ℕ) (first : ℕ) (sent : Sent) (x : Exchange) (books : List Entry)
     (s mid : SoloState) → IsOf customer seat x → IsCopy v sent x.0.wanted → Own s x.0 x.1 mid
-    → IsRowOf v first (seat_named seat s) books → last_at seat mid ≤ 9007199254740991
+    → IsRowOf v first (seat_named seat s) books → last_at seat mid + 1 < 9007199254740991
     → Follows v first sent books (v.read x.1) (with_accepted first sent (v.read x.1) books) (seat_named seat mid)
 copy_follows v customer seat first sent x books s mid is (inl e) own row few =
     let it : ◌≡◌ {A = Response × SoloState} (x.1, mid)
@@ -90,8 +94,8 @@ copy_follows v customer seat first sent x books s mid is (inl e) own row few =
     subst (λ (q : Wanted). ◌≡◌ {A = Response × SoloState} (x.1, mid) (alone_on x.0 s q)) e own in
     let at_seat : IsRowOf v first (seat_named x.0.seat s) books =
     subst (λ q. IsRowOf v first (seat_named q s) books) (sym is.1) row in
-    let at_most : last_at x.0.seat mid ≤ 9007199254740991 =
-    subst (λ q. last_at q mid ≤ 9007199254740991) (sym is.1) few in
+    let at_most : last_at x.0.seat mid + 1 < 9007199254740991 =
+    subst (λ q. last_at q mid + 1 < 9007199254740991) (sym is.1) few in
     subst (λ q. Follows v first sent books (v.read x.1) (with_accepted first sent (v.read x.1) books) (seat_named q mid))
     is.1 (of_copy v first sent x.0.section x.0.seat s mid x.1 books at_seat at_most
     (v.request_of sent.request sent.number).command (v.changes sent.request sent.number) it)
@@ -101,7 +105,7 @@ copy_follows v customer seat first sent x books s mid is (inr came) own row few 
     of_refused v first sent x.0.section seat s mid x.1 books row few came.0 came.2 it
 
 copy_unkept : (v : Names) (seat : List ℕ) (first : ℕ) (sent : Sent) (x : Exchange) (books : List Entry) (s : SoloState)
-    → x.1 ≡ refusal unkept → IsRowOf v first (seat_named seat s) books → last_at seat s ≤ 9007199254740991
+    → x.1 ≡ refusal unkept → IsRowOf v first (seat_named seat s) books → last_at seat s + 1 < 9007199254740991
     → Follows v first sent books (v.read x.1) (with_accepted first sent (v.read x.1) books) (seat_named seat s)
 copy_unkept v seat first sent x books s e row few =
     of_refused v first sent x.0.section seat s s x.1 books row few unkept (inr refl) (ap (λ r. (r, s)) e)
@@ -171,7 +175,7 @@ said_settled first w (accepts reply) is room expects =
 said_settled first w (refuses code expected) is room expects =
     move_settled first w (says code expected) is room expects tt
 
-said_books : (answer : Answer) (w : World) → (after_move (number_said answer) w).books ≡ w.books
+pub said_books : (answer : Answer) (w : World) → (after_move (number_said answer) w).books ≡ w.books
 said_books (accepts reply) w = refl
 said_books (refuses code expected) w = refl
 
@@ -180,10 +184,10 @@ pub record Holding (v : Names) (seat : List ℕ) (first : ℕ) (w : World) (s : 
   pub settled : IsSettled first w
   pub row : IsRowOf v first (seat_named seat s) w.books
 
-follow_copy : (v : Names) (customer seat : List ℕ) (first : ℕ) (sent : Sent) (x : Exchange) (ys : List Exchange)
+pub follow_copy : (v : Names) (customer seat : List ℕ) (first : ℕ) (sent : Sent) (x : Exchange) (ys : List Exchange)
     (w : World) (s s2 : SoloState) (step : Passed customer x ys s s2) → Holding v seat first w s
     → HasRoom w.station.file.place w.station.file.aside → IsUnkept x → MayTurn v customer seat w (copies sent x)
-    → last_at seat step.mid ≤ 9007199254740991
+    → last_at seat step.mid + 1 < 9007199254740991
     → Holding v seat first (after_turn v first (copies sent x) w) step.mid
 follow_copy v customer seat first sent x ys w s s2 step holding room kept may few =
     let follows = by step.step in
@@ -199,13 +203,13 @@ follow_copy v customer seat first sent x ys w s s2 step holding room kept may fe
     by (inl own) = copy_follows v customer seat first sent x w.books s step.mid may.1 may.2 own.1 holding.row few
     by (inr other) =
         let e = other.1 in
-        let at_most : last_at seat s ≤ 9007199254740991 =
-        subst (λ m. last_at seat m ≤ 9007199254740991) e few in
+        let at_most : last_at seat s + 1 < 9007199254740991 =
+        subst (λ m. last_at seat m + 1 < 9007199254740991) e few in
         subst (λ m. Follows v first sent w.books (v.read x.1) (with_accepted first sent (v.read x.1) w.books)
         (seat_named seat m)) (sym e) (copy_unkept v seat first sent x w.books s
         (kept (not_own customer x may.1.0 other.0)) holding.row at_most)
 
-follow_question : (v : Names) (customer seat : List ℕ) (first : ℕ) (x : Exchange) (ys : List Exchange) (w : World)
+pub follow_question : (v : Names) (customer seat : List ℕ) (first : ℕ) (x : Exchange) (ys : List Exchange) (w : World)
     (s s2 : SoloState) (step : Passed customer x ys s s2) → Holding v seat first w s
     → HasRoom w.station.file.place w.station.file.aside → IsUnkept x → MayTurn v customer seat w (questions x)
     → last_at seat s + 1 < 9007199254740991
@@ -227,7 +231,7 @@ follow_question v customer seat first x ys w s s2 step holding room kept may far
           holding.row far,
     )
 
-follow_other : (v : Names) (customer seat : List ℕ) (first : ℕ) (x : Exchange) (ys : List Exchange) (w : World)
+pub follow_other : (v : Names) (customer seat : List ℕ) (first : ℕ) (x : Exchange) (ys : List Exchange) (w : World)
     (s s2 : SoloState) (step : Passed customer x ys s s2) → Holding v seat first w s
     → MayTurn v customer seat w (others x) → Holding v seat first w step.mid
 follow_other v customer seat first x ys w s s2 step holding may = record {
@@ -240,6 +244,23 @@ follow_other v customer seat first x ys w s s2 step holding may = record {
     by (inl own) = other_stays customer seat x s step.mid own.0 own.1 may
     by (inr other) = ap (seat_named seat) other.1
 
+-- something befalls the station, or stops it
+pub meet : (v : Names) (seat : List ℕ) (first : ℕ) (event : Event) (w : World) (s : SoloState)
+    → Holding v seat first w s → HasRoom w.station.file.place w.station.file.aside → MayBefall w event
+    → Holding v seat first (after_turn v first (meets event) w) s
+meet v seat first event w s holding room may = record {
+  settled = move_settled first w (befalls event) holding.settled room may tt;
+  row = rw (same_books (step_of w.station event).acts (noted event w)) holding.row;
+}
+
+pub halt : (v : Names) (seat : List ℕ) (first : ℕ) (event : Event) (count : ℕ) (w : World) (s : SoloState)
+    → Holding v seat first w s → HasRoom w.station.file.place w.station.file.aside → MayBefall w event
+    → Holding v seat first (after_turn v first (halts event count) w) s
+halt v seat first event count w s holding room may = record {
+  settled = move_settled first w (stops event count) holding.settled room may tt;
+  row = rw (same_books (take count (step_of w.station event).acts) (noted event w)) holding.row;
+}
+
 follow : (v : Names) (customer seat : List ℕ) (first : ℕ) (turns : List Turn) (w : World) (s s2 : SoloState)
     → Holding v seat first w s → RunsAlone (exchanges_of customer (exchanges_in turns)) s s2
     → last_at seat s2 + 1 < 9007199254740991 → AllByRecursion IsUnkept (exchanges_in turns)
@@ -247,15 +268,11 @@ follow : (v : Names) (customer seat : List ℕ) (first : ℕ) (turns : List Turn
 follow v customer seat first [] w s s2 holding run far kept may =
     subst (Holding v seat first w) (sym run) holding
 follow v customer seat first (meets event ∷ turns) w s s2 holding run far kept may =
-    follow v customer seat first turns (after_turn v first (meets event) w) s s2 (record {
-      settled = move_settled first w (befalls event) holding.settled may.0 may.1 tt;
-      row = rw (same_books (step_of w.station event).acts (noted event w)) holding.row;
-    }) run far kept may.2
+    follow v customer seat first turns (after_turn v first (meets event) w) s s2
+    (meet v seat first event w s holding may.0 may.1) run far kept may.2
 follow v customer seat first (halts event count ∷ turns) w s s2 holding run far kept may =
-    follow v customer seat first turns (after_turn v first (halts event count) w) s s2 (record {
-      settled = move_settled first w (stops event count) holding.settled may.0 may.1 tt;
-      row = rw (same_books (take count (step_of w.station event).acts) (noted event w)) holding.row;
-    }) run far kept may.2
+    follow v customer seat first turns (after_turn v first (halts event count) w) s s2
+    (halt v seat first event count w s holding may.0 may.1) run far kept may.2
 follow v customer seat first (copies sent x ∷ turns) w s s2 holding run far kept may =
     let step = passed customer x (exchanges_in turns) s s2 run in
     let more = run_last seat (exchanges_of customer (exchanges_in turns)) step.mid s2 step.later in

@@ -1,5 +1,5 @@
 -- What the names of a station stand for in the office.
-use Rattle.std.specs.Prelude.{◌≡◌, ◌⊎◌, ℕ, ◌<◌, true, List}
+use Rattle.std.specs.Prelude.{◌≡◌, ◌⊎◌, ℕ, ◌<◌, ◌≤◌, true, List}
 use Rattle.http_replies.specs.Prelude.{Answer as Response}
 use Rattle.office_commands.specs.declared.command.Request.{Request}
 use Rattle.office_commands.specs.declared.refusal.Refusal.{Refusal}
@@ -14,9 +14,18 @@ abbrev pub expected_in : Refusal → ℕ
 expected_in (WrongNumber expected) = expected
 expected_in reason = 0
 
--- The request of a name with a number, and how the station reads an answer: a refusal by its number,
--- and a reply by a name for its body. No two of its requests have one digest. With the greatest
--- number it asks which one is expected.
+-- a reply of 200 is read as accepted, by a name for its body
+abbrev pub ReadsReplies : (List ℕ → ℕ) → (Response → Answer) → Type 0
+ReadsReplies name_of read = (body : List ℕ) → read (acceptance body) ≡ accepts (name_of body)
+
+-- a refusal is read by its number, with the number that it says is expected, if a request can have
+-- it
+abbrev pub ReadsRefusals : (Response → Answer) → Type 0
+ReadsRefusals read = (reason : Refusal) → expected_in reason ≤ 9007199254740991
+    → read (refusal reason) ≡ refuses (refusal_number reason) (expected_in reason)
+
+-- The request of a name with a number, and how the station reads an answer. No two of its requests
+-- have one digest. With the greatest number it asks which one is expected.
 pub record Names : Type 0 where
   pub request_of : ℕ → ℕ → Request
   pub numbered : (name number : ℕ) → (request_of name number).number ≡ number
@@ -28,9 +37,8 @@ pub record Names : Type 0 where
   pub question_changes : is_change question.command ≡ true
   pub read : Response → Answer
   pub name_of : List ℕ → ℕ
-  pub reads_reply : (body : List ℕ) → read (acceptance body) ≡ accepts (name_of body)
-  pub reads_refusal : (reason : Refusal)
-      → read (refusal reason) ≡ refuses (refusal_number reason) (expected_in reason)
+  pub reads_reply : ReadsReplies name_of read
+  pub reads_refusal : ReadsRefusals read
 
 -- it was refused as it came: by 1 to 10, or by 50
 abbrev pub IsRefusedAsItCame : Wanted → Type 0

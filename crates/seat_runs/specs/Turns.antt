@@ -10,8 +10,8 @@ use Rattle.seat_laws.specs.Runs.{befalls, says, serves, stops}
 use Rattle.seat_runs.specs.Names.{IsCopy, IsQuestion, Names}
 
 -- One thing that happens: something befalls the station, or stops it when it has done so many acts
--- of it; the office gets a copy of what was sent, or the question for the number; or it does anything
--- else.
+-- of it; the office gets a copy of what was sent, or the question for the number; or it does
+-- anything else.
 pub data Turn : Type 0 where
   meets : Event → Turn
   halts : Event → ℕ → Turn
@@ -54,8 +54,9 @@ after_turns v first (turn ∷ turns) w = after_turns v first turns (after_turn v
 abbrev pub IsOf : List ℕ → List ℕ → Exchange → Type 0
 IsOf customer seat x = (x.0.section.name ≡ customer) × (x.0.seat ≡ seat)
 
--- each request of the seat that writes is a copy of what the station sent, any number of times and as
--- late as one likes, or its question; and what the station hears is an answer to what it sent last
+-- each request of the seat that writes is a copy of what the station sent, any number of times and
+-- as late as one likes, or its question; and what the station hears is an answer to what it sent
+-- last
 abbrev pub MayTurn : Names → List ℕ → List ℕ → World → Turn → Type 0
 MayTurn v customer seat w (meets event) = MayBefall w event
 MayTurn v customer seat w (halts event count) = MayBefall w event
