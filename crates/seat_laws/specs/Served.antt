@@ -13,6 +13,10 @@ abbrev pub entry_of : Sent → ℕ → Entry
 entry_of sent reply =
     record { number = sent.number; request = sent.request; reply = reply; own = true }
 
+-- the greatest number that a request can have: the largest whole number of JSON (RFC 8259, 6)
+abbrev pub greatest_number : ℕ
+greatest_number = 9007199254740991
+
 -- The seat's accepted requests are a list, the newest first. The number that comes next is the first
 -- one, or that after the newest's.
 abbrev pub next_number : ℕ → List Entry → ℕ
@@ -23,7 +27,7 @@ next_number first (entry ∷ books) = entry.number + 1
 abbrev pub IsInOrder : ℕ → List Entry → Type 0
 IsInOrder first [] = Unit {0}
 IsInOrder first (entry ∷ books) = (entry.number ≡ next_number first books)
-    × (nat_le entry.number 9007199254740991 ≡ true) × IsInOrder first books
+    × (nat_le entry.number greatest_number ≡ true) × IsInOrder first books
 
 -- a reply of 200, by its name; or a refusal's number, and the number that it says is expected
 pub data Answer : Type 0 where
@@ -34,7 +38,7 @@ pub data Answer : Type 0 where
 pub record IsDone (first : ℕ) (books : List Entry) (sent : Sent) (reply : ℕ) (after : List Entry)
     : Type 0 where
   pub next : sent.number ≡ next_number first books
-  pub number : nat_le sent.number 9007199254740991 ≡ true
+  pub number : nat_le sent.number greatest_number ≡ true
   pub done : after ≡ entry_of sent reply ∷ books
 
 -- the newest comes again, and gets its reply again
@@ -79,7 +83,7 @@ pub record IsRefused (first : ℕ) (books : List Entry) (sent : Sent) (code expe
 pub record IsTaken (first : ℕ) (books : List Entry) (entry : Entry) : Type 0 where
   pub own : entry.own ≡ false
   pub next : entry.number ≡ next_number first books
-  pub number : nat_le entry.number 9007199254740991 ≡ true
+  pub number : nat_le entry.number greatest_number ≡ true
 
 -- by the number's rule the server may give this answer, and has these books then
 abbrev pub Rules : ℕ → List Entry → Sent → Answer → List Entry → Type 0

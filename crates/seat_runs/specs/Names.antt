@@ -4,7 +4,7 @@ use Rattle.http_replies.specs.Prelude.{Answer as Response}
 use Rattle.office_commands.specs.declared.command.Request.{Request}
 use Rattle.office_commands.specs.declared.refusal.Refusal.{Refusal}
 use Rattle.office_commands.specs.declared.refusal.Refusal.TheVariants.{WrongNumber}
-use Rattle.office_commands.specs.Prelude.{acceptance, refusal, refusal_number}
+use Rattle.office_commands.specs.Prelude.{acceptance, largest_whole, refusal, refusal_number}
 use Rattle.office_laws.specs.Prelude.{Wanted, asks, is_change, refused}
 use Rattle.seat_core.specs.declared.request.Sent.{Sent}
 use Rattle.seat_laws.specs.Served.{Answer, accepts, refuses}
@@ -21,7 +21,7 @@ ReadsReplies name_of read = (body : List ℕ) → read (acceptance body) ≡ acc
 -- a refusal is read by its number, with the number that it says is expected, if a request can have
 -- it
 abbrev pub ReadsRefusals : (Response → Answer) → Type 0
-ReadsRefusals read = (reason : Refusal) → expected_in reason ≤ 9007199254740991
+ReadsRefusals read = (reason : Refusal) → expected_in reason ≤ largest_whole
     → read (refusal reason) ≡ refuses (refusal_number reason) (expected_in reason)
 
 -- The request of a name with a number, and how the station reads an answer. No two of its requests
@@ -33,7 +33,7 @@ pub record Names : Type 0 where
   pub apart : (name other number : ℕ)
       → (request_of name number).digest ≡ (request_of other number).digest → name ≡ other
   pub question : Request
-  pub greatest : question.number ≡ 9007199254740991
+  pub greatest : question.number ≡ largest_whole
   pub question_changes : is_change question.command ≡ true
   pub read : Response → Answer
   pub name_of : List ℕ → ℕ

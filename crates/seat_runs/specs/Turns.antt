@@ -1,6 +1,7 @@
 -- A run of the office and of one of its stations.
 use Rattle.std.specs.Prelude.{◌≡◌, ◌⊎◌, ℕ, ◌+◌, ◌<◌, ◌==◌, false, if◌then◌else◌, List, [], ◌∷◌, Option, Some}
 use Rattle.office_tables.specs.declared.rows.SeatState.{SeatState}
+use Rattle.office_commands.specs.Prelude.{largest_whole}
 use Rattle.office_laws.specs.Prelude.{Exchange, SeatRun, last_number_of_seat, seat_named, view, writes}
 use Rattle.seat_core.specs.declared.event.Event.{Event}
 use Rattle.seat_core.specs.declared.request.Sent.{Sent}
@@ -80,7 +81,7 @@ pub record IsStationRun (v : Names) (customer seat : List ℕ) (first : ℕ) (r 
     (turns : List Turn) : Type 0 where
   pub office : exchanges_in turns ≡ r.exchanges
   pub begins : first ≡ last_number_of_seat (seat_named seat (view customer r.old)) + 1
-  pub far : last_number_of_seat (seat_named seat (view customer r.new)) + 1 < 9007199254740991
+  pub far : last_number_of_seat (seat_named seat (view customer r.new)) + 1 < largest_whole
   pub turn : MayTurns v customer seat first beginning turns
 
 -- such a run, with its station, its seat and what happened
