@@ -41,13 +41,13 @@ pub mod OwnReports
 pub mod OwnRetries
 pub mod Passing
 pub mod Placed
-mod Plan
+pub mod Plan
 pub mod Promising
-mod ReadBack
+pub mod ReadBack
 pub mod Readings
 pub mod RecordAddresses
 mod RecordRows
-mod Registration
+pub mod Registration
 mod RegistrationKept
 mod Responses
 pub mod RunLaws

@@ -24,7 +24,7 @@ use Rattle.office_laws.proofs.Unread.{unread_keeps}
 use Rattle.office_tables.specs.declared.rows.Event.TheVariants as event
 
 -- wishes that nothing refuses have no fault
-no_fault_from : (cs : List (Bool × PlanFault)) → first_that_holds (list_map (λ c. (c.0, BadPlan c.1)) cs) ≡ None → first_that_holds cs ≡ None
+pub no_fault_from : (cs : List (Bool × PlanFault)) → first_that_holds (list_map (λ c. (c.0, BadPlan c.1)) cs) ≡ None → first_that_holds cs ≡ None
 no_fault_from [] free = refl
 no_fault_from (c ∷ cs) free =
     elim (c.0) as (λ b. (if b then Some (BadPlan c.1) else first_that_holds (list_map (λ c. (c.0, BadPlan c.1)) cs)) ≡ None

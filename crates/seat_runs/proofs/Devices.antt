@@ -40,11 +40,11 @@ abbrev pub own_device : List ℕ → SoloState → Option Device
 own_device chip s = find (λ d. bytes_eq chip d.chip) s.devices
 
 -- what refuses an identity by its order, and by its device
-abbrev against_order : NewIdentity → Device → Option OrderSight → Refusals
+abbrev pub against_order : NewIdentity → Device → Option OrderSight → Refusals
 against_order n d found = option_map_or (λ o. state_refusal identified_from d
     ∷ (not (is_some o.next), Exhausted) ∷ (o.is_bound n.key, KeyBound) ∷ []) found []
 
-abbrev identity_against : Sight → NewIdentity → Map → Device → Refusals
+abbrev pub identity_against : Sight → NewIdentity → Map → Device → Refusals
 identity_against v n m d = against_order n d (v.order d.order)
 
 -- a device's row in its place
@@ -96,7 +96,7 @@ pub every : {A B : Type 0} (o : Option A) (f : A → Option B) (P : Option B →
 every None f P none some = none
 every (Some x) f P none some = some x refl
 
-step_chip : (a : Action) (m : Map) (d : Device) → ((rule_of a).does m d).0.device.chip ≡ d.chip
+pub step_chip : (a : Action) (m : Map) (d : Device) → ((rule_of a).does m d).0.device.chip ≡ d.chip
 step_chip (Plan wishes) m d = refl
 step_chip (ReadBack blocks) m d = refl
 step_chip Ship m d = refl
@@ -157,7 +157,7 @@ module _ (c : Section) (seat chip : List ℕ) (s : SoloState) where
   map_leaves text false = (λ _. refl, tt)
 
   -- the command names another chip, or none
-  abbrev IsOther : Changing → Type 0
+  abbrev pub IsOther : Changing → Type 0
   IsOther (RegisterDevice n) = bytes_eq chip n.chip ≡ false
   IsOther (Act asked a) = bytes_eq chip asked ≡ false
   IsOther (Identify n) = bytes_eq chip n.chip ≡ false
@@ -177,7 +177,7 @@ module _ (c : Section) (seat chip : List ℕ) (s : SoloState) where
       every (option_and_then result_ok (merged_rows v n)) _ Leaves tt (λ i _. records_leave n.issuer i.added)
 
   -- a device that was looked up with its map
-  seen : (asked : List ℕ) (d : Device) (m : Map) → own_device asked s ≡ Some d → map_in_sight v d.map ≡ Some m
+  pub seen : (asked : List ℕ) (d : Device) (m : Map) → own_device asked s ≡ Some d → map_in_sight v d.map ≡ Some m
       → device_in_sight v asked ≡ Some (record { device = d; map = Some m })
   seen asked d m there known = rw (there, known) refl
 
@@ -189,75 +189,77 @@ module _ (c : Section) (seat chip : List ℕ) (s : SoloState) where
   action_ends asked Ship d m awaits mine free = absurd (is_refused _ _ _ (not_shipped d awaits) free)
   action_ends asked Scrap d m awaits mine free = mine
 
-  module _ (d : Device) (there : own_device chip s ≡ Some d) (awaits : IsAwaiting d) where
+  -- a command that names another chip leaves the device
+  pub left : (mid : SoloState) (reply : Response) (r : Request) (change : Changing)
+      → IsMade c seat s mid reply r change → IsOther change → own_device chip mid ≡ own_device chip s
+  left mid reply r change made other =
+      let leave : AllByRecursion (LeavesDevice chip) made.made.puts =
+      subst Leaves made.is (effect_leaves change other) in
+      ap (own_device chip) made.after
+      ∙ (ap (find (λ e. bytes_eq chip e.chip))
+      (devices_after made.made.puts (kept_of seat r made.made.body) s)
+      ∙ puts_leave chip made.made.puts s leave)
+
+  module _ (d : Device) (there : own_device chip s ≡ Some d) where
     here : (asked : List ℕ) → bytes_eq chip asked ≡ true → own_device asked s ≡ Some d
     here asked mine = rw (← same_text chip asked mine) there
 
-    acts : (asked : List ℕ) (a : Action) → bytes_eq chip asked ≡ true
-        → first_that_holds (refusals c v (Act asked a)) ≡ None → (made : Effect)
-        → effect c seat v (Act asked a) ≡ Some made → is_end chip (Change (Act asked a)) ≡ true
-    acts asked a mine free made is =
-        every (v.device asked) _ (λ o. o ≡ Some made → is_end chip (Change (Act asked a)) ≡ true) (λ e. cc)
-        (λ other found. every (map_in_sight v other.map) _
-        (λ o. o ≡ Some made → is_end chip (Change (Act asked a)) ≡ true) (λ e. cc)
-        (λ m known _.
-        let same : other ≡ d = let h = here asked mine in cc in
-        let looked = seen asked other m found known in
-        let clear : first_that_holds (action_refusals a m other) ≡ None =
-        subst (λ o. first_that_holds (step_refusals (action_refusals a) o) ≡ None) looked free in
-        action_ends asked a other m (subst IsAwaiting (sym same) awaits) mine clear)) is
-
-    registers : (n : NewDevice) → bytes_eq chip n.chip ≡ true
+    pub registers : (n : NewDevice) → bytes_eq chip n.chip ≡ true
         → first_that_holds (refusals c v (RegisterDevice n)) ≡ None → ⊥
     registers n mine free =
         let none : is_some (v.device n.chip) ≡ false = (lowest_none (registration_refusals v n) free).1.1.0 in
         let some : is_some (v.device n.chip) ≡ true = ap is_some (here n.chip mine) in cc (none, some)
 
-    identifies : (n : NewIdentity) → bytes_eq chip n.chip ≡ true
-        → first_that_holds (refusals c v (Identify n)) ≡ None → (made : Effect)
-        → effect c seat v (Identify n) ≡ Some made → ⊥
-    identifies n mine free made is =
-        every (v.device n.chip) _ (λ o. o ≡ Some made → ⊥) (λ e. cc) (λ other found.
-        every (map_in_sight v other.map) _ (λ o. o ≡ Some made → ⊥) (λ e. cc) (λ m known.
-        every (v.order other.order) _ (λ o. o ≡ Some made → ⊥) (λ e. cc) (λ o ordered _.
-        let same : other ≡ d = let h = here n.chip mine in cc in
-        let looked = seen n.chip other m found known in
-        let clear = subst (λ o. first_that_holds (step_refusals (identity_against v n) o) ≡ None)
-        looked free in
-        let first = subst (λ o. first_that_holds (against_order n other o) ≡ None) ordered clear in
-        is_refused _ _ _ (not_identified other (subst IsAwaiting (sym same) awaits)) first))) is
+    module _ (awaits : IsAwaiting d) where
+      acts : (asked : List ℕ) (a : Action) → bytes_eq chip asked ≡ true
+          → first_that_holds (refusals c v (Act asked a)) ≡ None → (made : Effect)
+          → effect c seat v (Act asked a) ≡ Some made → is_end chip (Change (Act asked a)) ≡ true
+      acts asked a mine free made is =
+          every (v.device asked) _ (λ o. o ≡ Some made → is_end chip (Change (Act asked a)) ≡ true) (λ e. cc)
+          (λ other found. every (map_in_sight v other.map) _
+          (λ o. o ≡ Some made → is_end chip (Change (Act asked a)) ≡ true) (λ e. cc)
+          (λ m known _.
+          let same : other ≡ d = let h = here asked mine in cc in
+          let looked = seen asked other m found known in
+          let clear : first_that_holds (action_refusals a m other) ≡ None =
+          subst (λ o. first_that_holds (step_refusals (action_refusals a) o) ≡ None) looked free in
+          action_ends asked a other m (subst IsAwaiting (sym same) awaits) mine clear)) is
 
-    module _ (mid : SoloState) (reply : Response) (r : Request) where
-      abbrev Kept : Changing → Type 0
-      Kept change = (own_device chip mid ≡ Some d) ⊎ (is_end chip (Change change) ≡ true)
+      identifies : (n : NewIdentity) → bytes_eq chip n.chip ≡ true
+          → first_that_holds (refusals c v (Identify n)) ≡ None → (made : Effect)
+          → effect c seat v (Identify n) ≡ Some made → ⊥
+      identifies n mine free made is =
+          every (v.device n.chip) _ (λ o. o ≡ Some made → ⊥) (λ e. cc) (λ other found.
+          every (map_in_sight v other.map) _ (λ o. o ≡ Some made → ⊥) (λ e. cc) (λ m known.
+          every (v.order other.order) _ (λ o. o ≡ Some made → ⊥) (λ e. cc) (λ o ordered _.
+          let same : other ≡ d = let h = here n.chip mine in cc in
+          let looked = seen n.chip other m found known in
+          let clear = subst (λ o. first_that_holds (step_refusals (identity_against v n) o) ≡ None)
+          looked free in
+          let first = subst (λ o. first_that_holds (against_order n other o) ≡ None) ordered clear in
+          is_refused _ _ _ (not_identified other (subst IsAwaiting (sym same) awaits)) first))) is
 
-      left : (change : Changing) → IsMade c seat s mid reply r change → IsOther change
-          → own_device chip mid ≡ Some d
-      left change made other =
-          let leave : AllByRecursion (LeavesDevice chip) made.made.puts =
-          subst Leaves made.is (effect_leaves change other) in
-          ap (own_device chip) made.after
-          ∙ (ap (find (λ e. bytes_eq chip e.chip))
-          (devices_after made.made.puts (kept_of seat r made.made.body) s)
-          ∙ (puts_leave chip made.made.puts s leave ∙ there))
+      module _ (mid : SoloState) (reply : Response) (r : Request) where
+        abbrev Kept : Changing → Type 0
+        Kept change = (own_device chip mid ≡ Some d) ⊎ (is_end chip (Change change) ≡ true)
 
-      -- a command that is made leaves the device, or reads its chip back or scraps it
-      pub made_keeps : (change : Changing) → IsMade c seat s mid reply r change → Kept change
-      made_keeps (MakeOrder n) made = inl (left (MakeOrder n) made tt)
-      made_keeps (ImportMap text) made = inl (left (ImportMap text) made tt)
-      made_keeps (Import n) made = inl (left (Import n) made tt)
-      made_keeps (RegisterDevice n) made = by (bytes_eq chip n.chip) refl
-        where
-          by : (b : Bool) → bytes_eq chip n.chip ≡ b → Kept (RegisterDevice n)
-          by true mine = absurd (registers n mine made.free)
-          by false other = inl (left (RegisterDevice n) made other)
-      made_keeps (Act asked a) made = by (bytes_eq chip asked) refl
-        where
-          by : (b : Bool) → bytes_eq chip asked ≡ b → Kept (Act asked a)
-          by true mine = inr (acts asked a mine made.free made.made made.is)
-          by false other = inl (left (Act asked a) made other)
-      made_keeps (Identify n) made = by (bytes_eq chip n.chip) refl
-        where
-          by : (b : Bool) → bytes_eq chip n.chip ≡ b → Kept (Identify n)
-          by true mine = absurd (identifies n mine made.free made.made made.is)
-          by false other = inl (left (Identify n) made other)
+        -- a command that is made leaves the device, or reads its chip back or scraps it
+        pub made_keeps : (change : Changing) → IsMade c seat s mid reply r change → Kept change
+        made_keeps (MakeOrder n) made = inl (left mid reply r (MakeOrder n) made tt ∙ there)
+        made_keeps (ImportMap text) made = inl (left mid reply r (ImportMap text) made tt ∙ there)
+        made_keeps (Import n) made = inl (left mid reply r (Import n) made tt ∙ there)
+        made_keeps (RegisterDevice n) made = by (bytes_eq chip n.chip) refl
+          where
+            by : (b : Bool) → bytes_eq chip n.chip ≡ b → Kept (RegisterDevice n)
+            by true mine = absurd (registers n mine made.free)
+            by false other = inl (left mid reply r (RegisterDevice n) made other ∙ there)
+        made_keeps (Act asked a) made = by (bytes_eq chip asked) refl
+          where
+            by : (b : Bool) → bytes_eq chip asked ≡ b → Kept (Act asked a)
+            by true mine = inr (acts asked a mine made.free made.made made.is)
+            by false other = inl (left mid reply r (Act asked a) made other ∙ there)
+        made_keeps (Identify n) made = by (bytes_eq chip n.chip) refl
+          where
+            by : (b : Bool) → bytes_eq chip n.chip ≡ b → Kept (Identify n)
+            by true mine = absurd (identifies n mine made.free made.made made.is)
+            by false other = inl (left mid reply r (Identify n) made other ∙ there)

@@ -10,3 +10,6 @@ pub mod Recording
 pub mod Staying
 pub mod Telling
 pub mod Reading
+pub mod Images
+pub mod Expecting
+pub mod Moving

@@ -6,6 +6,8 @@ use Rattle.http_replies.specs.Prelude.{Answer as Response, code_of, is_unavailab
 use Rattle.site_core.specs.Prelude.{Ownership}
 use Rattle.office_tables.specs.declared.rows.Device.{Device}
 use Rattle.office_tables.specs.Prelude.{Tables}
+use Rattle.fusemap_core.specs.Prelude.{Map}
+use Rattle.office_rules.specs.Prelude.{map_named}
 use Rattle.office_commands.specs.Prelude.{unkept}
 use Rattle.office_laws.specs.Prelude.{AreSeats, Exchange, IsRun, IsSound, Passes, SeatRun, calls_of, is_accepted, is_own}
 use Rattle.office_laws.specs.Prelude.{number_of_wanted, view, writes}
@@ -13,12 +15,13 @@ use Rattle.office_laws.proofs.OwnRetries.{not_success}
 use Rattle.office_laws.proofs.Passing.{Serves}
 use Rattle.office_laws.proofs.Readings.{device_own}
 use Rattle.office_laws.proofs.RunLaws.{serves_grown}
-use Rattle.seat_runs.specs.Prelude.{HasEnd, IsAwaiting, IsDoneThen, IsRecorded, Moment, StaysUntilEnd, asks_for, device_of}
+use Rattle.seat_runs.specs.Prelude.{HasEnd, IsAwaiting, IsDoneThen, IsRecorded, Moment, StaysExpected, StaysUntilEnd, asks_for, device_of}
 use Rattle.seat_runs.specs.Prelude.{is_end, is_plan}
 use Rattle.seat_runs.proofs.Coming.{row_number}
 use Rattle.seat_runs.proofs.Devices.{own_device}
 use Rattle.seat_runs.proofs.Following.{IsUnkept, not_own, passes_unkept}
 use Rattle.seat_runs.proofs.Making.{device_stays}
+use Rattle.seat_runs.proofs.Moving.{expected_stays}
 use Rattle.seat_runs.proofs.Recording.{plan_recorded}
 
 -- the first exchange of a run, and one of those behind it
@@ -143,7 +146,7 @@ module _ (r : SeatRun) where
       let seats = subst (λ (xs : List Exchange). AreSeats r.first (calls_of xs) r.last) m.are r.are_seats in
       let here = reached_sound r.first m.before (m.exchange ∷ m.behind) r.last r.old m.old r.is_sound seats m.reached in
       plan_recorded here.1 here.2.0 m.exchange
-      (serves_grown here.0 m.exchange m.behind r.last m.old m.new here.1 here.2 m.passes)
+      (serves_grown here.0 m.exchange m.behind r.last m.old m.new here.1 here.2 m.passes) here.2.3.wanted
       (accepted_own m.exchange (passes_unkept m.exchange m.old m.new m.passes) done.0) chip plans_it done.0 done.1
 
   pub stays_from : (m : Moment r.exchanges r.old r.new) (customer chip : List ℕ) (d : Device)
@@ -153,3 +156,12 @@ module _ (r : SeatRun) where
       let here = reached_sound r.first m.before (m.exchange ∷ m.behind) r.last r.old m.old r.is_sound seats m.reached in
       let one = serves_grown here.0 m.exchange m.behind r.last m.old m.new here.1 here.2 m.passes in
       stays customer chip d awaits here.2.0 m.behind r.last m.new r.new one.sound here.2.4 m.goes_on there
+
+  pub expected_from : (m : Moment r.exchanges r.old r.new) (customer chip : List ℕ) (d : Device) (by_map : Map)
+      → device_of customer chip m.new ≡ Some d → map_named customer d.map m.new ≡ Some by_map
+      → StaysExpected customer chip by_map d r.new
+  expected_from m customer chip d by_map there named =
+      let seats = subst (λ (xs : List Exchange). AreSeats r.first (calls_of xs) r.last) m.are r.are_seats in
+      let here = reached_sound r.first m.before (m.exchange ∷ m.behind) r.last r.old m.old r.is_sound seats m.reached in
+      let one = serves_grown here.0 m.exchange m.behind r.last m.old m.new here.1 here.2 m.passes in
+      expected_stays customer chip by_map here.2.0 m.behind r.last m.new r.new one.sound here.2.4 m.goes_on d there named

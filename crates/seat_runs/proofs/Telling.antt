@@ -35,7 +35,7 @@ use Rattle.seat_runs.proofs.Coming.{Comes, Responds, comes_to, row_number}
 use Rattle.seat_runs.proofs.Following.{Holding, Passed, concluded, follow_copy, follow_other, follow_question}
 use Rattle.seat_runs.proofs.Following.{halt, meet, not_own, passes_unkept, run_last, said_books}
 use Rattle.seat_runs.proofs.Making.{accepted_succeeds, is_success}
-use Rattle.seat_runs.proofs.Staying.{first_moment, later_moment, recorded_at, stays_from}
+use Rattle.seat_runs.proofs.Staying.{first_moment, later_moment, expected_from, recorded_at, stays_from}
 
 -- an entry of the books was done at a moment of the run
 record IsDoneIn (v : Names) (customer seat : List ℕ) (entry : Entry) (xs : List Exchange) (t t2 : Tables) : Type 0 where
@@ -339,4 +339,6 @@ plan_kept s told chip among plans_it =
       told_of = at;
       recorded = recorded;
       stays = stays_from s.office is.0 s.customer chip recorded.device recorded.there;
+      expected = expected_from s.office is.0 s.customer chip recorded.device recorded.by_map recorded.there
+          recorded.named;
     }

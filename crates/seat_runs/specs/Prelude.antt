@@ -4,4 +4,4 @@ pub use Rattle.seat_runs.specs.Turns.{IsOf, IsRowOf, IsStationRun, MayTurn, MayT
 pub use Rattle.seat_runs.specs.Turns.{StationRun, exchanges_in, number_said, row_after, with_accepted, world_after}
 pub use Rattle.seat_runs.specs.Moments.{IsDoneAt, IsDoneThen, IsToldOf, Moment, MomentOf}
 pub use Rattle.seat_runs.specs.Plans.{HasEnd, IsAwaiting, IsPlanRecorded, IsRecorded, StaysUntilEnd}
-pub use Rattle.seat_runs.specs.Plans.{asks_for, device_of, is_end, is_plan}
+pub use Rattle.seat_runs.specs.Plans.{StaysExpected, asks_for, device_of, expected_of, is_end, is_plan}

@@ -2,12 +2,14 @@
 ghost use Rattle.std.specs.Prelude.{◌≡◌, ℕ, List, Some, true};
 ghost use Rattle.office_tables.specs.declared.rows.Device.{Device};
 ghost use Rattle.http_replies.specs.Prelude.{Answer as Response};
+ghost use Rattle.fusemap_core.specs.Prelude.{Map};
+ghost use Rattle.office_rules.specs.Prelude.{map_named};
 ghost use Rattle.office_laws.specs.Prelude.{SeatRun};
 ghost use Rattle.seat_core.specs.declared.request.Answered.{Answered};
 ghost use Rattle.seat_laws.specs.Prelude.{Answer, Concludes, IsAmong};
 ghost use Rattle.seat_runs.specs.Prelude.{IsDoneThen, IsPlanRecorded, IsRecorded, IsRowOf, IsToldOf, Moment, MomentOf};
 ghost use Rattle.seat_runs.specs.Prelude.{ReadsRefusals, ReadsReplies};
-ghost use Rattle.seat_runs.specs.Prelude.{StationRun, StaysUntilEnd, asks_for, device_of, is_plan, row_after, world_after};
+ghost use Rattle.seat_runs.specs.Prelude.{StationRun, StaysExpected, StaysUntilEnd, asks_for, device_of, is_plan, row_after, world_after};
 
 /// Over a run of the office, a station's log is what the office did at its seat, but for at most
 /// one request, which the station has under way or aside (`log`). The seat's row in the customer's
@@ -22,8 +24,10 @@ pub fn a_station_concludes_what_the_office_did()
 {}
 
 /// Over a run of the office, from sound tables: behind a plan that was done, what its reply says is
-/// to be burnt is in the row of the chip's device (`reply`). There it stays until a seat of the
-/// customer reads the chip back or scraps it (`stays`).
+/// to be burnt is pending in the row of the chip's device (`reply`). The row stays as it is until a
+/// seat of the customer reads the chip back or scraps it (`stays`). And all that a row says is burnt
+/// or to be burnt is so by the chip's row from then on, until the device is quarantined or scrapped
+/// (`expected`).
 pub fn what_a_plan_tells_is_recorded()
     ensures reply { (r : SeatRun) (m : Moment r.exchanges r.old r.new) (chip : List ℕ)
         → asks_for (is_plan chip) m.exchange.0.wanted ≡ true → IsDoneThen m
@@ -31,6 +35,9 @@ pub fn what_a_plan_tells_is_recorded()
     ensures stays { (r : SeatRun) (customer chip : List ℕ) (d : Device)
         → device_of customer chip r.old ≡ Some d
         → StaysUntilEnd customer chip d r.exchanges r.old r.new }
+    ensures expected { (r : SeatRun) (customer chip : List ℕ) (d : Device) (m : Map)
+        → device_of customer chip r.old ≡ Some d → map_named customer d.map r.old ≡ Some m
+        → StaysExpected customer chip m d r.new }
 {}
 
 /// No bit without a record: a plan that a station told as done is in the row of the chip's device
