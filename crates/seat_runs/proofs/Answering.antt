@@ -101,44 +101,49 @@ module _ (v : Names) (first : ℕ) (sent : Sent) where
       → with_accepted first sent (accepts reply) books ≡ books
   not_added reply books other = let t : (sent.number == next_number first books) ≡ false = ne_eqb _ _ other in rw t refl
 
-  repeated_answers : (row : Option SeatState) (body : List ℕ) (books : List Entry) → IsRowOf v first row books
+  -- the newest of the books has another digest, or the same name
+  abbrev pub IsApart : List Entry → Type 0
+  IsApart books = (newest : Entry) (older : List Entry) → books ≡ newest ∷ older
+      → (v.request_of newest.request newest.number).digest ≡ its.digest → newest.request ≡ sent.request
+
+  repeated_answers : (row : Option SeatState) (body : List ℕ) (books : List Entry) → IsApart books
+      → IsRowOf v first row books
       → IsSame row its.number its.digest body → Answers first books sent (accepts (v.name_of body)) books
-  repeated_answers row body [] is same =
+  repeated_answers row body [] apart is same =
       let n = v.numbered sent.request sent.number in
       let l = same.last in
       let e = ap last_number_of_seat same.there in
       let f : first ≡ last_number_of_seat row + 1 = is in
       inl (record { before = omega arith; unchanged = refl })
-  repeated_answers row body (newest ∷ older) is same =
+  repeated_answers row body (newest ∷ older) apart is same =
       let there = same.there in
       let found = is.1 in
       let one : is.0 ≡ same.row = cc in
       let number : newest.number ≡ sent.number = sym is.2 ∙ (ap (λ (r : SeatState). r.last) one
       ∙ (same.last ∙ v.numbered sent.request sent.number)) in
-      let digest : (v.request_of newest.request sent.number).digest ≡ its.digest =
-      ap (λ n. (v.request_of newest.request n).digest) (sym number) ∙ (sym is.3
-      ∙ (ap (λ (r : SeatState). r.digest) one ∙ sym same.digest_of)) in
+      let digest : (v.request_of newest.request newest.number).digest ≡ its.digest =
+      sym is.3 ∙ (ap (λ (r : SeatState). r.digest) one ∙ sym same.digest_of) in
       inr (inr (record {
         newest = newest;
         older = older;
         are = refl;
         number = number;
-        request = v.apart newest.request sent.request sent.number digest;
+        request = apart newest older refl digest;
         reply_of = is.4 ∙ ap v.name_of (ap (λ (r : SeatState). r.reply) one ∙ same.reply);
         same = refl;
       }))
 
-  repeated : (row : Option SeatState) (body : List ℕ) (books : List Entry) → IsRowOf v first row books
+  repeated : (row : Option SeatState) (body : List ℕ) (books : List Entry) → IsApart books → IsRowOf v first row books
       → IsSame row its.number its.digest body
       → Follows v first sent books (accepts (v.name_of body))
       (with_accepted first sent (accepts (v.name_of body)) books) row
-  repeated row body books is same =
+  repeated row body books apart is same =
       let n = v.numbered sent.request sent.number in
       let l = same.last in
       let e = ap last_number_of_seat same.there in
       let next = row_next v first row books is in
       rw (not_added (v.name_of body) books (λ q. omega arith))
-      (record { answers = repeated_answers row body books is same; row_of = is })
+      (record { answers = repeated_answers row body books apart is same; row_of = is })
 
   other_answers : (row : Option SeatState) (books : List Entry) → IsRowOf v first row books
       → IsDifferent row its.number its.digest → Answers first books sent (refuses 12 0) books
@@ -245,7 +250,7 @@ command_above c v change reason holds =
 -- how the office's answer to a copy is read
 module _ (v : Names) (first : ℕ) (sent : Sent) (c : Section) (seat : List ℕ) (s mid : SoloState)
     (reply : Response) (books : List Entry) (is : IsRowOf v first (seat_named seat s) books)
-    (few : last_number_of_seat (seat_named seat mid) + 1 < 9007199254740991) where
+    (few : last_number_of_seat (seat_named seat mid) + 1 < 9007199254740991) (apart : IsApart v first sent books) where
   abbrev asked : Request
   asked = v.request_of sent.request sent.number
 
@@ -301,7 +306,7 @@ module _ (v : Names) (first : ℕ) (sent : Sent) (c : Section) (seat : List ℕ)
       → Performs (respond_by_retry c seat (solo_sight c seat s) asked change retry) → Read
   of_retry change (Repeats body) rule e =
       read_same (acceptance body) (accepts (v.name_of body)) e (v.reads_reply body)
-      (repeated v first sent (seat_named seat s) body books is (is_same (seat_named seat s) _ _ body rule))
+      (repeated v first sent (seat_named seat s) body books apart is (is_same (seat_named seat s) _ _ body rule))
   of_retry change Differs rule e =
       read_same (refusal OtherBody) (refuses 12 0) e (v.reads_refusal OtherBody (omega arith)) (record {
         answers = other_answers v first sent (seat_named seat s) books is (is_different (seat_named seat s) _ _ rule);

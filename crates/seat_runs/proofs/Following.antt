@@ -12,6 +12,13 @@ use Rattle.office_laws.specs.Prelude.{writes}
 use Rattle.office_laws.proofs.Acting.{accepts as acceptance_of, last_at, last_grows, unaccepted}
 use Rattle.office_laws.proofs.RunLaws.{run_alone}
 use Rattle.office_laws.proofs.RunsAlone.{Own, RunsAlone}
+use Rattle.std.proofs.lemmas.List.Elements.{All-from_recursion, recursion_from_All, All-weaker}
+use Rattle.std.specs.Prelude.{◌==◌, if◌then◌else◌}
+use Rattle.text_core.proofs.Kit.{Option, None, Some}
+use Rattle.seat_core.specs.declared.act.Act.{Act}
+use Rattle.seat_core.specs.declared.act.Act.TheVariants.{Send, Tell}
+use Rattle.seat_core.specs.declared.request.Outcome.TheVariants.{Done}
+use Rattle.seat_laws.specs.Prelude.{IsAmong, after_act, after_acts, entry_of, next_number}
 use Rattle.seat_core.specs.declared.event.Event.{Event}
 use Rattle.seat_core.specs.declared.request.Sent.{Sent}
 use Rattle.seat_core.specs.Prelude.{step_of}
@@ -20,10 +27,10 @@ use Rattle.seat_laws.specs.Prelude.{after_move, beginning, noted, refuses}
 use Rattle.seat_laws.specs.Runs.{befalls, says, serves, stops}
 use Rattle.seat_laws.proofs.Serving.{IsSettled}
 use Rattle.seat_laws.proofs.Running.{begins, books_of, move_settled, same_books}
-use Rattle.seat_runs.specs.Prelude.{IsCopy, IsOf, IsQuestion, IsRowOf, IsStationRun, MayTurn, MayTurns, Names, Turn}
+use Rattle.seat_runs.specs.Prelude.{AreApart, IsCopy, IsOf, IsQuestion, IsRowOf, IsStationRun, MayTurn, MayTurns, Names, Turn}
 use Rattle.seat_runs.specs.Prelude.{after_turn, after_turns, exchanges_in, number_said, with_accepted}
-use Rattle.seat_runs.specs.Turns.{copies, halts, meets, others, questions}
-use Rattle.seat_runs.proofs.Answering.{Follows, of_copy, of_refused}
+use Rattle.seat_runs.specs.Turns.{copies, halts, meets, others, questions, turned_away}
+use Rattle.seat_runs.proofs.Answering.{Follows, IsApart, came_refused, low_not, of_copy, of_refused}
 use Rattle.seat_runs.proofs.Asking.{Expects, of_no_question, of_question}
 
 -- one exchange of a run of the customer's own machine, or one that isn't its own
@@ -85,10 +92,10 @@ not_own customer x is own = by (is_unavailable x.1.status) refl
 
 -- a copy that was sent comes to the office
 copy_follows : (v : Names) (customer seat : List ℕ) (first : ℕ) (sent : Sent) (x : Exchange) (books : List Entry)
-    (s mid : SoloState) → IsOf customer seat x → IsCopy v sent x.0.wanted → Own s x.0 x.1 mid
+    (s mid : SoloState) → IsApart v first sent books → IsOf customer seat x → IsCopy v sent x.0.wanted → Own s x.0 x.1 mid
     → IsRowOf v first (seat_named seat s) books → last_at seat mid + 1 < 9007199254740991
     → Follows v first sent books (v.read x.1) (with_accepted first sent (v.read x.1) books) (seat_named seat mid)
-copy_follows v customer seat first sent x books s mid is (inl e) own row few =
+copy_follows v customer seat first sent x books s mid apart is (inl e) own row few =
     let it : ◌≡◌ {A = Response × SoloState} (x.1, mid)
     (alone_on x.0 s (asks (v.request_of sent.request sent.number))) =
     subst (λ (q : Wanted). ◌≡◌ {A = Response × SoloState} (x.1, mid) (alone_on x.0 s q)) e own in
@@ -97,18 +104,18 @@ copy_follows v customer seat first sent x books s mid is (inl e) own row few =
     let at_most : last_at x.0.seat mid + 1 < 9007199254740991 =
     subst (λ q. last_at q mid + 1 < 9007199254740991) (sym is.1) few in
     subst (λ q. Follows v first sent books (v.read x.1) (with_accepted first sent (v.read x.1) books) (seat_named q mid))
-    is.1 (of_copy v first sent x.0.section x.0.seat s mid x.1 books at_seat at_most
+    is.1 (of_copy v first sent x.0.section x.0.seat s mid x.1 books at_seat at_most apart
     (v.request_of sent.request sent.number).command (v.changes sent.request sent.number) it)
-copy_follows v customer seat first sent x books s mid is (inr came) own row few =
+copy_follows v customer seat first sent x books s mid apart is (inr came) own row few =
     let it : ◌≡◌ {A = Response × SoloState} (x.1, mid) (refusal came.0, s) =
     subst (λ (q : Wanted). ◌≡◌ {A = Response × SoloState} (x.1, mid) (alone_on x.0 s q)) came.1 own in
-    of_refused v first sent x.0.section seat s mid x.1 books row few came.0 came.2 it
+    of_refused v first sent x.0.section seat s mid x.1 books row few apart came.0 came.2 it
 
 copy_unkept : (v : Names) (seat : List ℕ) (first : ℕ) (sent : Sent) (x : Exchange) (books : List Entry) (s : SoloState)
-    → x.1 ≡ refusal unkept → IsRowOf v first (seat_named seat s) books → last_at seat s + 1 < 9007199254740991
+    → IsApart v first sent books → x.1 ≡ refusal unkept → IsRowOf v first (seat_named seat s) books → last_at seat s + 1 < 9007199254740991
     → Follows v first sent books (v.read x.1) (with_accepted first sent (v.read x.1) books) (seat_named seat s)
-copy_unkept v seat first sent x books s e row few =
-    of_refused v first sent x.0.section seat s s x.1 books row few unkept (inr refl) (ap (λ r. (r, s)) e)
+copy_unkept v seat first sent x books s apart e row few =
+    of_refused v first sent x.0.section seat s s x.1 books row few apart unkept (inr refl) (ap (λ r. (r, s)) e)
 
 -- the question comes to the office
 question_says : (v : Names) (customer seat : List ℕ) (first : ℕ) (x : Exchange) (books : List Entry)
@@ -179,34 +186,108 @@ pub said_books : (answer : Answer) (w : World) → (after_move (number_said answ
 said_books (accepts reply) w = refl
 said_books (refuses code expected) w = refl
 
+-- the books are of what was sent
+abbrev sent_of : Entry → Sent
+sent_of entry = record { number = entry.number; request = entry.request }
+
+abbrev pub AreSent : List Sent → List Entry → Type 0
+AreSent sents books = AllByRecursion (λ entry. IsAmong (sent_of entry) sents) books
+
+more_sent : (sents more : List Sent) (books : List Entry) → ((s : Sent) → IsAmong s sents → IsAmong s more)
+    → AreSent sents books → AreSent more books
+more_sent sents more books later are =
+    recursion_from_All _ _ (All-weaker (λ entry. IsAmong (sent_of entry) sents) (λ entry. IsAmong (sent_of entry) more)
+    (λ entry among. later (sent_of entry) among) _ (All-from_recursion _ books are))
+
+added_sent : (first : ℕ) (sent : Sent) (answer : Answer) (sents : List Sent) (books : List Entry) → IsAmong sent sents
+    → AreSent sents books → AreSent sents (with_accepted first sent answer books)
+added_sent first sent (refuses code expected) sents books among are = are
+added_sent first sent (accepts reply) sents books among are = by (sent.number == next_number first books)
+  where
+    by : (b : Bool) → AreSent sents (if b then entry_of sent reply ∷ books else books)
+    by true = (among, are)
+    by false = are
+
+-- what was sent stays sent
+acts_sent : (s : Sent) (acts : List Act) (w : World) → IsAmong s w.sent → IsAmong s (after_acts acts w).sent
+acts_sent s [] w among = among
+acts_sent s (act ∷ acts) w among = acts_sent s acts (after_act act w) (by act)
+  where
+    by : (act : Act) → IsAmong s (after_act act w).sent
+    by (Send sent) = inr among
+    by (Tell request (Done reply)) = among
+    by _ = among
+
+turn_sent : (v : Names) (first : ℕ) (s : Sent) (turn : Turn) (w : World) → IsAmong s w.sent
+    → IsAmong s (after_turn v first turn w).sent
+turn_sent v first s (meets event) w among = acts_sent s (step_of w.station event).acts (noted event w) among
+turn_sent v first s (halts event count) w among =
+    acts_sent s (take count (step_of w.station event).acts) (noted event w) among
+turn_sent v first s (copies sent x) w among = among
+turn_sent v first s (questions x) w among = by (v.read x.1)
+  where
+    by : (answer : Answer) → IsAmong s (after_move (number_said answer) w).sent
+    by (accepts reply) = among
+    by (refuses code expected) = among
+turn_sent v first s (turned_away None code) w among = among
+turn_sent v first s (turned_away (Some sent) code) w among = among
+turn_sent v first s (others x) w among = among
+
+turns_sent : (v : Names) (first : ℕ) (s : Sent) (turns : List Turn) (w : World) → IsAmong s w.sent
+    → IsAmong s (after_turns v first turns w).sent
+turns_sent v first s [] w among = among
+turns_sent v first s (turn ∷ turns) w among =
+    turns_sent v first s turns (after_turn v first turn w) (turn_sent v first s turn w among)
+
+-- what is apart in the end is so now
+pub apart_now : (v : Names) (first : ℕ) (turns : List Turn) (w : World)
+    → AreApart v (after_turns v first turns w).sent → AreApart v w.sent
+apart_now v first turns w apart one other a b =
+    apart one other (turns_sent v first one turns w a) (turns_sent v first other turns w b)
+
+newest_apart : (v : Names) (first : ℕ) (sent : Sent) (w : World) → AreApart v w.sent → IsAmong sent w.sent
+    → AreSent w.sent w.books → IsApart v first sent w.books
+newest_apart v first sent w apart among are newest older is digest =
+    apart (sent_of newest) sent (subst (AreSent w.sent) is are).0 among digest
+
+said_sent : (answer : Answer) (w : World) → AreSent w.sent w.books
+    → AreSent (after_move (number_said answer) w).sent (after_move (number_said answer) w).books
+said_sent (accepts reply) w are = are
+said_sent (refuses code expected) w are = are
+
 -- what holds between two turns
 pub record Holding (v : Names) (seat : List ℕ) (first : ℕ) (w : World) (s : SoloState) : Type 0 where
   pub settled : IsSettled first w
   pub row : IsRowOf v first (seat_named seat s) w.books
+  pub are_sent : AreSent w.sent w.books
 
 pub follow_copy : (v : Names) (customer seat : List ℕ) (first : ℕ) (sent : Sent) (x : Exchange) (ys : List Exchange)
     (w : World) (s s2 : SoloState) (step : Passed customer x ys s s2) → Holding v seat first w s
     → HasRoom w.station.file.place w.station.file.aside → IsUnkept x → MayTurn v customer seat w (copies sent x)
-    → last_at seat step.mid + 1 < 9007199254740991
+    → last_at seat step.mid + 1 < 9007199254740991 → AreApart v w.sent
     → Holding v seat first (after_turn v first (copies sent x) w) step.mid
-follow_copy v customer seat first sent x ys w s s2 step holding room kept may few =
+follow_copy v customer seat first sent x ys w s s2 step holding room kept may few apart =
     let follows = by step.step in
     record {
       settled = move_settled first w (serves sent (v.read x.1) (with_accepted first sent (v.read x.1) w.books))
           holding.settled room (may.0, follows.answers) tt;
       row = follows.row_of;
+      are_sent = added_sent first sent (v.read x.1) w.sent w.books may.0 holding.are_sent;
     }
   where
+    apart_from : IsApart v first sent w.books
+    apart_from = newest_apart v first sent w apart may.0 holding.are_sent
+
     by : ((is_own customer x ≡ true) × Own s x.0 x.1 step.mid) ⊎ ((is_own customer x ≡ false) × (step.mid ≡ s))
         → Follows v first sent w.books (v.read x.1) (with_accepted first sent (v.read x.1) w.books)
         (seat_named seat step.mid)
-    by (inl own) = copy_follows v customer seat first sent x w.books s step.mid may.1 may.2 own.1 holding.row few
+    by (inl own) = copy_follows v customer seat first sent x w.books s step.mid apart_from may.1 may.2 own.1 holding.row few
     by (inr other) =
         let e = other.1 in
         let at_most : last_at seat s + 1 < 9007199254740991 =
         subst (λ m. last_at seat m + 1 < 9007199254740991) e few in
         subst (λ m. Follows v first sent w.books (v.read x.1) (with_accepted first sent (v.read x.1) w.books)
-        (seat_named seat m)) (sym e) (copy_unkept v seat first sent x w.books s
+        (seat_named seat m)) (sym e) (copy_unkept v seat first sent x w.books s apart_from
         (kept (not_own customer x may.1.0 other.0)) holding.row at_most)
 
 pub follow_question : (v : Names) (customer seat : List ℕ) (first : ℕ) (x : Exchange) (ys : List Exchange) (w : World)
@@ -220,6 +301,7 @@ follow_question v customer seat first x ys w s s2 step holding room kept may far
       settled = said_settled first w (v.read x.1) holding.settled room told.1;
       row = subst (λ b. IsRowOf v first (seat_named seat step.mid) b) (sym (said_books (v.read x.1) w))
           (subst (λ m. IsRowOf v first (seat_named seat m) w.books) (sym told.0) holding.row);
+      are_sent = said_sent (v.read x.1) w holding.are_sent;
     }
   where
     by : ((is_own customer x ≡ true) × Own s x.0 x.1 step.mid) ⊎ ((is_own customer x ≡ false) × (step.mid ≡ s))
@@ -237,6 +319,7 @@ pub follow_other : (v : Names) (customer seat : List ℕ) (first : ℕ) (x : Exc
 follow_other v customer seat first x ys w s s2 step holding may = record {
   settled = holding.settled;
   row = subst (λ r. IsRowOf v first r w.books) (sym (by step.step)) holding.row;
+  are_sent = holding.are_sent;
 }
   where
     by : ((is_own customer x ≡ true) × Own s x.0 x.1 step.mid) ⊎ ((is_own customer x ≡ false) × (step.mid ≡ s))
@@ -251,6 +334,9 @@ pub meet : (v : Names) (seat : List ℕ) (first : ℕ) (event : Event) (w : Worl
 meet v seat first event w s holding room may = record {
   settled = move_settled first w (befalls event) holding.settled room may tt;
   row = rw (same_books (step_of w.station event).acts (noted event w)) holding.row;
+  are_sent = rw (same_books (step_of w.station event).acts (noted event w))
+      (more_sent w.sent _ w.books (λ sent among. acts_sent sent (step_of w.station event).acts (noted event w) among)
+      holding.are_sent);
 }
 
 pub halt : (v : Names) (seat : List ℕ) (first : ℕ) (event : Event) (count : ℕ) (w : World) (s : SoloState)
@@ -259,37 +345,62 @@ pub halt : (v : Names) (seat : List ℕ) (first : ℕ) (event : Event) (count : 
 halt v seat first event count w s holding room may = record {
   settled = move_settled first w (stops event count) holding.settled room may tt;
   row = rw (same_books (take count (step_of w.station event).acts) (noted event w)) holding.row;
+  are_sent = rw (same_books (take count (step_of w.station event).acts) (noted event w))
+      (more_sent w.sent _ w.books
+      (λ sent among. acts_sent sent (take count (step_of w.station event).acts) (noted event w) among) holding.are_sent);
+}
+
+-- what was sent is turned away
+pub turn_away : (v : Names) (customer seat : List ℕ) (first : ℕ) (what : Option Sent) (code : ℕ) (w : World)
+    (s : SoloState) → Holding v seat first w s → HasRoom w.station.file.place w.station.file.aside
+    → MayTurn v customer seat w (turned_away what code)
+    → Holding v seat first (after_turn v first (turned_away what code) w) s
+turn_away v customer seat first (Some sent) code w s holding room may = record {
+  settled = move_settled first w (serves sent (refuses code 0) w.books) holding.settled room
+      (may.0, (came_refused v first sent w.books (seat_named seat s) code 0 may.1 holding.row).answers) tt;
+  row = holding.row;
+  are_sent = holding.are_sent;
+}
+turn_away v customer seat first None code w s holding room may = record {
+  settled = move_settled first w (says code 0) holding.settled room
+      (λ e. absurd (low_not code 11 may.1 (omega arith) (omega arith) e)) tt;
+  row = holding.row;
+  are_sent = holding.are_sent;
 }
 
 follow : (v : Names) (customer seat : List ℕ) (first : ℕ) (turns : List Turn) (w : World) (s s2 : SoloState)
     → Holding v seat first w s → RunsAlone (exchanges_of customer (exchanges_in turns)) s s2
     → last_at seat s2 + 1 < 9007199254740991 → AllByRecursion IsUnkept (exchanges_in turns)
+    → AreApart v (after_turns v first turns w).sent
     → MayTurns v customer seat first w turns → Holding v seat first (after_turns v first turns w) s2
-follow v customer seat first [] w s s2 holding run far kept may =
+follow v customer seat first [] w s s2 holding run far kept apart may =
     subst (Holding v seat first w) (sym run) holding
-follow v customer seat first (meets event ∷ turns) w s s2 holding run far kept may =
+follow v customer seat first (meets event ∷ turns) w s s2 holding run far kept apart may =
     follow v customer seat first turns (after_turn v first (meets event) w) s s2
-    (meet v seat first event w s holding may.0 may.1) run far kept may.2
-follow v customer seat first (halts event count ∷ turns) w s s2 holding run far kept may =
+    (meet v seat first event w s holding may.0 may.1) run far kept apart may.2
+follow v customer seat first (halts event count ∷ turns) w s s2 holding run far kept apart may =
     follow v customer seat first turns (after_turn v first (halts event count) w) s s2
-    (halt v seat first event count w s holding may.0 may.1) run far kept may.2
-follow v customer seat first (copies sent x ∷ turns) w s s2 holding run far kept may =
+    (halt v seat first event count w s holding may.0 may.1) run far kept apart may.2
+follow v customer seat first (copies sent x ∷ turns) w s s2 holding run far kept apart may =
     let step = passed customer x (exchanges_in turns) s s2 run in
     let more = run_last seat (exchanges_of customer (exchanges_in turns)) step.mid s2 step.later in
     follow v customer seat first turns (after_turn v first (copies sent x) w) step.mid s2
     (follow_copy v customer seat first sent x (exchanges_of customer (exchanges_in turns)) w s s2 step holding may.0
-    kept.0 may.1 (omega arith)) step.later far kept.1 may.2
-follow v customer seat first (questions x ∷ turns) w s s2 holding run far kept may =
+    kept.0 may.1 (omega arith) (apart_now v first (copies sent x ∷ turns) w apart)) step.later far kept.1 apart may.2
+follow v customer seat first (questions x ∷ turns) w s s2 holding run far kept apart may =
     let step = passed customer x (exchanges_in turns) s s2 run in
     let more = run_last seat (exchanges_of customer (x ∷ exchanges_in turns)) s s2 run in
     follow v customer seat first turns (after_turn v first (questions x) w) step.mid s2
     (follow_question v customer seat first x (exchanges_of customer (exchanges_in turns)) w s s2 step holding may.0
-    kept.0 may.1 (omega arith)) step.later far kept.1 may.2
-follow v customer seat first (others x ∷ turns) w s s2 holding run far kept may =
+    kept.0 may.1 (omega arith)) step.later far kept.1 apart may.2
+follow v customer seat first (turned_away what code ∷ turns) w s s2 holding run far kept apart may =
+    follow v customer seat first turns (after_turn v first (turned_away what code) w) s s2
+    (turn_away v customer seat first what code w s holding may.0 may.1) run far kept apart may.2
+follow v customer seat first (others x ∷ turns) w s s2 holding run far kept apart may =
     let step = passed customer x (exchanges_in turns) s s2 run in
     follow v customer seat first turns w step.mid s2
     (follow_other v customer seat first x (exchanges_of customer (exchanges_in turns)) w s s2 step holding may.1)
-    step.later far kept.1 may.2
+    step.later far kept.1 apart may.2
 
 -- over a run of the office
 pub held : (v : Names) (customer seat : List ℕ) (first : ℕ) (r : SeatRun) (turns : List Turn)
@@ -297,10 +408,10 @@ pub held : (v : Names) (customer seat : List ℕ) (first : ℕ) (r : SeatRun) (t
     → Holding v seat first (after_turns v first turns beginning) (view customer r.new)
 held v customer seat first r turns is =
     follow v customer seat first turns beginning (view customer r.old) (view customer r.new)
-    (record { settled = begins first; row = is.begins })
+    (record { settled = begins first; row = is.begins; are_sent = tt })
     (subst (λ xs. RunsAlone (exchanges_of customer xs) (view customer r.old) (view customer r.new)) (sym is.office)
     (run_alone customer r.first r.exchanges r.last r.old r.new r.is_sound r.are_seats r.is_run))
-    is.far (subst (AllByRecursion IsUnkept) (sym is.office) (run_unkept r.exchanges r.old r.new r.is_run)) is.turn
+    is.far (subst (AllByRecursion IsUnkept) (sym is.office) (run_unkept r.exchanges r.old r.new r.is_run)) is.apart is.turn
 
 pub concluded : (v : Names) (customer seat : List ℕ) (first : ℕ) (r : SeatRun) (turns : List Turn)
     → IsStationRun v customer seat first r turns → Concludes first (after_turns v first turns beginning)

@@ -1,5 +1,6 @@
 -- What a station told as done was done at a moment of the office's run.
 use Rattle.std.proofs.Common.{◌≡◌, ◌+◌, ◌<◌, ◌≤◌, ◌⊎◌, ◌∷◌, ◌&&◌, ◌==◌}
+use Rattle.text_core.proofs.Kit.{Option, None, Some}
 use Rattle.text_core.proofs.Kit.{◌∙◌, ℕ, inl, inr, Bool, true, false, List, [], refl, sym, ap, subst, arith, eqb-true, lt-ltb, nat_lt}
 use Rattle.std.specs.Prelude.{if◌then◌else◌}
 use Rattle.http_replies.specs.Prelude.{Answer as Response}
@@ -26,13 +27,13 @@ use Rattle.seat_laws.specs.Prelude.{noted, refuses}
 use Rattle.seat_laws.proofs.Among.{all_at}
 use Rattle.seat_laws.proofs.Running.{begins, same_books}
 use Rattle.std.specs.Prelude.{take}
-use Rattle.seat_runs.specs.Prelude.{IsCopy, IsDoneAt, IsOf, IsPlanRecorded, IsRecorded, IsRowOf, IsToldOf, MayTurns, Moment, MomentOf}
+use Rattle.seat_runs.specs.Prelude.{AreApart, IsCopy, IsDoneAt, IsOf, IsPlanRecorded, IsRecorded, IsRowOf, IsToldOf, MayTurns, Moment, MomentOf}
 use Rattle.seat_runs.specs.Prelude.{Names, StationRun, Turn, after_turn, after_turns, exchanges_in, expected_in}
 use Rattle.seat_runs.specs.Prelude.{asks_for, is_plan, with_accepted, world_after}
-use Rattle.seat_runs.specs.Turns.{copies, halts, meets, others, questions}
+use Rattle.seat_runs.specs.Turns.{copies, halts, meets, others, questions, turned_away}
 use Rattle.seat_runs.proofs.Answering.{few_expected, low_not, row_next}
 use Rattle.seat_runs.proofs.Coming.{Comes, Responds, comes_to, row_number}
-use Rattle.seat_runs.proofs.Following.{Holding, Passed, concluded, follow_copy, follow_other, follow_question}
+use Rattle.seat_runs.proofs.Following.{apart_now, turn_away, Holding, Passed, concluded, follow_copy, follow_other, follow_question}
 use Rattle.seat_runs.proofs.Following.{halt, meet, not_own, passes_unkept, run_last, said_books}
 use Rattle.seat_runs.proofs.Making.{accepted_succeeds, is_success}
 use Rattle.seat_runs.proofs.Staying.{first_moment, later_moment, expected_from, recorded_at, stays_from}
@@ -194,22 +195,23 @@ added_done v customer seat first sent x xs t mid t2 books entry passes run of co
 entry_done : (v : Names) (customer seat : List ℕ) (first : ℕ) (entry : Entry) (turns : List Turn) (w : World)
     (o last : Ownership) (t t2 : Tables) → IsSound o t → AreSeats o (calls_of (exchanges_in turns)) last
     → IsRun (exchanges_in turns) t t2 → Holding v seat first w (view customer t)
-    → last_at seat (view customer t2) + 1 < 9007199254740991 → MayTurns v customer seat first w turns
+    → last_at seat (view customer t2) + 1 < 9007199254740991 → AreApart v (after_turns v first turns w).sent
+    → MayTurns v customer seat first w turns
     → IsAmong entry (after_turns v first turns w).books
     → IsAmong entry w.books ⊎ IsDoneIn v customer seat entry (exchanges_in turns) t t2
-entry_done v customer seat first entry [] w o last t t2 sound seats run holding far may among = inl among
-entry_done v customer seat first entry (meets event ∷ turns) w o last t t2 sound seats run holding far may among =
+entry_done v customer seat first entry [] w o last t t2 sound seats run holding far apart may among = inl among
+entry_done v customer seat first entry (meets event ∷ turns) w o last t t2 sound seats run holding far apart may among =
     same (entry_done v customer seat first entry turns (after_turn v first (meets event) w) o last t t2 sound seats run
-    (meet v seat first event w (view customer t) holding may.0 may.1) far may.2 among)
+    (meet v seat first event w (view customer t) holding may.0 may.1) far apart may.2 among)
   where
     same : IsAmong entry (after_turn v first (meets event) w).books
         ⊎ IsDoneIn v customer seat entry (exchanges_in turns) t t2
         → IsAmong entry w.books ⊎ IsDoneIn v customer seat entry (exchanges_in turns) t t2
     same (inl is) = inl (subst (IsAmong entry) (same_books (step_of w.station event).acts (noted event w)) is)
     same (inr is) = inr is
-entry_done v customer seat first entry (halts event count ∷ turns) w o last t t2 sound seats run holding far may among =
+entry_done v customer seat first entry (halts event count ∷ turns) w o last t t2 sound seats run holding far apart may among =
     same (entry_done v customer seat first entry turns (after_turn v first (halts event count) w) o last t t2 sound seats
-    run (halt v seat first event count w (view customer t) holding may.0 may.1) far may.2 among)
+    run (halt v seat first event count w (view customer t) holding may.0 may.1) far apart may.2 among)
   where
     same : IsAmong entry (after_turn v first (halts event count) w).books
         ⊎ IsDoneIn v customer seat entry (exchanges_in turns) t t2
@@ -217,9 +219,9 @@ entry_done v customer seat first entry (halts event count ∷ turns) w o last t 
     same (inl is) =
         inl (subst (IsAmong entry) (same_books (take count (step_of w.station event).acts) (noted event w)) is)
     same (inr is) = inr is
-entry_done v customer seat first entry (copies sent x ∷ turns) w o last t t2 sound seats run holding far may among =
+entry_done v customer seat first entry (copies sent x ∷ turns) w o last t t2 sound seats run holding far apart may among =
     split (entry_done v customer seat first entry turns (after_turn v first (copies sent x) w) seats.0 last run.0 t2
-    one.sound seats.4 run.2 holds far may.2 among)
+    one.sound seats.4 run.2 holds far apart may.2 among)
   where
     one : Serves seats.0 x t run.0
     one = serves_grown o x (exchanges_in turns) last t run.0 sound seats run.1
@@ -233,6 +235,7 @@ entry_done v customer seat first entry (copies sent x ∷ turns) w o last t t2 s
         let more = run_last seat (exchanges_of customer (exchanges_in turns)) (view customer run.0) (view customer t2) step.later in
         follow_copy v customer seat first sent x (exchanges_of customer (exchanges_in turns)) w (view customer t) (view customer t2) step
         holding may.0 (passes_unkept x t run.0 run.1) may.1 (omega arith)
+        (apart_now v first (copies sent x ∷ turns) w apart)
 
     near : last_at seat (view customer t) + 1 < 9007199254740991
     near =
@@ -249,9 +252,9 @@ entry_done v customer seat first entry (copies sent x ∷ turns) w o last t t2 s
         → IsAmong entry w.books ⊎ IsDoneIn v customer seat entry (x ∷ (exchanges_in turns)) t t2
     split (inl is) = new (added first sent (v.read x.1) w.books entry is)
     split (inr is) = inr (later_done v customer seat entry x (exchanges_in turns) t run.0 t2 run.1 is)
-entry_done v customer seat first entry (questions x ∷ turns) w o last t t2 sound seats run holding far may among =
+entry_done v customer seat first entry (questions x ∷ turns) w o last t t2 sound seats run holding far apart may among =
     split (entry_done v customer seat first entry turns (after_turn v first (questions x) w) seats.0 last run.0 t2
-    one.sound seats.4 run.2 holds far may.2 among)
+    one.sound seats.4 run.2 holds far apart may.2 among)
   where
     one : Serves seats.0 x t run.0
     one = serves_grown o x (exchanges_in turns) last t run.0 sound seats run.1
@@ -273,11 +276,11 @@ entry_done v customer seat first entry (questions x ∷ turns) w o last t t2 sou
         → IsAmong entry w.books ⊎ IsDoneIn v customer seat entry (x ∷ (exchanges_in turns)) t t2
     split (inl is) = inl (subst (IsAmong entry) (said_books (v.read x.1) w) is)
     split (inr is) = inr (later_done v customer seat entry x (exchanges_in turns) t run.0 t2 run.1 is)
-entry_done v customer seat first entry (others x ∷ turns) w o last t t2 sound seats run holding far may among =
+entry_done v customer seat first entry (others x ∷ turns) w o last t t2 sound seats run holding far apart may among =
     split (entry_done v customer seat first entry turns w seats.0 last run.0 t2 one.sound seats.4 run.2
     (follow_other v customer seat first x (exchanges_of customer (exchanges_in turns)) w (view customer t) (view customer t2)
     (passing customer seats.0 x (exchanges_in turns) last t run.0 t2 one
-    (run_alone customer seats.0 (exchanges_in turns) last run.0 t2 one.sound seats.4 run.2)) holding may.1) far may.2 among)
+    (run_alone customer seats.0 (exchanges_in turns) last run.0 t2 one.sound seats.4 run.2)) holding may.1) far apart may.2 among)
   where
     one : Serves seats.0 x t run.0
     one = serves_grown o x (exchanges_in turns) last t run.0 sound seats run.1
@@ -286,6 +289,18 @@ entry_done v customer seat first entry (others x ∷ turns) w o last t t2 sound 
         → IsAmong entry w.books ⊎ IsDoneIn v customer seat entry (x ∷ (exchanges_in turns)) t t2
     split (inl is) = inl is
     split (inr is) = inr (later_done v customer seat entry x (exchanges_in turns) t run.0 t2 run.1 is)
+
+entry_done v customer seat first entry (turned_away what code ∷ turns) w o last t t2 sound seats run holding far apart may
+    among =
+    same what (entry_done v customer seat first entry turns (after_turn v first (turned_away what code) w) o last t t2 sound
+    seats run (turn_away v customer seat first what code w (view customer t) holding may.0 may.1) far apart may.2 among)
+  where
+    same : (what : Option Sent) → IsAmong entry (after_turn v first (turned_away what code) w).books
+        ⊎ IsDoneIn v customer seat entry (exchanges_in turns) t t2
+        → IsAmong entry w.books ⊎ IsDoneIn v customer seat entry (exchanges_in turns) t t2
+    same None (inl is) = inl is
+    same (Some sent) (inl is) = inl is
+    same what (inr is) = inr is
 
 -- what was done is an entry of the books
 entry_told : (books : List Entry) (told : Answered) → WasDone books told
@@ -317,7 +332,8 @@ told_done s told among =
     (none (entry_done s.names s.customer s.seat s.first entry.0 s.turns beginning r.first r.last r.old r.new r.is_sound
     (subst (λ xs. AreSeats r.first (calls_of xs) r.last) (sym s.is_run.office) r.are_seats)
     (subst (λ xs. IsRun xs r.old r.new) (sym s.is_run.office) r.is_run)
-    (record { settled = begins s.first; row = s.is_run.begins }) s.is_run.far s.is_run.turn entry.1)))
+    (record { settled = begins s.first; row = s.is_run.begins; are_sent = tt }) s.is_run.far s.is_run.apart
+    s.is_run.turn entry.1)))
   where
     none : {P : Type 0} → ⊥ ⊎ P → P
     none (inl is) = absurd is

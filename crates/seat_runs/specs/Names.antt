@@ -7,6 +7,7 @@ use Rattle.office_commands.specs.declared.refusal.Refusal.TheVariants.{WrongNumb
 use Rattle.office_commands.specs.Prelude.{acceptance, largest_whole, refusal, refusal_number}
 use Rattle.office_laws.specs.Prelude.{Wanted, asks, is_change, refused}
 use Rattle.seat_core.specs.declared.request.Sent.{Sent}
+use Rattle.seat_laws.specs.Runs.{IsAmong}
 use Rattle.seat_laws.specs.Served.{Answer, accepts, refuses}
 
 -- the number that a refusal says is expected, 0 where it says none
@@ -24,14 +25,12 @@ abbrev pub ReadsRefusals : (Response → Answer) → Type 0
 ReadsRefusals read = (reason : Refusal) → expected_in reason ≤ largest_whole
     → read (refusal reason) ≡ refuses (refusal_number reason) (expected_in reason)
 
--- The request of a name with a number, and how the station reads an answer. No two of its requests
--- have one digest. With the greatest number it asks which one is expected.
+-- The request of a name with a number, and how the station reads an answer. With the greatest number
+-- it asks which one is expected.
 pub record Names : Type 0 where
   pub request_of : ℕ → ℕ → Request
   pub numbered : (name number : ℕ) → (request_of name number).number ≡ number
   pub changes : (name number : ℕ) → is_change (request_of name number).command ≡ true
-  pub apart : (name other number : ℕ)
-      → (request_of name number).digest ≡ (request_of other number).digest → name ≡ other
   pub question : Request
   pub greatest : question.number ≡ largest_whole
   pub question_changes : is_change question.command ≡ true
@@ -39,6 +38,12 @@ pub record Names : Type 0 where
   pub name_of : List ℕ → ℕ
   pub reads_reply : ReadsReplies name_of read
   pub reads_refusal : ReadsRefusals read
+
+-- of these requests those with one digest have one name
+abbrev pub AreApart : Names → List Sent → Type 0
+AreApart v sents = (one other : Sent) → IsAmong one sents → IsAmong other sents
+    → (v.request_of one.request one.number).digest
+    ≡ (v.request_of other.request other.number).digest → one.request ≡ other.request
 
 -- it was refused as it came: by 1 to 10, or by 50
 abbrev pub IsRefusedAsItCame : Wanted → Type 0

@@ -1,5 +1,5 @@
 -- A run of the office and of one of its stations.
-use Rattle.std.specs.Prelude.{◌≡◌, ◌⊎◌, ℕ, ◌+◌, ◌<◌, ◌==◌, false, if◌then◌else◌, List, [], ◌∷◌, Option, Some}
+use Rattle.std.specs.Prelude.{◌≡◌, ◌⊎◌, ℕ, ◌+◌, ◌<◌, ◌==◌, false, if◌then◌else◌, List, [], ◌∷◌, Option, None, Some}
 use Rattle.office_tables.specs.declared.rows.SeatState.{SeatState}
 use Rattle.office_commands.specs.Prelude.{largest_whole}
 use Rattle.office_laws.specs.Prelude.{Exchange, SeatRun, last_number_of_seat, seat_named, view, writes}
@@ -8,16 +8,18 @@ use Rattle.seat_core.specs.declared.request.Sent.{Sent}
 use Rattle.seat_laws.specs.Prelude.{Answer, Entry, HasRoom, IsAmong, MayBefall, Move, World, accepts, after_move}
 use Rattle.seat_laws.specs.Prelude.{beginning, entry_of, next_number, refuses}
 use Rattle.seat_laws.specs.Runs.{befalls, says, serves, stops}
-use Rattle.seat_runs.specs.Names.{IsCopy, IsQuestion, Names}
+use Rattle.seat_runs.specs.Names.{AreApart, IsCopy, IsQuestion, Names}
 
 -- One thing that happens: something befalls the station, or stops it when it has done so many acts
--- of it; the office gets a copy of what was sent, or the question for the number; or it does
--- anything else.
+-- of it; the office gets a copy of what was sent, or the question for the number; one of these is
+-- turned away before the office, by the server's port or a proxy, as by 1 to 10 or by 50; or the
+-- office does anything else.
 pub data Turn : Type 0 where
   meets : Event → Turn
   halts : Event → ℕ → Turn
   copies : Sent → Exchange → Turn
   questions : Exchange → Turn
+  turned_away : Option Sent → ℕ → Turn
   others : Exchange → Turn
 
 -- what the office did
@@ -39,12 +41,18 @@ abbrev pub number_said : Answer → Move
 number_said (accepts reply) = says 0 0
 number_said (refuses code expected) = says code expected
 
+-- a copy, or the question, is refused, and nothing is done
+abbrev pub refused_move : Option Sent → ℕ → List Entry → Move
+refused_move (Some sent) code books = serves sent (refuses code 0) books
+refused_move None code books = says code 0
+
 abbrev pub after_turn : Names → ℕ → Turn → World → World
 after_turn v first (meets event) w = after_move (befalls event) w
 after_turn v first (halts event count) w = after_move (stops event count) w
 after_turn v first (copies sent x) w =
     after_move (serves sent (v.read x.1) (with_accepted first sent (v.read x.1) w.books)) w
 after_turn v first (questions x) w = after_move (number_said (v.read x.1)) w
+after_turn v first (turned_away what code) w = after_move (refused_move what code w.books) w
 after_turn v first (others x) w = w
 
 abbrev pub after_turns : Names → ℕ → List Turn → World → World
@@ -55,6 +63,11 @@ after_turns v first (turn ∷ turns) w = after_turns v first turns (after_turn v
 abbrev pub IsOf : List ℕ → List ℕ → Exchange → Type 0
 IsOf customer seat x = (x.0.section.name ≡ customer) × (x.0.seat ≡ seat)
 
+-- it was sent, if it isn't the question
+abbrev pub WasSent : Option Sent → World → Type 0
+WasSent (Some sent) w = IsAmong sent w.sent
+WasSent None w = Unit {0}
+
 -- each request of the seat that writes is a copy of what the station sent, any number of times and
 -- as late as one likes, or its question; and what the station hears is an answer to what it sent
 -- last
@@ -64,6 +77,8 @@ MayTurn v customer seat w (halts event count) = MayBefall w event
 MayTurn v customer seat w (copies sent x) =
     IsAmong sent w.sent × IsOf customer seat x × IsCopy v sent x.0.wanted
 MayTurn v customer seat w (questions x) = IsOf customer seat x × IsQuestion v x.0.wanted
+MayTurn v customer seat w (turned_away what code) =
+    WasSent what w × ((code < 11) ⊎ (code ≡ 50))
 MayTurn v customer seat w (others x) =
     (IsOf customer seat x → ⊥) ⊎ (writes x.0.wanted ≡ false)
 
@@ -82,6 +97,7 @@ pub record IsStationRun (v : Names) (customer seat : List ℕ) (first : ℕ) (r 
   pub office : exchanges_in turns ≡ r.exchanges
   pub begins : first ≡ last_number_of_seat (seat_named seat (view customer r.old)) + 1
   pub far : last_number_of_seat (seat_named seat (view customer r.new)) + 1 < largest_whole
+  pub apart : AreApart v (after_turns v first turns beginning).sent
   pub turn : MayTurns v customer seat first beginning turns
 
 -- such a run, with its station, its seat and what happened
