@@ -16,9 +16,9 @@ use Rattle.seat_core.specs.Starts.{request_step, start_step}
 use Rattle.seat_core.specs.Replies.{completion, late_copy, probe_reply, probe_silence, reply_step, silence_step, untried_request}
 use Rattle.seat_laws.specs.Served.{Answer, Entry, IsInOrder, accepts, entry_of}
 use Rattle.seat_laws.specs.Runs.{IsAmong, Reply, World, last_sent, probed}
-use Rattle.seat_laws.specs.Concludes.{WasDone, done_in, line_of_request, with_entry, with_reply}
+use Rattle.seat_laws.specs.Concludes.{WasDone, done_in, line_of_request, with_reply}
 use Rattle.seat_laws.proofs.Among.{all_at, at_index}
-use Rattle.seat_laws.proofs.Standing.{more_pending, now_ahead, now_logged, one_sent, still_standing}
+use Rattle.seat_laws.proofs.Standing.{more_pending, now_ahead, now_logged, one_sent, still_standing, with_own}
 use Rattle.seat_laws.proofs.Serving.{Holds, HoldsIn, IsAwaited, IsPlaced, IsProbing, Means, MeansOf, WaitsIn}
 use Rattle.seat_laws.proofs.Acting.{Keeps, quiet, shows}
 
@@ -118,10 +118,11 @@ completes : (first : ℕ) (sent : Sent) (aside : List ℕ) (last : Option Answer
     → After first (at (UnderWay sent) aside last waiting) w
     (completion (at (UnderWay sent) aside last waiting) sent reply)
 completes first sent aside last waiting w reply older order holds line are =
-    let now = with_reply (line_of_request w.log) reply (done_in w.log) in
+    let now = with_reply sent.number (line_of_request w.log) reply (done_in w.log) in
     let logged : w.books ≡ now =
     now_logged first sent.number (sent.request ∷ aside) (done_in w.log) w.sent w.books sent reply older order
-    holds.placed are refl ∙ sym (ap (λ l. with_reply l reply (done_in w.log)) line) in
+    holds.placed are refl ∙ (sym (with_own sent.number sent reply (done_in w.log) refl)
+    ∙ sym (ap (λ l. with_reply sent.number l reply (done_in w.log)) line)) in
     let done = placed_so now w.sent
     (still_standing (entry_of sent reply) older are refl (inl refl) now logged holds.placed) holds in
     let left : SeatFile = (completion (at (UnderWay sent) aside last waiting) sent reply).left.file in
@@ -160,10 +161,10 @@ finds : (first : ℕ) (sent : Sent) (aside : List ℕ) (last : Option Answered) 
 finds first sent aside last waiting w reply request older order holds among are =
     let copy : Sent = record { number = sent.number; request = request } in
     let next : Sent = record { number = number_after sent.number; request = sent.request } in
-    let now = with_entry (entry_of copy reply) (done_in w.log) in
+    let now = with_reply sent.number (Some copy) reply (done_in w.log) in
     let logged : w.books ≡ now =
     now_logged first sent.number (sent.request ∷ aside) (done_in w.log) w.sent w.books copy reply older order
-    holds.placed are refl in
+    holds.placed are refl ∙ sym (with_own sent.number copy reply (done_in w.log) refl) in
     let done = placed_so now w.sent
     (still_standing (entry_of copy reply) older are refl (inr among) now logged holds.placed) holds in
     let left : SeatFile =

@@ -1,5 +1,5 @@
 -- How the seat's next number, what is pending, the log and the books stand to each other.
-use Rattle.std.proofs.Common.{◌≡◌, ◌⊎◌, ◌∙◌, ℕ, ◌+◌, ◌<◌, ◌≤◌, Bool, true, false, List, [], ◌∷◌}
+use Rattle.std.proofs.Common.{Some, ◌≡◌, ◌⊎◌, ◌∙◌, ℕ, ◌+◌, ◌<◌, ◌≤◌, Bool, true, false, List, [], ◌∷◌}
 use Rattle.std.proofs.Common.{refl, sym, ap, subst, inl, inr, arith}
 use Rattle.std.proofs.lemmas.Bool.{eq-eqb, ne_eqb}
 use Rattle.std.specs.Prelude.{◌==◌}
@@ -10,7 +10,7 @@ use Rattle.seat_core.specs.Steps.{number_after}
 use Rattle.seat_laws.specs.Served.{Answer, Answers, Entry, HasNumber, IsInOrder, accepts}
 use Rattle.seat_laws.specs.Served.{entry_of, next_number, refuses}
 use Rattle.seat_laws.specs.Runs.{IsAmong}
-use Rattle.seat_laws.specs.Concludes.{WasDone, with_entry}
+use Rattle.seat_laws.specs.Concludes.{WasDone, with_entry, with_reply}
 use Rattle.std.proofs.lemmas.List.Elements.{All-from_recursion, recursion_from_All, All-weaker}
 use Rattle.seat_laws.proofs.Among.{all_at}
 
@@ -243,7 +243,17 @@ with_newest first newest (entry ∷ older) order =
 
 with_same : (newest : Entry) (older : List Entry) → with_entry newest (newest ∷ older) ≡ newest ∷ older
 with_same newest older =
-    let t : (newest.number == newest.number) ≡ true = eq-eqb newest.number newest.number refl in rw t refl
+    rw (
+      eq-eqb newest.number newest.number refl,
+      eq-eqb newest.request newest.request refl,
+      eq-eqb newest.reply newest.reply refl,
+    ) refl
+
+-- a line of the reply to a request, with its number
+pub with_own : (number : ℕ) (sent : Sent) (reply : ℕ) (done : List Entry) → sent.number ≡ number
+    → with_reply number (Some sent) reply done ≡ with_entry (entry_of sent reply) done
+with_own number sent reply done is =
+    let t : (sent.number == number) ≡ true = eq-eqb sent.number number is in rw t refl
 
 with_logged : (first : ℕ) (newest : Entry) (older done : List Entry) → IsInOrder first (newest ∷ older)
     → (older ≡ done) ⊎ ((newest ∷ older) ≡ done) → (newest ∷ older) ≡ with_entry newest done

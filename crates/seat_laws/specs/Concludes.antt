@@ -1,5 +1,5 @@
 -- What a station may conclude.
-use Rattle.std.specs.Prelude.{◌≡◌, ◌⊎◌, ℕ, suc, ◌≤◌, ◌==◌, if◌then◌else◌, List, [], ◌∷◌, Option, None, Some}
+use Rattle.std.specs.Prelude.{◌≡◌, ◌⊎◌, ℕ, suc, ◌≤◌, ◌==◌, ◌&&◌, Bool, if◌then◌else◌, List, [], ◌∷◌, Option, None, Some}
 use Rattle.std.specs.List.{AllByRecursion}
 use Rattle.seat_core.specs.declared.act.Act.{Act}
 use Rattle.seat_core.specs.declared.act.Act.TheVariants.{LogRequest, LogOutcome}
@@ -17,22 +17,29 @@ line_of_request [] = None
 line_of_request (LogRequest sent ∷ log) = Some sent
 line_of_request (act ∷ log) = line_of_request log
 
--- with this one, unless the newest has its number
+-- they have one number, one request and one reply
+abbrev pub is_same : Entry → Entry → Bool
+is_same a b = a.number == b.number && a.request == b.request && a.reply == b.reply
+
+-- with this one, unless it is the newest already
 abbrev pub with_entry : Entry → List Entry → List Entry
 with_entry entry [] = entry ∷ []
 with_entry entry (newest ∷ older) =
-    if newest.number == entry.number then newest ∷ older else entry ∷ newest ∷ older
+    if is_same newest entry then newest ∷ older else entry ∷ newest ∷ older
 
-abbrev pub with_reply : Option Sent → ℕ → List Entry → List Entry
-with_reply None reply done = done
-with_reply (Some sent) reply done = with_entry (entry_of sent reply) done
+-- with a reply to the request of this number
+abbrev pub with_reply : ℕ → Option Sent → ℕ → List Entry → List Entry
+with_reply number None reply done = done
+with_reply number (Some sent) reply done =
+    if sent.number == number then with_entry (entry_of sent reply) done else done
 
--- What the log has as done, the newest first: each line of a reply, with the request of the line
--- before it. A line that comes again, behind a stop, is no other request.
+-- What the log has as done, the newest first: each line of a reply, with the request of the newest
+-- line of a request, if it has its number. A line that comes again, behind a stop, is no other
+-- request.
 abbrev pub done_in : List Act → List Entry
 done_in [] = []
 done_in (LogOutcome number (Done reply) ∷ log) =
-    with_reply (line_of_request log) reply (done_in log)
+    with_reply number (line_of_request log) reply (done_in log)
 done_in (act ∷ log) = done_in log
 
 -- the request is under way with this number, or kept aside where it is the next one's
@@ -55,9 +62,9 @@ WasDone [] told = ⊥
 WasDone (entry ∷ books) told =
     ((entry.request ≡ told.request) × (entry.reply ≡ told.reply)) ⊎ WasDone books told
 
--- The log is the books, but for at most one request, which is under way or aside. The books have each
--- once, one number after the other. What was told as done was done, with that reply. The station
--- hasn't stopped.
+-- The log is the books, but for at most one request, which is under way or aside. The books have
+-- each once, one number after the other. What was told as done was done, with that reply. The
+-- station hasn't stopped.
 pub record Concludes (first : ℕ) (w : World) : Type 0 where
   pub books : (w.books ≡ done_in w.log) ⊎ IsOneMore w
   pub once : IsInOrder first w.books

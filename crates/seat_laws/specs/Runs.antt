@@ -25,9 +25,9 @@ pub record Reply : Type 0 where
   pub to : Option Sent
   pub answer : Answer
 
--- The station, its log, the requests that were wanted of it, what it told of them, what it sent, the
--- seat's accepted requests at the server, and the answers since it last sent something: the newest
--- first.
+-- The station, its log, the requests that were wanted of it, what it told of them, what it sent,
+-- the seat's accepted requests at the server, and the answers since it last sent something: the
+-- newest first.
 pub record World : Type 0 where
   pub station : Station
   pub log : List Act
@@ -88,8 +88,9 @@ abbrev pub noted : Event → World → World
 noted event w = record w { wanted = wanted_with event w.wanted }
 
 -- One thing that happens: an event befalls the station; it is stopped when it has done so many acts
--- of one; a copy of a request comes to the server, is answered, and the books are so then; the server
--- says which number it expects, or refuses to; somebody else has a request done with the seat's token.
+-- of one; a copy of a request comes to the server, is answered, and the books are so then; the
+-- server says which number it expects, or refuses to; somebody else has a request done with the
+-- seat's token.
 pub data Move : Type 0 where
   befalls : Event → Move
   stops : Event → ℕ → Move
@@ -121,8 +122,8 @@ last_sent waiting place aside = None
 abbrev pub last_question : Station → Option Sent
 last_question s = last_sent s.waiting s.file.place s.file.aside
 
--- What is heard as an answer is one, to what was sent last, and since then. No person has the station
--- go on.
+-- What is heard as an answer is one, to what was sent last, and since then. No person has the
+-- station go on.
 abbrev pub MayBefall : World → Event → Type 0
 MayBefall w (Accept reply) =
     IsAmong (record { to = last_question w.station; answer = accepts reply }) w.since

@@ -17,8 +17,8 @@ entry_of sent reply =
 abbrev pub greatest_number : ℕ
 greatest_number = 9007199254740991
 
--- The seat's accepted requests are a list, the newest first. The number that comes next is the first
--- one, or that after the newest's.
+-- The seat's accepted requests are a list, the newest first. The number that comes next is the
+-- first one, or that after the newest's.
 abbrev pub next_number : ℕ → List Entry → ℕ
 next_number first [] = first
 next_number first (entry ∷ books) = entry.number + 1
@@ -68,8 +68,8 @@ pub record HasNumber (books : List Entry) (number : ℕ) : Type 0 where
   pub is : newest.number ≡ number
 
 -- A refusal changes nothing. Only a number that is neither the newest's nor the next one is refused
--- as 11, only another request with the newest's number as 12, and as one of a higher number, but for
--- 50, only the next number.
+-- as 11, only another request with the newest's number as 12, and as one of a higher number, but
+-- for 50, only the next number.
 pub record IsRefused (first : ℕ) (books : List Entry) (sent : Sent) (code expected : ℕ)
     (after : List Entry) : Type 0 where
   pub same : after ≡ books

@@ -1,8 +1,7 @@
 -- What is burnt of a device or is to be burnt is so behind each step of it, unless it is given up.
 use Rattle.std.proofs.Common.{◌≡◌, ◌∷◌}
-use Rattle.text_core.proofs.Kit.{◌∙◌, ℕ, Bool, true, false, List, [], Option, Some, None, refl, sym, ap, subst, arith, bytes_eq-Decides, not, not-false}
+use Rattle.text_core.proofs.Kit.{◌∙◌, ℕ, Bool, true, false, List, [], Some, None, refl, sym, ap, subst, bytes_eq-Decides, not, not-false}
 use Rattle.std.specs.FinMap as table
-use Rattle.std.specs.FinSet as set
 use Rattle.text_core.specs.Prelude.{first_that_holds}
 use Rattle.fusemap_core.specs.Prelude.{IsMap, Map}
 use Rattle.fuse_image.specs.declared.image.Image.{Image}
@@ -29,7 +28,7 @@ use Rattle.office_commands.specs.declared.command.Action.{Action}
 use Rattle.office_commands.specs.declared.command.Action.TheVariants.{Plan, ReadBack, Scrap, Ship}
 use Rattle.office_commands.specs.Prelude.{IsAction}
 use Rattle.office_rules.specs.Prelude.{action_refusals, known_of, next_batch, pending_after, pending_of_wishes, reads_redacted, rule_of}
-use Rattle.office_rules.specs.Prelude.{state_after, step_of_plan, verdict_of_read_back, wish_refusals, with_rest}
+use Rattle.office_rules.specs.Prelude.{state_after, step_of_plan, verdict_of_read_back, with_rest}
 use Rattle.office_rules.proofs.Refusing.{first_is_false, later_is_none}
 use Rattle.office_laws.specs.Prelude.{IsAwaited, IsOfBatches}
 use Rattle.office_laws.proofs.Plan.{missing_digests, no_fault_from}

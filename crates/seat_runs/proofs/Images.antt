@@ -1,7 +1,8 @@
 -- What is burnt of a chip or is to be burnt, as read-backs come in.
-use Rattle.std.proofs.Common.{◌≡◌, ◌∷◌, if◌then◌else◌, ◌&&◌, ◌||◌}
-use Rattle.text_core.proofs.Kit.{◌∙◌, ℕ, Bool, true, false, List, Option, Some, None, refl, sym, ap, subst, IfSome, bytes_eq, is_some, not, not-false, option_or, same_text}
-use Rattle.text_core.proofs.Kit.{cond, nat_cmp, nat_lt}
+use Rattle.std.proofs.Common.{◌≡◌, if◌then◌else◌, ◌&&◌, ◌||◌}
+use Rattle.text_core.proofs.Kit.{◌∙◌, ℕ, Bool, true, false, List, Option, Some, None}
+use Rattle.text_core.proofs.Kit.{refl, sym, ap, IfSome, bytes_eq, is_some, not, not-false, option_or, same_text}
+use Rattle.text_core.proofs.Kit.{nat_cmp, nat_lt}
 use Rattle.std.specs.FinMap as table
 use Rattle.std.specs.FinSet as set
 use Rattle.fusemap_core.specs.Prelude.{Map}
@@ -14,13 +15,12 @@ use Rattle.fuse_image.specs.Prelude.{no_pending, pos_cmp, pos_total, some_key}
 use Rattle.fuse_plan.specs.declared.verdict.Verdict.{Verdict}
 use Rattle.fuse_plan.specs.declared.verdict.Verdict.TheVariants.{Fault}
 use Rattle.fuse_plan.specs.declared.verdict.ChipFault.TheVariants as chip
-use Rattle.fuse_plan.specs.Prelude.{image_after, is_bad_key, is_no_fault, is_other, lost, short_bits, short_keys, short_or_match}
+use Rattle.fuse_plan.specs.Prelude.{image_after, is_bad_key, is_no_fault, is_other, lost, short_bits, short_keys}
 use Rattle.fuse_plan.specs.Prelude.{stray, verdict_of, with_batch}
 use Rattle.fuse_plan.proofs.Law.{test_of_key}
 use Rattle.office_tables.specs.declared.rows.Batches.{Batches}
-use Rattle.office_tables.specs.declared.rows.Batches.TheVariants.{Both, Neither, Second}
+use Rattle.office_tables.specs.declared.rows.Batches.TheVariants.{Both, Second}
 use Rattle.office_rules.specs.Prelude.{next_batch, with_rest}
-use Rattle.office_laws.specs.Prelude.{IsOfBatches}
 
 -- what is burnt of a chip, with what is to be burnt
 abbrev pub all_of : Image → Pending → Image
@@ -93,8 +93,13 @@ first_keys : (known asked shown : KeyTable) → IsRight known asked shown
     → AreAmong (keys.keys_union known asked)
     (keys.keys_union (keys.keys_union known shown) (short_keys known asked shown))
 first_keys known asked shown right b =
-    rw (get_union known asked b, get_union (keys.keys_union known shown) (short_keys known asked shown) b,
-    get_union known shown b, get_short known asked shown b, get_without asked known b)
+    rw (
+      get_union known asked b,
+      get_union (keys.keys_union known shown) (short_keys known asked shown) b,
+      get_union known shown b,
+      get_short known asked shown b,
+      get_without asked known b,
+    )
     (by (nat_lt b 4))
   where
     by : (low : Bool)
@@ -109,8 +114,12 @@ first_keys known asked shown right b =
 second_keys : (known shown : KeyTable)
     → AreAmong (keys.keys_union known table.empty) (keys.keys_union (keys.keys_union known shown) table.empty)
 second_keys known shown b =
-    rw (get_union known table.empty b, get_union (keys.keys_union known shown) table.empty b, get_union known shown b,
-    table.get-empty {X = List ℕ} nat_cmp b)
+    rw (
+      get_union known table.empty b,
+      get_union (keys.keys_union known shown) table.empty b,
+      get_union known shown b,
+      table.get-empty {X = List ℕ} nat_cmp b,
+    )
     (by (nat_lt b 4))
   where
     by : (low : Bool) → IfSome (if low then option_or (table.get known b) None else None)

@@ -1,10 +1,10 @@
 -- What is burnt of a device or is to be burnt stays so over a run, unless the device is given up.
-use Rattle.std.proofs.Common.{◌≡◌, ◌⊎◌, ◌∷◌}
+use Rattle.std.proofs.Common.{◌≡◌, ◌∷◌}
 use Rattle.text_core.proofs.Kit.{◌∙◌, ℕ, inl, inr, Bool, true, false, List, [], None, Some, refl, sym, ap, subst, bytes_eq, not, and_parts, same_text}
 use Rattle.text_core.specs.Prelude.{first_that_holds}
 use Rattle.fusemap_core.specs.Prelude.{Map}
 use Rattle.http_replies.specs.Prelude.{Answer as Response, is_unavailable}
-use Rattle.site_core.specs.Prelude.{Ownership, Section}
+use Rattle.site_core.specs.Prelude.{Ownership}
 use Rattle.office_tables.specs.declared.rows.Device.{Device}
 use Rattle.office_tables.specs.declared.rows.DeviceState.TheVariants.{Identified}
 use Rattle.office_tables.specs.Prelude.{Tables, is_one_of}
@@ -15,13 +15,12 @@ use Rattle.office_commands.specs.declared.command.Command.{Command}
 use Rattle.office_commands.specs.declared.command.Command.TheVariants.{Change, Show}
 use Rattle.office_commands.specs.declared.command.Request.{Request}
 use Rattle.office_rules.specs.Prelude.{action_refusals, identified_from, map_in_sight, map_named, respond_to, rule_of}
-use Rattle.office_laws.specs.Prelude.{AreSeats, Call, Exchange, IsRun, IsSound, Passes, SoloState, Wanted, alone_on, asks}
+use Rattle.office_laws.specs.Prelude.{AreSeats, Call, Exchange, IsRun, IsSound, SoloState, Wanted, alone_on, asks}
 use Rattle.office_laws.specs.Prelude.{calls_of, is_own, refused, reports, solo_sight, view}
 use Rattle.office_laws.proofs.Passing.{Serves}
 use Rattle.office_laws.proofs.Readings.{device_own}
 use Rattle.office_laws.proofs.RunLaws.{serves_grown}
-use Rattle.office_laws.proofs.Within.{within_itself}
-use Rattle.seat_runs.specs.Prelude.{StaysExpected, device_of, expected_of}
+use Rattle.seat_runs.specs.Prelude.{StaysExpected, device_of}
 use Rattle.seat_runs.proofs.Coming.{Comes, IsMade, Responds, comes_to}
 use Rattle.seat_runs.proofs.Devices.{left, own_device, registers}
 use Rattle.seat_runs.proofs.Expecting.{IsOfMap, Keeps, action_moves, identity_moves, keeps_both, keeps_itself}

@@ -3,21 +3,20 @@ use Rattle.std.proofs.Common.{◌≡◌, ◌∷◌}
 use Rattle.text_core.proofs.Kit.{◌∙◌, ℕ, true, List, [], Some, refl, sym, ap, subst, bytes_eq, find, option_and_then, option_map, same_text}
 use Rattle.text_core.proofs.Lists.{find-passes}
 use Rattle.fusemap_core.specs.Prelude.{Map, map_in}
-use Rattle.fuse_image.specs.declared.pending.Pending.{Pending}
 use Rattle.fuse_plan.specs.declared.wish.Wish.{Wish}
 use Rattle.http_replies.specs.Prelude.{Answer as Response}
 use Rattle.site_core.specs.Prelude.{Ownership, Section}
 use Rattle.office_tables.specs.declared.rows.Device.{Device}
 use Rattle.office_tables.specs.Prelude.{Tables, link_at}
 use Rattle.office_commands.specs.declared.command.Action.{Action}
-use Rattle.office_commands.specs.declared.command.Action.TheVariants.{Plan, ReadBack, Scrap, Ship}
+use Rattle.office_commands.specs.declared.command.Action.TheVariants.{Plan}
 use Rattle.office_commands.specs.declared.command.Change.{Change as Changing}
-use Rattle.office_commands.specs.declared.command.Change.TheVariants.{Act, Identify, Import, ImportMap, MakeOrder, RegisterDevice}
+use Rattle.office_commands.specs.declared.command.Change.TheVariants.{Act, Identify}
 use Rattle.office_commands.specs.declared.command.Command.TheVariants.{Change}
 use Rattle.office_commands.specs.declared.command.Request.{Request}
-use Rattle.office_commands.specs.Prelude.{acceptance, plan_body}
-use Rattle.office_rules.specs.Prelude.{Effect, kept_of, map_in_sight, map_named, pending_of_wishes, plans}
-use Rattle.office_rules.specs.Prelude.{Sight, state_of_pending, step_of_plan, step_put}
+use Rattle.office_commands.specs.Prelude.{acceptance}
+use Rattle.office_rules.specs.Prelude.{Effect, kept_of, map_in_sight, map_named, pending_of_wishes}
+use Rattle.office_rules.specs.Prelude.{Sight, step_of_plan, step_put}
 use Rattle.office_rules.proofs.Sights.{map_same}
 use Rattle.office_laws.specs.Prelude.{Exchange, IsSound, SoloState, is_accepted, is_no_repeat, is_own, solo_map, solo_sight}
 use Rattle.office_laws.specs.Prelude.{view, with_puts}
@@ -112,6 +111,7 @@ module _ (c : Section) (seat chip asked : List ℕ) (s mid : SoloState) (reply :
             (λ st. refl) (rw (step_chip action m d) (found_chip d found)) made.after;
         tells = made.shown ∙ ap (λ (e : Effect). acceptance e.body) (sym same);
       }
+
 -- a map of the tables is one of the customer's own rows
 pub map_seen : {owners : Ownership} {t : Tables} → IsSound owners t → (s : Section) (seat digest : List ℕ)
     → map_named s.name digest t ≡ map_in_sight (solo_sight s seat (view s.name t)) digest

@@ -289,7 +289,6 @@ entry_done v customer seat first entry (others x ∷ turns) w o last t t2 sound 
         → IsAmong entry w.books ⊎ IsDoneIn v customer seat entry (x ∷ (exchanges_in turns)) t t2
     split (inl is) = inl is
     split (inr is) = inr (later_done v customer seat entry x (exchanges_in turns) t run.0 t2 run.1 is)
-
 entry_done v customer seat first entry (turned_away what code ∷ turns) w o last t t2 sound seats run holding far apart may
     among =
     same what (entry_done v customer seat first entry turns (after_turn v first (turned_away what code) w) o last t t2 sound

@@ -25,8 +25,8 @@ abbrev pub ReadsRefusals : (Response → Answer) → Type 0
 ReadsRefusals read = (reason : Refusal) → expected_in reason ≤ largest_whole
     → read (refusal reason) ≡ refuses (refusal_number reason) (expected_in reason)
 
--- The request of a name with a number, and how the station reads an answer. With the greatest number
--- it asks which one is expected.
+-- The request of a name with a number, and how the station reads an answer. With the greatest
+-- number it asks which one is expected.
 pub record Names : Type 0 where
   pub request_of : ℕ → ℕ → Request
   pub numbered : (name number : ℕ) → (request_of name number).number ≡ number

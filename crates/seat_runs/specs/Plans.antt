@@ -84,8 +84,8 @@ abbrev pub StaysUntilEnd : List ℕ → List ℕ → Device → List Exchange �
 StaysUntilEnd customer chip d xs t t2 =
     IsAwaiting d → (device_of customer chip t2 ≡ Some d) ⊎ HasEnd customer chip xs t t2
 
--- The plan of a chip that the station told as done is recorded at its moment, and stays so: as it is
--- until the chip is read back or scrapped, and from then on as burnt or to be burnt.
+-- The plan of a chip that the station told as done is recorded at its moment, and stays so: as it
+-- is until the chip is read back or scrapped, and from then on as burnt or to be burnt.
 pub record IsPlanRecorded (s : StationRun) (told : Answered) (chip : List ℕ) : Type 0 where
   pub moment : MomentOf s
   pub told_of : IsToldOf s told moment

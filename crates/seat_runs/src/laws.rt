@@ -25,9 +25,9 @@ pub fn a_station_concludes_what_the_office_did()
 
 /// Over a run of the office, from sound tables: behind a plan that was done, what its reply says is
 /// to be burnt is pending in the row of the chip's device (`reply`). The row stays as it is until a
-/// seat of the customer reads the chip back or scraps it (`stays`). And all that a row says is burnt
-/// or to be burnt is so by the chip's row from then on, until the device is quarantined or scrapped
-/// (`expected`).
+/// seat of the customer reads the chip back or scraps it (`stays`). And all that a row says is
+/// burnt or to be burnt is so by the chip's row from then on, until the device is quarantined or
+/// scrapped (`expected`).
 pub fn what_a_plan_tells_is_recorded()
     ensures reply { (r : SeatRun) (m : Moment r.exchanges r.old r.new) (chip : List ℕ)
         → asks_for (is_plan chip) m.exchange.0.wanted ≡ true → IsDoneThen m
@@ -40,9 +40,11 @@ pub fn what_a_plan_tells_is_recorded()
         → StaysExpected customer chip m d r.new }
 {}
 
-/// No bit without a record: a plan that a station told as done is in the row of the chip's device
-/// from before that reply on, until the chip is read back or scrapped, whoever asks for that.
-pub fn no_bit_is_burnt_without_a_record()
+/// No bit without a record: a plan that a station told as done is pending in the row of the chip's
+/// device from before that reply on, until the chip is read back or scrapped, whoever asks for
+/// that. From then on each bit and each key of it is burnt or to be burnt by that row, until the
+/// device is quarantined or scrapped.
+pub fn a_told_plan_is_recorded()
     ensures { (s : StationRun) (told : Answered) (chip : List ℕ)
         → IsAmong told (world_after s).told
         → ((number : ℕ) → is_plan chip (s.names.request_of told.request number).command ≡ true)
@@ -50,8 +52,8 @@ pub fn no_bit_is_burnt_without_a_record()
 {}
 
 /// A station can read each answer of the office: for every way in which it names replies there is a
-/// reading that tells each refusal by its number, and the number that it says is expected. So what
-/// is said of stations is said of some.
+/// reading that tells each refusal by its number, and the number that it says is expected, as these
+/// laws suppose it of a station.
 pub fn each_answer_can_be_read()
     ensures { (name_of : List ℕ → ℕ)
         → (read : Response → Answer) × ReadsReplies name_of read × ReadsRefusals read }

@@ -11,10 +11,12 @@
 //!   at most one request, which it has under way or aside (`log`: `Concludes`). The seat's row in
 //!   its customer's tables is of the newest of these (`row`: `IsRowOf`). What it told as done was
 //!   done at a moment of the run, with that reply (`told`: `IsToldOf`).
-//! - `what_a_plan_tells_is_recorded`: what a plan's reply says is to be burnt is in the row of the
-//!   chip's device (`reply`: `IsRecorded`), and stays there until a seat of the customer reads the
-//!   chip back or scraps it (`stays`: `StaysUntilEnd`).
-//! - `no_bit_is_burnt_without_a_record`: both of a plan that a station told as done.
+//! - `what_a_plan_tells_is_recorded`: what a plan's reply says is to be burnt is pending in the row
+//!   of the chip's device (`reply`: `IsRecorded`). The row stays as it is until a seat of the
+//!   customer reads the chip back or scraps it (`stays`: `StaysUntilEnd`). From then on all of it
+//!   is burnt or to be burnt by the row, until the device is quarantined or scrapped (`expected`:
+//!   `StaysExpected`).
+//! - `a_told_plan_is_recorded`: all of it of a plan that a station told as done (`IsPlanRecorded`).
 //! - `each_answer_can_be_read`: there is a reading of answers as these laws suppose it of a
 //!   station.
 #![tactic(auto)]
@@ -22,6 +24,6 @@
 mod laws;
 
 pub use laws::{
-    a_station_concludes_what_the_office_did, each_answer_can_be_read,
-    no_bit_is_burnt_without_a_record, what_a_plan_tells_is_recorded,
+    a_station_concludes_what_the_office_did, a_told_plan_is_recorded, each_answer_can_be_read,
+    what_a_plan_tells_is_recorded,
 };
