@@ -1,5 +1,5 @@
 -- Whatever befalls the station, what holds lasts.
-use Rattle.std.proofs.Common.{◌≡◌, ◌∙◌, ℕ, ◌-◌, Bool, List, [], ◌∷◌, length}
+use Rattle.std.proofs.Common.{arith, ◌≡◌, ◌∙◌, ℕ, ◌-◌, Bool, List, [], ◌∷◌, length}
 use Rattle.std.proofs.Common.{Option, None, Some, refl, sym, ap, subst, inl, inr}
 use Rattle.std.specs.List.{AllByRecursion}
 use Rattle.seat_core.specs.declared.act.Trouble.TheVariants.{Busy}
@@ -16,9 +16,10 @@ use Rattle.seat_core.specs.Starts.{request_step, start_step}
 use Rattle.seat_core.specs.Replies.{completion, late_copy, probe_reply, probe_silence, reply_step, silence_step, untried_request}
 use Rattle.seat_laws.specs.Served.{Answer, Entry, IsInOrder, accepts, entry_of}
 use Rattle.seat_laws.specs.Runs.{IsAmong, Reply, World, last_sent, probed}
-use Rattle.seat_laws.specs.Concludes.{WasDone, done_in, line_of_request, with_reply}
+use Rattle.seat_laws.specs.Concludes.{AreToldOf, done_in, line_of_request, with_reply}
 use Rattle.seat_laws.proofs.Among.{all_at, at_index}
-use Rattle.seat_laws.proofs.Standing.{more_pending, now_ahead, now_logged, one_sent, still_standing, with_own}
+use Rattle.seat_laws.proofs.Told.{before_number, before_other, before_place, told_newest, told_next}
+use Rattle.seat_laws.proofs.Standing.{after_number, more_pending, now_ahead, now_logged, one_sent, still_standing, with_own}
 use Rattle.seat_laws.proofs.Serving.{Holds, HoldsIn, IsAwaited, IsPlaced, IsProbing, Means, MeansOf, WaitsIn}
 use Rattle.seat_laws.proofs.Acting.{Keeps, quiet, shows}
 
@@ -43,9 +44,11 @@ placed_so now more placed holds = record { stop = holds.stop; placed = placed; t
 -- the same of another place
 pub at_place : {first : ℕ} {f : SeatFile} {done : List Entry} {sents : List Sent} {books : List Entry}
     {told : List Answered} → (g : SeatFile) (now : List Entry) (more : List Sent) → g.stop ≡ None
-    → IsPlaced first g.place g.aside now more books → Holds first f done sents books told
-    → Holds first g now more books told
-at_place g now more stop placed holds = record { stop = stop; placed = placed; told_done = holds.told_done }
+    → IsPlaced first g.place g.aside now more books
+    → (AreToldOf (before_place f.place books) told → AreToldOf (before_place g.place books) told)
+    → Holds first f done sents books told → Holds first g now more books told
+at_place g now more stop placed same holds =
+    record { stop = stop; placed = placed; told_done = same holds.told_done }
 
 awaited_anew : {sent : Sent} {line : Option Sent} {books : List Entry} {since : List Reply}
     → IsAwaited sent line books since → IsAwaited sent line books []
@@ -94,7 +97,7 @@ pub wants : (first : ℕ) (place : Place) (aside : List ℕ) (last : Option Answ
 wants first (Free number) aside last Nothing w request holds waits =
     let sent : Sent = record { number = number; request = request } in
     let h = at_place (at (UnderWay sent) aside last Once).file (done_in w.log) w.sent refl
-    (more_pending (request ∷ aside) (λ x among. inr among) holds.placed) holds in
+    (more_pending (request ∷ aside) (λ x among. inr among) holds.placed) (λ told. told) holds in
     record {
       lasts = (
         holds,
@@ -109,6 +112,20 @@ wants first (Free number) aside last Nothing w request holds waits =
       waits = record { last_line = refl; heard = tt };
     }
 wants first place aside last waiting w request holds waits = shows Busy holds waits
+
+-- the reply is told, behind the file's next number
+before_next : (first : ℕ) (sent : Sent) (reply : ℕ) (older : List Entry) (w : World) → IsInOrder first w.books
+    → w.books ≡ entry_of sent reply ∷ older → AreToldOf (before_number sent.number w.books) w.told
+    → AreToldOf (before_number (number_after sent.number) w.books)
+    (record { request = sent.request; reply = reply } ∷ w.told)
+before_next first sent reply older w order are told =
+    let after = after_number first w.books (entry_of sent reply) older order are in
+    let all = told_newest sent.number (entry_of sent reply) older w.books
+    (record { request = sent.request; reply = reply }) w.told are refl (refl, refl) told in
+    let next : before_number (number_after sent.number) w.books ≡ w.books =
+    ap (before_number (number_after sent.number)) are
+    ∙ (before_other (number_after sent.number) (entry_of sent reply) older (λ e. omega arith) ∙ sym are) in
+    subst (λ b. AreToldOf b (record { request = sent.request; reply = reply } ∷ w.told)) (sym next) all
 
 -- the request under way is done
 completes : (first : ℕ) (sent : Sent) (aside : List ℕ) (last : Option Answered) (waiting : Waiting) (w : World)
@@ -126,8 +143,10 @@ completes first sent aside last waiting w reply older order holds line are =
     let done = placed_so now w.sent
     (still_standing (entry_of sent reply) older are refl (inl refl) now logged holds.placed) holds in
     let left : SeatFile = (completion (at (UnderWay sent) aside last waiting) sent reply).left.file in
+    let after = after_number first w.books (entry_of sent reply) older order are in
     let ahead = at_place left now w.sent refl
-    (now_ahead [] (entry_of sent reply) older order are refl now logged holds.placed) holds in
+    (now_ahead [] (entry_of sent reply) older order are refl now logged holds.placed)
+    (told_next sent.number (number_after sent.number) (entry_of sent reply) older w.books w.told are refl after) holds in
     record {
       lasts = (
         holds,
@@ -138,11 +157,7 @@ completes first sent aside last waiting w reply older order holds line are =
             record {
               stop = refl;
               placed = ahead.placed;
-              told_done = (
-                subst (λ b. WasDone b (record { request = sent.request; reply = reply })) (sym are)
-                    (inl (refl, refl)),
-                holds.told_done,
-              );
+              told_done = before_next first sent reply older w order are holds.told_done;
             },
           ),
         ),
@@ -169,8 +184,10 @@ finds first sent aside last waiting w reply request older order holds among are 
     (still_standing (entry_of copy reply) older are refl (inr among) now logged holds.placed) holds in
     let left : SeatFile =
     (late_copy (at (UnderWay sent) aside last waiting) sent next request reply).left.file in
+    let after = after_number first w.books (entry_of copy reply) older order are in
     let ahead = at_place left now w.sent refl
-    (now_ahead (sent.request ∷ []) (entry_of copy reply) older order are refl now logged holds.placed) holds in
+    (now_ahead (sent.request ∷ []) (entry_of copy reply) older order are refl now logged holds.placed)
+    (told_next sent.number (number_after sent.number) (entry_of copy reply) older w.books w.told are refl after) holds in
     record {
       lasts = (
         holds,

@@ -1,6 +1,7 @@
 -- The lemmas of this crate.
 pub mod Among
 pub mod Standing
+pub mod Told
 pub mod Serving
 pub mod Acting
 pub mod Events

@@ -22,7 +22,8 @@ use Rattle.seat_core.specs.Replies.{untried_request}
 use Rattle.seat_core.specs.Refusals.{aside_step, probe_of, probe_refusal, probe_step, refusal_at, refusal_step, request_refusal}
 use Rattle.seat_laws.specs.Served.{Entry, IsOther, next_number, refuses}
 use Rattle.seat_laws.specs.Runs.{HasRoom, IsAmong, Reply, World, last_sent, probed}
-use Rattle.seat_laws.specs.Concludes.{done_in, line_of_request}
+use Rattle.seat_laws.proofs.Told.{before_number}
+use Rattle.seat_laws.specs.Concludes.{AreToldOf, done_in, line_of_request}
 use Rattle.seat_laws.proofs.Among.{all_at, at_index, index_of, kept_among}
 use Rattle.seat_laws.proofs.Standing.{IsAhead, IsBehind, more_pending, one_sent}
 use Rattle.seat_laws.proofs.Serving.{HoldsIn, IsProbing, IsUnjudged, SaysFirst, SaysFirstOf, UnjudgedOf, WaitsIn}
@@ -37,7 +38,7 @@ asides : (first : ℕ) (sent : Sent) (aside : List ℕ) (last : Option Answered)
 asides first sent aside last waiting w code holds room =
     let left : SeatFile = (aside_step (at (UnderWay sent) aside last waiting) sent code).left.file in
     let h = at_place left (done_in w.log) w.sent refl (more_pending (aside_with sent.request aside)
-    (λ x among. kept_among sent.request x aside room among) holds.placed) holds in
+    (λ x among. kept_among sent.request x aside room among) holds.placed) (λ told. told) holds in
     record { lasts = (holds, (holds, (h, h))); waits = tt }
 
 -- The newest is aside, and one of those that weren't tried yet: one of them is sent.
@@ -244,7 +245,8 @@ numbers first aside last w code expected holds waits among =
             logged = fresh.none_accepted ∙ sym fresh.none_done;
           });
           old = subst (AllByRecursion _) (sym fresh.none_sent) tt;
-        }) holds,
+        }) (λ told. subst (λ b. AreToldOf (before_number expected b) w.told) (sym fresh.none_accepted)
+            (subst (λ b. AreToldOf b w.told) fresh.none_accepted told)) holds,
       );
       waits = tt;
     })

@@ -21,6 +21,7 @@ use Rattle.seat_laws.specs.Runs.{HasRoom, IsAlone, IsAmong, IsRun, KeepsAll, May
 use Rattle.seat_laws.specs.Runs.{after_acts, after_move, after_moves, beginning, befalls, noted}
 use Rattle.seat_laws.specs.Runs.{says, serves, stops, takes}
 use Rattle.seat_laws.specs.Concludes.{Concludes, IsOneMore, IsPending, done_in}
+use Rattle.seat_laws.proofs.Told.{told_placed}
 use Rattle.seat_laws.proofs.Standing.{IsAhead, IsBehind}
 use Rattle.seat_laws.proofs.Serving.{HoldsIn, IsPlaced, IsSettled, WaitsIn, settled_said, settled_served}
 use Rattle.seat_laws.proofs.Acting.{cut_holds, quiet, shows, step_holds}
@@ -169,6 +170,6 @@ run_concludes first moves run alone keeps =
     record {
       books = books_of first w w.station.file.place refl is.holds.placed;
       once = is.order;
-      told = is.holds.told_done;
+      told = told_placed w.station.file.place w.books w.told is.holds.told_done;
       goes_on = is.holds.stop;
     }

@@ -14,10 +14,11 @@ use Rattle.seat_core.specs.declared.station.Waiting.TheVariants.{Nothing, Once, 
 use Rattle.seat_core.specs.Replies.{untried_request}
 use Rattle.seat_laws.specs.Served.{Answer, Answers, Entry, HasNumber, IsInOrder, IsOther, accepts, entry_of, next_number, refuses}
 use Rattle.seat_laws.specs.Runs.{IsAmong, Reply, World, probed}
-use Rattle.seat_laws.specs.Concludes.{WasDone, done_in, line_of_request}
+use Rattle.seat_laws.specs.Concludes.{AreToldOf, done_in, line_of_request}
 use Rattle.std.proofs.lemmas.List.Elements.{All-from_recursion, recursion_from_All, All-weaker}
 use Rattle.seat_laws.proofs.Among.{all_at}
-use Rattle.seat_laws.proofs.Standing.{IsAhead, IsBehind, IsOld, IsOwn, IsStanding, done_before, first_standing}
+use Rattle.seat_laws.proofs.Told.{before_newest, before_number, before_place, told_all}
+use Rattle.seat_laws.proofs.Standing.{IsAhead, IsBehind, IsOld, IsOwn, IsStanding, first_standing}
 use Rattle.seat_laws.proofs.Standing.{in_order, first_has, newest_same, own_after, served, settled}
 
 -- nothing was sent yet
@@ -39,7 +40,7 @@ pub record Holds (first : ℕ) (f : SeatFile) (done : List Entry) (sents : List 
     (books : List Entry) (told : List Answered) : Type 0 where
   pub stop : f.stop ≡ None
   pub placed : IsPlaced first f.place f.aside done sents books
-  pub told_done : AllByRecursion (WasDone books) told
+  pub told_done : AreToldOf (before_place f.place books) told
 
 abbrev pub HoldsIn : ℕ → SeatFile → World → Type 0
 HoldsIn first f w = Holds first f (done_in w.log) w.sent w.books w.told
@@ -294,6 +295,48 @@ placed_served first (Free number) aside done sents books copy answer after place
 placed_served first (UnderWay sent) aside done sents books copy answer after placed among answered =
     served first sent.number (sent.request ∷ aside) done sents books copy answer after placed among answered
 
+-- what was told before the place's number was so before the answer
+told_standing : (first number : ℕ) (pending : List ℕ) (done : List Entry) (sents : List Sent) (books : List Entry)
+    (copy : Sent) (answer : Answer) (after : List Entry) (told : List Answered)
+    → IsStanding first number pending done sents books → IsAmong copy sents → Answers first books copy answer after
+    → AreToldOf (before_number number books) told → AreToldOf (before_number number after) told
+told_standing first number pending done sents books copy answer after told standing among (inl earlier) are =
+    subst (λ b. AreToldOf (before_number number b) told) (sym earlier.unchanged) are
+told_standing first number pending done sents books copy (accepts reply) after told standing among (inr (inl new)) are =
+    subst (λ b. AreToldOf (before_number number b) told) (sym new.done)
+    (subst (λ b. AreToldOf b told) (sym (before_newest number (entry_of copy reply) books (is standing.stands)))
+    (told_all number books told are))
+  where
+    old : IsOld number pending copy
+    old = all_at (IsOld number pending) copy sents standing.old among
+
+    least : IsOld number pending copy → copy.number ≤ number
+    least (inl less) = omega arith
+    least (inr same) = let e = same.0 in omega arith
+
+    is : IsAhead first number done books ⊎ IsBehind number pending done books → copy.number ≡ number
+    is (inl ahead) = let n = new.next in let e = ahead.next in omega arith
+    is (inr behind) =
+        let n = new.next in
+        let e = ap (next_number first) behind.are in
+        let l = least old in
+        let b = behind.is in absurd (omega arith)
+told_standing first number pending done sents books copy (accepts reply) after told standing among (inr (inr again)) are =
+    subst (λ b. AreToldOf (before_number number b) told) (sym again.same) are
+told_standing first number pending done sents books copy (refuses code expected) after told standing among (inr refused) are =
+    subst (λ b. AreToldOf (before_number number b) told) (sym refused.same) are
+
+told_served : (first : ℕ) (place : Place) (aside : List ℕ) (done : List Entry) (sents : List Sent) (books : List Entry)
+    (copy : Sent) (answer : Answer) (after : List Entry) (told : List Answered)
+    → IsPlaced first place aside done sents books → IsAmong copy sents → Answers first books copy answer after
+    → AreToldOf (before_place place books) told → AreToldOf (before_place place after) told
+told_served first Unknown aside done sents books copy answer after told placed among answered are =
+    let none : IsAmong copy [] = subst (IsAmong copy) placed.none_sent among in elim none [ ]
+told_served first (Free number) aside done sents books copy answer after told placed among answered are =
+    told_standing first number aside done sents books copy answer after told placed among answered are
+told_served first (UnderWay sent) aside done sents books copy answer after told placed among answered are =
+    told_standing first sent.number (sent.request ∷ aside) done sents books copy answer after told placed among answered are
+
 -- the server answers a copy
 pub settled_served : (first : ℕ) (w : World) (copy : Sent) (answer : Answer) (after : List Entry)
     → IsSettled first w → IsAmong copy w.sent → Answers first w.books copy answer after
@@ -305,9 +348,8 @@ settled_served first w copy answer after is among answered = record {
     stop = is.holds.stop;
     placed = placed_served first w.station.file.place w.station.file.aside (done_in w.log) w.sent w.books copy
         answer after is.holds.placed among answered;
-    told_done = recursion_from_All _ _ (All-weaker (WasDone w.books) (WasDone after)
-        (done_before first w.books copy answer after answered) _
-        (All-from_recursion _ w.told is.holds.told_done));
+    told_done = told_served first w.station.file.place w.station.file.aside (done_in w.log) w.sent w.books copy
+        answer after w.told is.holds.placed among answered is.holds.told_done;
   };
   waits = waits_served first w.station.waiting w.station.file.place w.station.file.aside (done_in w.log) w.sent
       w.books copy answer after (line_of_request w.log) w.since is.order is.own is.holds.placed among answered is.waits;

@@ -4,13 +4,12 @@ use Rattle.std.proofs.Common.{refl, sym, ap, subst, inl, inr, arith}
 use Rattle.std.proofs.lemmas.Bool.{eq-eqb, ne_eqb}
 use Rattle.std.specs.Prelude.{◌==◌}
 use Rattle.std.specs.List.{AllByRecursion}
-use Rattle.seat_core.specs.declared.request.Answered.{Answered}
 use Rattle.seat_core.specs.declared.request.Sent.{Sent}
 use Rattle.seat_core.specs.Steps.{number_after}
 use Rattle.seat_laws.specs.Served.{Answer, Answers, Entry, HasNumber, IsInOrder, accepts}
 use Rattle.seat_laws.specs.Served.{entry_of, next_number, refuses}
 use Rattle.seat_laws.specs.Runs.{IsAmong}
-use Rattle.seat_laws.specs.Concludes.{WasDone, with_entry, with_reply}
+use Rattle.seat_laws.specs.Concludes.{with_entry, with_reply}
 use Rattle.std.proofs.lemmas.List.Elements.{All-from_recursion, recursion_from_All, All-weaker}
 use Rattle.seat_laws.proofs.Among.{all_at}
 
@@ -210,18 +209,6 @@ own_after first books sent (accepts reply) after (inr (inl new)) own = subst IsO
 own_after first books sent (accepts reply) after (inr (inr again)) own = subst IsOwn (sym again.same) own
 own_after first books sent (refuses code expected) after (inr refused) own = subst IsOwn (sym refused.same) own
 
--- what was accepted stays so
-pub done_before : (first : ℕ) (books : List Entry) (sent : Sent) (answer : Answer) (after : List Entry)
-    → Answers first books sent answer after → (told : Answered) → WasDone books told → WasDone after told
-done_before first books sent answer after (inl earlier) told was =
-    subst (λ now. WasDone now told) (sym earlier.unchanged) was
-done_before first books sent (accepts reply) after (inr (inl new)) told was =
-    subst (λ now. WasDone now told) (sym new.done) (inr was)
-done_before first books sent (accepts reply) after (inr (inr again)) told was =
-    subst (λ now. WasDone now told) (sym again.same) was
-done_before first books sent (refuses code expected) after (inr refused) told was =
-    subst (λ now. WasDone now told) (sym refused.same) was
-
 pub in_order : (first : ℕ) (books : List Entry) (sent : Sent) (answer : Answer) (after : List Entry)
     → Answers first books sent answer after → IsInOrder first books → IsInOrder first after
 in_order first books sent answer after (inl earlier) order = subst (IsInOrder first) (sym earlier.unchanged) order
@@ -305,7 +292,7 @@ old_after : (number : ℕ) (pending others : List ℕ) (sent : Sent) → IsOld n
 old_after number pending others sent (inl lt) = inl (omega arith)
 old_after number pending others sent (inr old) = let e = old.0 in inl (omega arith)
 
-after_number : (first : ℕ) (books : List Entry) (newest : Entry) (older : List Entry) → IsInOrder first books
+pub after_number : (first : ℕ) (books : List Entry) (newest : Entry) (older : List Entry) → IsInOrder first books
     → books ≡ newest ∷ older → number_after newest.number ≡ newest.number + 1
 after_number first books newest older order are =
     let o : IsInOrder first (newest ∷ older) = subst (IsInOrder first) are order in rw o.1 refl

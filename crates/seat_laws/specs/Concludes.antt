@@ -1,6 +1,5 @@
 -- What a station may conclude.
 use Rattle.std.specs.Prelude.{◌≡◌, ◌⊎◌, ℕ, suc, ◌≤◌, ◌==◌, ◌&&◌, Bool, if◌then◌else◌, List, [], ◌∷◌, Option, None, Some}
-use Rattle.std.specs.List.{AllByRecursion}
 use Rattle.seat_core.specs.declared.act.Act.{Act}
 use Rattle.seat_core.specs.declared.act.Act.TheVariants.{LogRequest, LogOutcome}
 use Rattle.seat_core.specs.declared.request.Answered.{Answered}
@@ -56,11 +55,16 @@ pub record IsOneMore (w : World) : Type 0 where
   pub pending :
       IsPending w.station.file.place w.station.file.aside entry.number entry.request
 
--- it was accepted, and got this reply
-abbrev pub WasDone : List Entry → Answered → Type 0
-WasDone [] told = ⊥
-WasDone (entry ∷ books) told =
-    ((entry.request ≡ told.request) × (entry.reply ≡ told.reply)) ⊎ WasDone books told
+-- it is told that this request was accepted, and got this reply
+abbrev pub IsToldOf : Entry → Answered → Type 0
+IsToldOf entry told = (entry.request ≡ told.request) × (entry.reply ≡ told.reply)
+
+-- each was told of an entry of its own, one after another, the newest first
+abbrev pub AreToldOf : List Entry → List Answered → Type 0
+AreToldOf books [] = Unit {0}
+AreToldOf [] (told ∷ others) = ⊥
+AreToldOf (entry ∷ books) (told ∷ others) =
+    (IsToldOf entry told × AreToldOf books others) ⊎ AreToldOf books (told ∷ others)
 
 -- The log is the books, but for at most one request, which is under way or aside. The books have
 -- each once, one number after the other. What was told as done was done, with that reply. The
@@ -68,7 +72,7 @@ WasDone (entry ∷ books) told =
 pub record Concludes (first : ℕ) (w : World) : Type 0 where
   pub books : (w.books ≡ done_in w.log) ⊎ IsOneMore w
   pub once : IsInOrder first w.books
-  pub told : AllByRecursion (WasDone w.books) w.told
+  pub told : AreToldOf w.books w.told
   pub goes_on : w.station.file.stop ≡ None
 
 -- how many times it is there

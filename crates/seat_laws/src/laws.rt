@@ -5,9 +5,9 @@ ghost use Rattle.seat_laws.specs.Prelude.{after_moves, beginning};
 
 /// A station that begins with a seat of which nothing is under way, and nobody else has its token:
 /// its log is the seat's accepted requests, but for at most one, which it has under way or aside.
-/// What it told as done was done, with that reply. It hasn't stopped. The network loses, repeats,
-/// delays and reorders what the station sends; the station is stopped between any two of its acts;
-/// and never more requests are to be kept aside than it keeps.
+/// Each reply that it told is that of an execution of its own. It hasn't stopped. The network
+/// loses, repeats, delays and reorders what the station sends; the station is stopped between any
+/// two of its acts; and never more requests are to be kept aside than it keeps.
 pub fn a_station_concludes_what_was_done()
     ensures { (first : ℕ) (moves : List Move) → IsRun first beginning moves → IsAlone moves
         → KeepsAll beginning moves → Concludes first (after_moves moves beginning) }

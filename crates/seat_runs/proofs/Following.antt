@@ -26,6 +26,7 @@ use Rattle.seat_laws.specs.Prelude.{Answer, Concludes, Entry, HasRoom, MayBefall
 use Rattle.seat_laws.specs.Prelude.{after_move, beginning, noted, refuses}
 use Rattle.seat_laws.specs.Runs.{befalls, says, serves, stops}
 use Rattle.seat_laws.proofs.Serving.{IsSettled}
+use Rattle.seat_laws.proofs.Told.{told_placed}
 use Rattle.seat_laws.proofs.Running.{begins, books_of, move_settled, same_books}
 use Rattle.seat_runs.specs.Prelude.{AreApart, IsCopy, IsOf, IsQuestion, IsRowOf, IsStationRun, MayTurn, MayTurns, Names, Turn}
 use Rattle.seat_runs.specs.Prelude.{after_turn, after_turns, exchanges_in, number_said, with_accepted}
@@ -422,7 +423,7 @@ concluded v customer seat first r turns is =
     record {
       books = books_of first w w.station.file.place refl settled.holds.placed;
       once = settled.order;
-      told = settled.holds.told_done;
+      told = told_placed w.station.file.place w.books w.told settled.holds.told_done;
       goes_on = settled.holds.stop;
     }
 

@@ -22,12 +22,11 @@ use Rattle.office_laws.proofs.RunsAlone.{Own, RunsAlone}
 use Rattle.seat_core.specs.declared.request.Answered.{Answered}
 use Rattle.seat_core.specs.declared.request.Sent.{Sent}
 use Rattle.seat_core.specs.Prelude.{step_of}
-use Rattle.seat_laws.specs.Prelude.{Answer, Entry, IsAmong, WasDone, World, accepts, beginning, entry_of, next_number}
+use Rattle.seat_laws.specs.Prelude.{Answer, Entry, IsAmong, AreToldOf, IsToldOf, World, accepts, beginning, entry_of, next_number}
 use Rattle.seat_laws.specs.Prelude.{noted, refuses}
-use Rattle.seat_laws.proofs.Among.{all_at}
 use Rattle.seat_laws.proofs.Running.{begins, same_books}
 use Rattle.std.specs.Prelude.{take}
-use Rattle.seat_runs.specs.Prelude.{AreApart, IsCopy, IsDoneAt, IsOf, IsPlanRecorded, IsRecorded, IsRowOf, IsToldOf, MayTurns, Moment, MomentOf}
+use Rattle.seat_runs.specs.Prelude.{AreApart, IsCopy, IsDoneAt, IsOf, IsPlanRecorded, IsRecorded, IsRowOf, IsMomentOf, MayTurns, Moment, MomentOf}
 use Rattle.seat_runs.specs.Prelude.{Names, StationRun, Turn, after_turn, after_turns, exchanges_in, expected_in}
 use Rattle.seat_runs.specs.Prelude.{asks_for, is_plan, with_accepted, world_after}
 use Rattle.seat_runs.specs.Turns.{copies, halts, meets, others, questions, turned_away}
@@ -301,13 +300,17 @@ entry_done v customer seat first entry (turned_away what code ∷ turns) w o las
     same (Some sent) (inl is) = inl is
     same what (inr is) = inr is
 
--- what was done is an entry of the books
-entry_told : (books : List Entry) (told : Answered) → WasDone books told
-    → (entry : Entry) × IsAmong entry books × (entry.request ≡ told.request) × (entry.reply ≡ told.reply)
-entry_told [] told was = absurd was
-entry_told (entry ∷ books) told (inl is) = (entry, inl refl, is.0, is.1)
-entry_told (entry ∷ books) told (inr was) =
-    let later = entry_told books told was in (later.0, inr later.1, later.2, later.3)
+-- what was told is of an entry of the books
+entry_told : (books : List Entry) (all : List Answered) (told : Answered) → AreToldOf books all → IsAmong told all
+    → (entry : Entry) × IsAmong entry books × IsToldOf entry told
+entry_told books [] told are among = absurd among
+entry_told [] (first ∷ later_told) told are among = absurd are
+entry_told (entry ∷ books) (first ∷ later_told) told (inl first_of) (inl is) =
+    (entry, inl refl, subst (IsToldOf entry) (sym is) first_of.0)
+entry_told (entry ∷ books) (first ∷ later_told) told (inl first_of) (inr among) =
+    let later = entry_told books later_told told first_of.1 among in (later.0, inr later.1, later.2)
+entry_told (entry ∷ books) (first ∷ later_told) told (inr are) among =
+    let later = entry_told books (first ∷ later_told) told are among in (later.0, inr later.1, later.2)
 
 done_told : (v : Names) (customer seat : List ℕ) (entry : Entry) (told : Answered) (xs : List Exchange) (t t2 : Tables)
     → entry.request ≡ told.request → entry.reply ≡ told.reply → IsDoneIn v customer seat entry xs t t2
@@ -319,14 +322,13 @@ done_told v customer seat entry told xs t t2 request reply is = (
 )
 
 pub told_done : (s : StationRun) (told : Answered) → IsAmong told (world_after s).told
-    → (m : MomentOf s) × IsToldOf s told m
+    → (m : MomentOf s) × IsMomentOf s told m
 told_done s told among =
     let r = s.office in
     let w = world_after s in
-    let was = all_at (WasDone w.books) told w.told
+    let entry = entry_told w.books w.told told
     (concluded s.names s.customer s.seat s.first r s.turns s.is_run).told among in
-    let entry = entry_told w.books told was in
-    done_told s.names s.customer s.seat entry.0 told r.exchanges r.old r.new entry.2 entry.3
+    done_told s.names s.customer s.seat entry.0 told r.exchanges r.old r.new entry.2.0 entry.2.1
     (subst (λ xs. IsDoneIn s.names s.customer s.seat entry.0 xs r.old r.new) s.is_run.office
     (none (entry_done s.names s.customer s.seat s.first entry.0 s.turns beginning r.first r.last r.old r.new r.is_sound
     (subst (λ xs. AreSeats r.first (calls_of xs) r.last) (sym s.is_run.office) r.are_seats)

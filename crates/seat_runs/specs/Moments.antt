@@ -37,5 +37,5 @@ abbrev pub MomentOf : StationRun → Type 0
 MomentOf s = Moment s.office.exchanges s.office.old s.office.new
 
 -- what the station told as done is done then, with the reply that it told
-abbrev pub IsToldOf : (s : StationRun) → Answered → MomentOf s → Type 0
-IsToldOf s told m = IsDoneAt s.names s.customer s.seat told.request told.reply m
+abbrev pub IsMomentOf : (s : StationRun) → Answered → MomentOf s → Type 0
+IsMomentOf s told m = IsDoneAt s.names s.customer s.seat told.request told.reply m

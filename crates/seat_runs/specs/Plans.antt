@@ -19,7 +19,7 @@ use Rattle.office_commands.specs.Prelude.{acceptance, plan_body}
 use Rattle.office_rules.specs.Prelude.{known_of, map_named, state_of_pending}
 use Rattle.office_laws.specs.Prelude.{Exchange, Wanted, asks}
 use Rattle.seat_core.specs.declared.request.Answered.{Answered}
-use Rattle.seat_runs.specs.Moments.{IsDoneThen, IsToldOf, Moment, MomentOf}
+use Rattle.seat_runs.specs.Moments.{IsDoneThen, IsMomentOf, Moment, MomentOf}
 use Rattle.seat_runs.specs.Turns.{StationRun}
 
 -- the device of a customer's chip
@@ -88,7 +88,7 @@ StaysUntilEnd customer chip d xs t t2 =
 -- is until the chip is read back or scrapped, and from then on as burnt or to be burnt.
 pub record IsPlanRecorded (s : StationRun) (told : Answered) (chip : List ℕ) : Type 0 where
   pub moment : MomentOf s
-  pub told_of : IsToldOf s told moment
+  pub told_of : IsMomentOf s told moment
   pub recorded : IsRecorded s.customer chip moment.exchange.1 moment.new
   pub stays : StaysUntilEnd s.customer chip recorded.device moment.behind moment.new s.office.new
   pub expected : StaysExpected s.customer chip recorded.by_map recorded.device s.office.new

@@ -7,7 +7,7 @@ ghost use Rattle.office_rules.specs.Prelude.{map_named};
 ghost use Rattle.office_laws.specs.Prelude.{SeatRun};
 ghost use Rattle.seat_core.specs.declared.request.Answered.{Answered};
 ghost use Rattle.seat_laws.specs.Prelude.{Answer, Concludes, IsAmong};
-ghost use Rattle.seat_runs.specs.Prelude.{IsDoneThen, IsPlanRecorded, IsRecorded, IsRowOf, IsToldOf, Moment, MomentOf};
+ghost use Rattle.seat_runs.specs.Prelude.{IsDoneThen, IsPlanRecorded, IsRecorded, IsRowOf, IsMomentOf, Moment, MomentOf};
 ghost use Rattle.seat_runs.specs.Prelude.{ReadsRefusals, ReadsReplies};
 ghost use Rattle.seat_runs.specs.Prelude.{StationRun, StaysExpected, StaysUntilEnd, asks_for, device_of, is_plan, row_after, world_after};
 
@@ -20,7 +20,7 @@ pub fn a_station_concludes_what_the_office_did()
     ensures row { (s : StationRun)
         → IsRowOf s.names s.first (row_after s) (world_after s).books }
     ensures told { (s : StationRun) (told : Answered) → IsAmong told (world_after s).told
-        → (m : MomentOf s) × IsToldOf s told m }
+        → (m : MomentOf s) × IsMomentOf s told m }
 {}
 
 /// Over a run of the office, from sound tables: behind a plan that was done, what its reply says is

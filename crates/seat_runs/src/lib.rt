@@ -10,7 +10,7 @@
 //!   station sent (`IsStationRun`), the station's log is what the office did at its seat, but for
 //!   at most one request, which it has under way or aside (`log`: `Concludes`). The seat's row in
 //!   its customer's tables is of the newest of these (`row`: `IsRowOf`). What it told as done was
-//!   done at a moment of the run, with that reply (`told`: `IsToldOf`).
+//!   done at a moment of the run, with that reply (`told`: `IsMomentOf`).
 //! - `what_a_plan_tells_is_recorded`: what a plan's reply says is to be burnt is pending in the row
 //!   of the chip's device (`reply`: `IsRecorded`). The row stays as it is until a seat of the
 //!   customer reads the chip back or scraps it (`stays`: `StaysUntilEnd`). From then on all of it
