@@ -35,21 +35,21 @@ token = "9f86d081884c7d659a2feaa0c55ad015a3bf4f1b2b0b822cd15d6c15b0f00a08"
 
 /// The first order, of one device with an address.
 const FIRST_ORDER: &str = r#"
-a1 POST /v1/order {"nr":1,"name":"o1001","issuer":"acme-ca","prefix":"A","width":4,"first":1001,"quantity":1,"macs":1}
-200 {"first":1001,"issuer":"acme-ca","mac":"020000000000","macs":1,"name":"o1001","next":"A1001",
+a1 POST /v1/order {"nr":1,"name":"order-of-thirty-two-letters.1001","issuer":"acme-ca","prefix":"A","width":4,"first":1001,"quantity":1,"macs":1}
+200 {"first":1001,"issuer":"acme-ca","mac":"020000000000","macs":1,"name":"order-of-thirty-two-letters.1001","next":"A1001",
   "not_before":null,"prefix":"A","quantity":1,"width":4}
 "#;
 
 /// Behind 4,095 orders of an address each: the last that there may be, with the next address, and the
 /// one that is one too many.
 const LAST_ORDER: &str = r#"
-a1 POST /v1/order {"nr":2,"name":"o5096","issuer":"acme-ca","prefix":"A","width":4,"first":5096,"quantity":1,"macs":1}
-200 {"first":5096,"issuer":"acme-ca","mac":"020000000fff","macs":1,"name":"o5096","next":"A5096",
+a1 POST /v1/order {"nr":2,"name":"order-of-thirty-two-letters.5096","issuer":"acme-ca","prefix":"A","width":4,"first":5096,"quantity":1,"macs":1}
+200 {"first":5096,"issuer":"acme-ca","mac":"020000000fff","macs":1,"name":"order-of-thirty-two-letters.5096","next":"A5096",
   "not_before":null,"prefix":"A","quantity":1,"width":4}
-a1 POST /v1/order {"nr":3,"name":"o5097","issuer":"acme-ca","prefix":"A","width":4,"first":5097,"quantity":1,"macs":1}
+a1 POST /v1/order {"nr":3,"name":"order-of-thirty-two-letters.5097","issuer":"acme-ca","prefix":"A","width":4,"first":5097,"quantity":1,"macs":1}
 409 {"error":"limit","no":40}
-a1 GET /v1/order?name=o5096
-200 {"first":5096,"issuer":"acme-ca","mac":"020000000fff","macs":1,"name":"o5096","next":"A5096",
+a1 GET /v1/order?name=order-of-thirty-two-letters.5096
+200 {"first":5096,"issuer":"acme-ca","mac":"020000000fff","macs":1,"name":"order-of-thirty-two-letters.5096","next":"A5096",
   "not_before":null,"prefix":"A","quantity":1,"width":4}
 manager GET /v1/site/report
 csv customer,orders,quantity,registered,planned,settled,identified,shipped,quarantined,scrapped,serials_left|
@@ -62,7 +62,7 @@ const REPORT: &str =
     "a1 GET /v1/report\ncsv order,quantity,registered,planned,settled,identified,shipped,quarantined,scrapped,serials_left|";
 
 /// The line of an order in the report.
-const ORDER_LINE: &str = "o#,1,0,0,0,0,0,0,0,1|";
+const ORDER_LINE: &str = "order-of-thirty-two-letters.#,1,0,0,0,0,0,0,0,1|";
 
 /// An order as large as an order may be, a map, and the order's first device.
 const FIRST_DEVICE: &str = r#"
@@ -360,7 +360,7 @@ fn add_order<K: Keep>(
 ) -> Result<(), Fail>
     requires { (1001 ≤ number) × (number < 10000) }
 {
-    let name = format!(in alloc; "o{number}")?;
+    let name = format!(in alloc; "order-of-thirty-two-letters.{number}")?;
     let order = OfCustomer {
         customer: first.customer,
         row: Order {
@@ -380,7 +380,7 @@ fn add_order<K: Keep>(
 /// Puts 4,094 orders behind the first, as requests would.
 fn add_orders<K: Keep>(alloc: Global, keep: &mut K) -> Result<(), Fail> {
     let customer = Name::parse("acme").ok_or("no name")?;
-    let name = Name::parse("o1001").ok_or("no name")?;
+    let name = Name::parse("order-of-thirty-two-letters.1001").ok_or("no name")?;
     let first = keep.order(&customer, &name)?.ok_or("no order")?;
     for number in 1002..5096 {
         add_order(alloc, keep, &first, number)?;
