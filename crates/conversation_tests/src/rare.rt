@@ -132,7 +132,10 @@ const SMALL_MAPS: &[Marks] = &[
         ("{serial}", "A001"),
     ],
     &[
-        ("{blocks}", "[[block]]\\nwords = 1\\n[[block]]\\nwords = 1\\n"),
+        (
+            "{blocks}",
+            "[[block]]\\nwords = 1\\n[[block]]\\nwords = 1\\n",
+        ),
         ("{others}", r#",["00000000"]"#),
         (
             "{map}",

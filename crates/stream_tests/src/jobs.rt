@@ -341,7 +341,8 @@ const LONG_NAME: &str =
     "nnnnnnnnnnnnnnnnnnnnnnnnnnnnnnnnnnnnnnnnnnnnnnnnnnnnnnnnnnnnnnnnnnnnnnnnnnnnnnnnnnnnnnnnnnnnnnnnnnnnnnnnnnnnnnnnnnnnnnnnnnnnnnnnnnnnnnnnnnnnnnnnnnnnnnnnnnnnnnnnnnnnnnnnnnnnnnnnnnnnnnnnnnnnnn";
 
 /// A site of which a name comes twice, in front of a comment.
-const TWICE: &str = "[[customer]]\nname = \"acme\"\nissuer = []\n[[customer]]\nname = \"acme\"\nissuer = []\n#";
+const TWICE: &str =
+    "[[customer]]\nname = \"acme\"\nissuer = []\n[[customer]]\nname = \"acme\"\nissuer = []\n#";
 
 /// Files that can't be read, by the job and their name: those that aren't there, a folder, and those
 /// that are no text, with what is in them.
@@ -847,7 +848,15 @@ fn a_line_is_written_whole(rt: HostRuntime) -> Result<(), Fail> {
     let mut err = Slow {
         taken: Vec::new(alloc),
     };
-    let done = run(&rt, alloc, &unread, b"".as_slice(), BROKEN, &mut err, Unknown);
+    let done = run(
+        &rt,
+        alloc,
+        &unread,
+        b"".as_slice(),
+        BROKEN,
+        &mut err,
+        Unknown,
+    );
     assert_eq!(rt; done.status, 1);
     let line = b"station: cannot read none.toml\n";
     assert_eq!(rt; err.taken.as_slice(), line.as_slice());
