@@ -191,9 +191,9 @@ a1 POST /v1/readback {"nr":#,"chip":"00000000000a","blocks":<>}
 
 /// The one in which it is, and the end of the device.
 const BURNT: &str = r#"
-a1 POST /v1/readback {"nr":10005,"chip":"00000000000a","blocks":<0.6=00000040>}
+a1 POST /v1/readback {"nr":16395,"chip":"00000000000a","blocks":<0.6=00000040>}
 200 {"outcome":"match","rest":$NONE,"state":"settled"}
-a1 POST /v1/scrap {"nr":10006,"chip":"00000000000a"}
+a1 POST /v1/scrap {"nr":16396,"chip":"00000000000a"}
 200 {"chip":"00000000000a","state":"scrapped"}
 "#;
 
@@ -209,9 +209,9 @@ const ENTRY: &str = r#",{"bits":[],"event":"read","keys":{},"n":#,"note":"short"
 
 /// The entries of what comes behind them.
 const LAST_ENTRIES: &str = r#",
-  {"bits":[{"block":0,"mask":"00000040","word":6}],"event":"read","keys":{},"n":10003,"note":"match",
+  {"bits":[{"block":0,"mask":"00000040","word":6}],"event":"read","keys":{},"n":16393,"note":"match",
     "seat":"a1"},
-  {"bits":[],"event":"scrapped","keys":{},"n":10004,"note":"","seat":"a1"}"#;
+  {"bits":[],"event":"scrapped","keys":{},"n":16394,"note":"","seat":"a1"}"#;
 
 /// An order of 10,000 addresses, and a device of it with the first of its records.
 const FIRST_RECORD: &str = r#"
@@ -335,7 +335,7 @@ pub enum Rows {
     Page,
     /// 1,000 devices behind the first: two pages and a device.
     Pages,
-    /// 10,000 entries of a chip, by as many requests.
+    /// 16,390 entries of a chip, by as many requests.
     Entries,
     /// 66,001 records with addresses.
     Records,
@@ -430,9 +430,9 @@ fn add_behind<K: Keep>(alloc: Global, keep: &mut K, first: u64, end: u64) -> Res
     Ok(())
 }
 
-/// Has 10,000 read-backs in one stream for the sample site.
+/// Has 16,390 read-backs in one stream for the sample site.
 fn add_entries<K: Keep>(alloc: Global, keep: &mut K) -> Result<(), Fail> {
-    let conversation = numbered(alloc, SHORT, "#", 5, 10_005)?;
+    let conversation = numbered(alloc, SHORT, "#", 5, 16_395)?;
     let exchanges = exchanges(alloc, conversation.as_str())?;
     let (asked, wanted) = streams_of(alloc, exchanges.as_slice())?;
     let (served, written) = serve(alloc, keep, asked.as_slice(), 65_536)?;
@@ -568,9 +568,9 @@ fn all_but_one_imported(alloc: Global) -> Result<String, AllocError> {
     Ok(text)
 }
 
-/// The entries of a ledger where 10,000 read-backs are short; and what comes then.
-fn ten_thousand_entries(alloc: Global) -> Result<String, AllocError> {
-    let entries = numbered(alloc, ENTRY, "#", 3, 10_003)?;
+/// The entries of a ledger where 16,390 read-backs are short; and what comes then.
+fn thousands_of_entries(alloc: Global) -> Result<String, AllocError> {
+    let entries = numbered(alloc, ENTRY, "#", 3, 16_393)?;
     format!(in alloc; "{LEDGER}{entries}]}}\n{BURNT}{LEDGER}{entries}{LAST_ENTRIES}]}}\n")
 }
 
@@ -661,7 +661,7 @@ fn the_last_of_ten_thousand_numbers_is_found(rt: HostRuntime) -> Result<(), Fail
 
 #[test]
 fn ledgers_go_on_behind_ten_thousand_entries(rt: HostRuntime) -> Result<(), Fail> {
-    let rest = ten_thousand_entries(rt.alloc())?;
+    let rest = thousands_of_entries(rt.alloc())?;
     let limit = Limit {
         site: SITE,
         first: PLANNED,
