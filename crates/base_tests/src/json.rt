@@ -42,6 +42,7 @@ const BODIES: &[(&[u8], u64, u64, Option<Option<u64>>)] = &[
     (b"", 0, LARGEST_WHOLE, None),
     (b"{", 0, LARGEST_WHOLE, None),
     (b"{} {}", 0, LARGEST_WHOLE, None),
+    (b"<a/>", 0, LARGEST_WHOLE, None),
     (b"{\"n\":01}", 0, LARGEST_WHOLE, None),
     (b"{\"n\":1e999}", 0, LARGEST_WHOLE, None),
     (b"{\"n\":\"\\ud800\"}", 0, LARGEST_WHOLE, None),

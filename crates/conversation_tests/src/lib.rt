@@ -24,6 +24,8 @@ mod parts;
 #[cfg(test)]
 mod products;
 #[cfg(test)]
+mod rare;
+#[cfg(test)]
 mod seats;
 #[cfg(test)]
 mod sizes;

@@ -36,7 +36,7 @@ struct Order {
 }
 
 /// The text with what stands for each mark in its place, mark by mark.
-fn filled(alloc: Global, text: &str, marks: &[(&str, &str)]) -> Result<String, AllocError> {
+pub fn filled(alloc: Global, text: &str, marks: &[(&str, &str)]) -> Result<String, AllocError> {
     let mut filled = String::from_str(alloc, text)?;
     for mark in marks {
         filled = filled.as_str().replace(alloc, mark.0, mark.1)?;
@@ -192,7 +192,7 @@ fn life_of(alloc: Global, kinds: &[Marks]) -> Result<String, AllocError> {
 }
 
 /// The text with the numbers of a seat's requests, from 1 on, and of repeats the last once more.
-fn with_numbers(alloc: Global, text: &str) -> Result<String, AllocError> {
+pub fn with_numbers(alloc: Global, text: &str) -> Result<String, AllocError> {
     let (front, marked) = text.split_once("{nr").unwrap_or((text, ""));
     let mut all = String::from_str(alloc, front)?;
     let mut number = 0u64;

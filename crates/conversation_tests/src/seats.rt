@@ -52,8 +52,18 @@ a1 POST /v1/order {"nr":1,"name":"o1","issuer":"acme-ca","prefix":"A","width":3,
   "prefix":"A","quantity":2,"width":3}
 "#;
 
-/// Numbers of a seat's last request, each with what is said behind it: up to 2^20, and to 2^53.
-const LAST_NUMBERS: &[(u64, &str)] = &[(1_048_575, LARGE), (9_007_199_254_740_990, GREATEST)];
+/// Numbers of a seat's last request, each with what is said behind it: up to a million, to 2^20, and to 2^53.
+const LAST_NUMBERS: &[(u64, &str)] = &[
+    (999_999, MILLIONTH),
+    (1_048_575, LARGE),
+    (9_007_199_254_740_990, GREATEST),
+];
+
+/// The number 1,000,000.
+const MILLIONTH: &str = r#"
+a1 POST /v1/map {"nr":1000000,"text":"$MAP"}
+200 {"map":"$DIGEST"}
+"#;
 
 /// The number 2^20 and the next.
 const LARGE: &str = r#"

@@ -189,7 +189,7 @@ fn site_of_many_customers(alloc: Global) -> Result<(String, String), AllocError>
 
 /// Holds two conversations for the site of a text over each keeper, whose store is opened again between them:
 /// what differs first.
-fn first_of_both(alloc: Global, site: &str, first: &str, rest: &str) -> Result<String, Fail> {
+pub fn first_of_both(alloc: Global, site: &str, first: &str, rest: &str) -> Result<String, Fail> {
     let limit = Limit {
         site,
         first,

@@ -1,5 +1,5 @@
 // The folder of a store, by the calls of the system.
-ghost use Rattle.std.specs.Prelude.{◌≡◌, IfOk};
+ghost use Rattle.std.specs.Prelude.{◌≡◌, ◌<◌, IfOk, codes, length};
 ghost use Rattle.store_file.specs.Names.{NamesNoFile};
 
 use crate::folder::{Compared, FileFacts, Folder, Found, Name, Stage};
@@ -50,12 +50,19 @@ fn found_by(answer: io::Result<Metadata>) -> io::Result<Found> {
     }
 }
 
+/// The name of the folder of what has this in front of its last slash: with nothing there it is the root.
+fn folder_before(front: &str) -> &str
+    ensures root { length front.now ≡ 0 → result.now ≡ codes "/" }
+    ensures named { 0 < length front.now → result.now ≡ front.now }
+{
+    if front.is_empty() { "/" } else { front }
+}
+
 /// The name of the folder in which a path lies.
 fn folder_of(path: &str) -> &str {
     match path.rsplit_once('/') {
         None => ".",
-        Some((folder, _)) if folder.is_empty() => "/",
-        Some((folder, _)) => folder,
+        Some((front, _)) => folder_before(front),
     }
 }
 

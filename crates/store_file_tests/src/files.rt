@@ -48,14 +48,16 @@ fn no_link_is_followed_and_no_second_name_is_left(rt: HostRuntime) -> Result<(),
     symlink(&rt, "kept", "links/a-new")?;
     fs::hard_link(&rt, "links/kept", "links/b-new")?;
     fs::hard_link(&rt, "links/empty", "links/c")?;
+    symlink(&rt, "missing", "links/d-wal")?;
     for store in [
         "links/to_empty",
         "links/to_missing",
         "links/a",
         "links/b",
         "links/c",
+        "links/d",
     ] {
-        assert_eq!(rt; made_over(&rt, store, "links")?, (false, 7), "{store}");
+        assert_eq!(rt; made_over(&rt, store, "links")?, (false, 8), "{store}");
     }
     assert_eq!(rt; fs::metadata(&rt, "links/empty")?.len(), 0);
     assert_eq!(rt; fs::read_to_string(&rt, "links/kept")?.as_str(), "kept");
@@ -76,6 +78,8 @@ fn nothing_is_made_for_what_is_opened_as_no_file(rt: HostRuntime) -> Result<(), 
         assert_eq!(rt; made_over(&rt, path, "none")?, (false, 0), "{path}");
     }
     assert_eq!(rt; made_over(&rt, "none/file:", "none")?, (true, 1));
+    // Its name begins with the word, without a colon.
+    assert_eq!(rt; made_over(&rt, "filed.db", "none")?, (true, 1));
     Ok(())
 }
 
@@ -90,6 +94,20 @@ fn a_file_of_no_bytes_that_another_has_stays(rt: HostRuntime) -> Result<(), Fail
     drop(file);
     assert_eq!(rt; made_over(&rt, "had/s", "had")?, (true, 1));
     assert_eq!(rt; fs::metadata(&rt, "had/s")?.len(), 1024);
+    Ok(())
+}
+
+/// Nor is one that another only reads: it has SQLite's shared bytes, the last 510 of those that are locked.
+#[test]
+fn a_file_of_no_bytes_that_another_reads_stays(rt: HostRuntime) -> Result<(), Fail> {
+    make_empty_folder(&rt, "read")?;
+    fs::write(&rt, "read/s", "")?;
+    let file = File::open(&rt, "read/s")?;
+    let locked = os::try_lock_range(file.as_raw_fd(), RangeLock::Shared, (1 << 30) + 2, 510);
+    assert_eq!(rt; locked, 0);
+    assert_eq!(rt; made_over(&rt, "read/s", "read")?, (false, 1));
+    drop(file);
+    assert_eq!(rt; made_over(&rt, "read/s", "read")?, (true, 1));
     Ok(())
 }
 

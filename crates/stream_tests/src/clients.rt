@@ -82,6 +82,8 @@ pub enum Taking {
     AtMost(usize),
     /// It has gone.
     Gone,
+    /// At once. Its stream can't be made to wait again once it didn't.
+    Stuck,
 }
 
 /// What a client does: when it comes, in milliseconds, what it sends, and how it takes what it is sent.
@@ -144,6 +146,15 @@ impl Client<'_> {
             0
         }
     }
+
+    /// How a read ends in whose time nothing came. A signal ends each wait for a part of an odd place.
+    fn nothing(&self) -> io::Error {
+        if self.is_waited_for.get() && self.sent % 2 == 1 {
+            io::Error::from(ErrorKind::Interrupted)
+        } else {
+            io::Error::from(ErrorKind::WouldBlock)
+        }
+    }
 }
 
 impl ToClient<'_> {
@@ -153,6 +164,7 @@ impl ToClient<'_> {
             self.time.passes(HELD_BACK);
         }
         match self.taking {
+            Taking::Stuck => Ok(count),
             Taking::After(time) => {
                 self.time.passes(time);
                 Ok(count)
@@ -228,6 +240,9 @@ impl OpenStream for Client<'_> {
     }
 
     fn set_nonblocking(&self, nonblocking: bool) -> io::Result<()> {
+        if matches!(self.taking, Taking::Stuck) && !self.is_waited_for.get() {
+            return Err(io::Error::from(ErrorKind::Other));
+        }
         self.is_waited_for.set(!nonblocking);
         Ok(())
     }
@@ -248,10 +263,10 @@ impl Read for Client<'_> {
         let longest = self.longest();
         let Some((moment, text)) = self.parts.get(self.sent) else {
             self.time.passes(longest);
-            return Err(io::Error::from(ErrorKind::WouldBlock));
+            return Err(self.nothing());
         };
         if !self.time.waits_until(*moment, longest) {
-            return Err(io::Error::from(ErrorKind::WouldBlock));
+            return Err(self.nothing());
         }
         let rest = text.as_bytes().get(self.sent_of_part..).unwrap_or(b"");
         let count = rest.len().min(buf.len());

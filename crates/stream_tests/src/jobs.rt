@@ -253,6 +253,7 @@ const FILES: &[(&str, &str, &str)] = &[
         "station: map fault 5\n",
     ),
     ("check-map", "$MAP[[field]]\n", "station: map fault 2\n"),
+    ("check-map", "$MAP# Windows\r\n", "ok esp32-sample 4 7\n"),
     ("check-site", "$SITE", "ok 2\n"),
     (
         "check-site",
@@ -310,6 +311,7 @@ const FILES: &[(&str, &str, &str)] = &[
         "station: site fault 6: customer acme: it has more than 8 of issuer\n",
     ),
     ("replay", "$SITE", ""),
+    ("replay", "$SITE\t# a tab\n", ""),
     ("replay", "customer", "station: site fault 1\n"),
     ("replay", "", "station: site fault 2\n"),
     (
@@ -334,12 +336,21 @@ const FILES: &[(&str, &str, &str)] = &[
     ),
 ];
 
+/// A name of 190 characters.
+const LONG_NAME: &str =
+    "nnnnnnnnnnnnnnnnnnnnnnnnnnnnnnnnnnnnnnnnnnnnnnnnnnnnnnnnnnnnnnnnnnnnnnnnnnnnnnnnnnnnnnnnnnnnnnnnnnnnnnnnnnnnnnnnnnnnnnnnnnnnnnnnnnnnnnnnnnnnnnnnnnnnnnnnnnnnnnnnnnnnnnnnnnnnnnnnnnnnnnnnnnnnnn";
+
+/// A site of which a name comes twice, in front of a comment.
+const TWICE: &str =
+    "[[customer]]\nname = \"acme\"\nissuer = []\n[[customer]]\nname = \"acme\"\nissuer = []\n#";
+
 /// Files that can't be read, by the job and their name: those that aren't there, a folder, and those
 /// that are no text, with what is in them.
 const UNREAD: &[(&str, &str, &[u8])] = &[
     ("check-map", "none.toml", b""),
     ("check-map", "no/such file", b""),
     ("check-map", "", b""),
+    ("check-map", LONG_NAME, b""),
     ("check-map", "folder", b""),
     ("check-map", "latin.toml", b"# \xe4\n"),
     ("check-map", "latin.toml", b"\xff"),
@@ -410,6 +421,11 @@ const ENDS: &[(&str, u8, &str)] = &[
     ),
     (
         "station check-site ends.toml --from ends_map.toml",
+        1,
+        "station: site fault 2\n",
+    ),
+    (
+        "station check-site ends.toml --from ends.toml.old",
         1,
         "station: site fault 2\n",
     ),
@@ -568,12 +584,36 @@ impl Read for Interrupting {
     }
 }
 
-/// A writer that takes all, and at its flush comes to a port as so many clients that say nothing.
+/// A writer that takes a byte at a time.
+#[derive(Drop)]
+struct Slow {
+    taken: Vec<u8>,
+}
+
+impl Write for Slow {
+    fn write(&mut self, bytes: &[u8]) -> io::Result<usize> {
+        match bytes.first() {
+            Some(byte) => {
+                self.taken.push(*byte)?;
+                Ok(1)
+            }
+            None => Ok(0),
+        }
+    }
+
+    fn flush(&mut self) -> io::Result<()> {
+        Ok(())
+    }
+}
+
+/// A writer that takes all, and at its flush comes to a port as so many clients that say nothing. The flush
+/// may fail then.
 #[derive(Drop)]
 struct Silent<'r> {
     rt: &'r HostRuntime,
     port: u16,
     clients: u32,
+    flushes: bool,
 }
 
 impl Write for Silent<'_> {
@@ -586,6 +626,9 @@ impl Write for Silent<'_> {
             let address = SocketAddrV4::new(Ipv4Addr::new(127, 0, 0, 1), self.port);
             let _stream = TcpStream::connect(self.rt, address)?;
         }
+        if !self.flushes {
+            return Err(io::Error::from(io::ErrorKind::StorageFull));
+        }
         Ok(())
     }
 }
@@ -596,8 +639,15 @@ fn free_port(rt: &HostRuntime) -> Result<u16, Fail> {
     Ok(listener.local_addr()?.port())
 }
 
-/// Does the job of a line of words, `serve` over a port: its status, and the line on standard error.
-fn end_of_line(rt: &HostRuntime, alloc: Global, line: &str, port: u16) -> Result<String, Fail> {
+/// Does the job of a line of words, `serve` over a port, to an output that may fail to flush: its status, and
+/// the line on standard error.
+fn end_of_line(
+    rt: &HostRuntime,
+    alloc: Global,
+    line: &str,
+    port: u16,
+    flushes: bool,
+) -> Result<String, Fail> {
     let port_word = format!(in alloc; "--port={port}")?;
     let mut words: Vec<&str> = line.split_whitespace().collect(alloc)?;
     if line.contains(" serve ") {
@@ -608,7 +658,12 @@ fn end_of_line(rt: &HostRuntime, alloc: Global, line: &str, port: u16) -> Result
         Job::Serve { connections, .. } => *connections,
         _ => 0,
     };
-    let output = Silent { rt, port, clients };
+    let output = Silent {
+        rt,
+        port,
+        clients,
+        flushes,
+    };
     let mut err = Vec::new(alloc);
     let done = run(rt, alloc, &job, b"".as_slice(), output, &mut err, Unknown);
     let status = done.status;
@@ -706,9 +761,10 @@ fn help_tells_of_the_version(rt: HostRuntime) -> Result<(), Fail> {
 fn difference_of_ends(rt: &HostRuntime, rows: &[(&str, u8, &str)]) -> Result<String, Fail> {
     fs::write(rt, "ends.toml", SITE)?;
     fs::write(rt, "ends_map.toml", MAP)?;
+    fs::write(rt, "ends.toml.old", MAP)?;
     let port = free_port(rt)?;
     for (line, status, err) in rows {
-        let told = end_of_line(rt, rt.alloc(), line, port)?;
+        let told = end_of_line(rt, rt.alloc(), line, port, true)?;
         let wanted = format!(in rt.alloc(); "{status} {err}")?;
         if told.as_str() != wanted.as_str() {
             return Ok(format!(in rt.alloc(); "{line}: {wanted} -> {told}")?);
@@ -728,6 +784,15 @@ fn jobs_over_streams_end_with_their_status(rt: HostRuntime) -> Result<(), Fail> 
 fn jobs_over_ports_end_with_their_status(rt: HostRuntime) -> Result<(), Fail> {
     let found = difference_of_ends(&rt, ENDS_OF_PORTS)?;
     assert_eq!(rt; found.as_str(), "");
+    Ok(())
+}
+
+#[test]
+fn a_port_whose_line_is_not_written_is_not_served(rt: HostRuntime) -> Result<(), Fail> {
+    fs::write(&rt, "ends.toml", SITE)?;
+    let line = "station serve --site ends.toml --db ends_unwritten.db --connections 1";
+    let told = end_of_line(&rt, rt.alloc(), line, free_port(&rt)?, false)?;
+    assert_eq!(rt; told.as_str(), "1 station: write failed\n");
     Ok(())
 }
 
@@ -768,6 +833,33 @@ fn files_over_their_limit_are_told_unread(rt: HostRuntime) -> Result<(), Fail> {
             assert_eq!(rt; told.as_str(), wanted, "{}", row.0);
         }
     }
+    write_long_file(&rt, rt.alloc(), (TWICE, 300_000), b"")?;
+    let told = written(&rt, rt.alloc(), "check-site", "long.toml", b"")?;
+    let wanted = "station: site fault 3: customer acme: the name is there already\n";
+    assert_eq!(rt; told.as_str(), wanted);
+    Ok(())
+}
+
+/// What is taken a byte at a time of the line on standard error is the line.
+#[test]
+fn a_line_is_written_whole(rt: HostRuntime) -> Result<(), Fail> {
+    let alloc = rt.alloc();
+    let unread = job(alloc, "check-map", "none.toml")?;
+    let mut err = Slow {
+        taken: Vec::new(alloc),
+    };
+    let done = run(
+        &rt,
+        alloc,
+        &unread,
+        b"".as_slice(),
+        BROKEN,
+        &mut err,
+        Unknown,
+    );
+    assert_eq!(rt; done.status, 1);
+    let line = b"station: cannot read none.toml\n";
+    assert_eq!(rt; err.taken.as_slice(), line.as_slice());
     Ok(())
 }
 

@@ -17,6 +17,9 @@ const NAMES: &[(&str, bool, usize)] = &[
     ("names_long_from_the_root", true, 200),
 ];
 
+/// Names that could be taken for something else: for no file, and for a copy of one.
+const ODD_NAMES: &[&str] = &["-", "names_odd.db.bak"];
+
 /// What the rows of a store begin with that stand for the order.
 const ORDER_ROW: &str = "\norders|'acme'|'o1'|";
 
@@ -46,7 +49,7 @@ fn answered_over(rt: &HostRuntime, alloc: Global, store: &str) -> Result<String,
         ("serve", "", SHOWN),
         ("replay", "--existing", SHOWN),
     ] {
-        let words = format!(in alloc; "{job} --site names.toml --db {store} {existing}")?;
+        let words = format!(in alloc; "{job} --site names.toml --db={store} {existing}")?;
         answers.push_str(done_by(rt, alloc, words.as_str(), stream)?.as_str())?;
     }
     Ok(answers)
@@ -87,6 +90,18 @@ fn each_name_is_that_of_the_store(rt: HostRuntime) -> Result<(), Fail> {
             "{}",
             row.0
         );
+    }
+    Ok(())
+}
+
+#[test]
+fn an_odd_name_is_that_of_the_store(rt: HostRuntime) -> Result<(), Fail> {
+    fs::write(&rt, "names.toml", SITE)?;
+    let wanted = format!(in rt.alloc(); "0 {ORDERED}0 {ORDERED}0 {ORDERED}")?;
+    for name in ODD_NAMES {
+        let answers = answered_over(&rt, rt.alloc(), name)?;
+        assert_eq!(rt; answers.as_str(), wanted.as_str(), "{name}");
+        assert!(rt; fs::exists(&rt, *name)?, "{name}");
     }
     Ok(())
 }

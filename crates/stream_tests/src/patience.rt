@@ -1,7 +1,7 @@
 //! How long a connection holds up the others: clients that say nothing, that are kept, that drip, that
 //! send all at once, that take nothing, and those that come behind them, at the bounds of the program;
 //! and what is waited for where no connection can be accepted.
-use crate::clients::{Failing, Scene, Script, Taking, served_clients};
+use crate::clients::{Failing, Scene, Script, Sent, Taking, served_clients};
 use std::alloc::Global;
 use std::test::Fail;
 use test_fixtures::samples::SITE;
@@ -43,6 +43,25 @@ const ALL: Taking = Taking::After(0);
 
 /// A client that asks once at its third second and then closes its side.
 const SECOND: Script = (3_000, &[(3_000, SHOWN, 1), (3_000, "", 1)], ALL);
+
+/// Requests each 40 ms, and two more with the last.
+const AND_AT_ONCE: &[Sent] = &[
+    (2_900, SHOWN, 1),
+    (2_940, SHOWN, 1),
+    (2_980, SHOWN, 1),
+    (3_020, SHOWN, 1),
+    (3_060, SHOWN, 1),
+    (3_100, SHOWN, 1),
+    (3_140, SHOWN, 1),
+    (3_180, SHOWN, 1),
+    (3_220, SHOWN, 1),
+    (3_260, SHOWN, 1),
+    (3_300, SHOWN, 1),
+    (3_340, SHOWN, 1),
+    (3_380, SHOWN, 1),
+    (3_380, SHOWN, 1),
+    (3_380, SHOWN, 1),
+];
 
 /// What clients do that say nothing or are kept, and of each the statuses and lengths of the replies that
 /// it took and when its connection was closed, in milliseconds. Where another connection waits that is seen
@@ -139,6 +158,16 @@ const KEPT: &[(&str, &[Script], &str)] = &[
         ],
         "13x404:33 until 3380, 404:33 until 3380",
     ),
+    (
+        "asks each 40 ms and then at once, and another comes",
+        &[(2_900, AND_AT_ONCE, ALL), SECOND],
+        "15x404:33 until 3380, 404:33 until 3380",
+    ),
+    (
+        "asks so, and its stream can't be made to wait again",
+        &[(2_900, AND_AT_ONCE, Taking::Stuck), SECOND],
+        "14x404:33 until 3380, 404:33 until 3380",
+    ),
 ];
 
 /// What clients do whose next requests are there already, and what became of each: the statuses and lengths
@@ -208,6 +237,15 @@ const IN_PARTS: &[(&str, &[Script], &str)] = &[
         "sends a request in two parts, the second too late",
         &[(0, &[(0, PART, 1), (10_001, REST, 1)], ALL), SECOND],
         "0 bytes until 10000, 404:33 until 10000",
+    ),
+    (
+        "waits nine seconds, and sends a request in two parts five seconds apart",
+        &[(
+            0,
+            &[(9_000, PART, 1), (14_000, REST, 1), (14_000, "", 1)],
+            ALL,
+        )],
+        "404:33 until 14000",
     ),
     (
         "sends a byte each four seconds",

@@ -22,11 +22,18 @@ pub const UNKNOWN: &str =
 /// A client that asks once and closes its side.
 const ONE: Script = (0, &[(0, SHOWN, 1), (0, "", 1)], Taking::After(0));
 
+/// A client that asks once and says nothing more.
+const SILENT: Script = (0, &[(0, SHOWN, 1)], Taking::After(0));
+
+/// Ports that not everybody may listen on, and that may be taken: the least that is asked for by name, and the
+/// greatest.
+const FIXED_PORTS: &[u16] = &[80, 65_535];
+
 /// How many clients come, one after another.
 const MANY: usize = 70_000;
 
-/// How long a remark in a site's text is, that makes it one of more than 100,000 bytes.
-const LONG_REMARK: usize = 100_000;
+/// How long a remark behind a site's text is, that makes it one of 1,048,576 bytes, as many as it may have.
+const LONG_REMARK: usize = 1_048_576 - SITE.len() - 3;
 
 /// A site without a manager.
 const SITE_ALONE: &str =
@@ -198,6 +205,13 @@ fn the_port_is_of_this_machine_alone(rt: HostRuntime) -> Result<(), Fail> {
     let listener = listen(&rt, 0).map_err(|_| "no port")?;
     let ip = listener.local_addr()?.ip().to_string(rt.alloc())?;
     assert_eq!(rt; ip.as_str(), "127.0.0.1");
+    for port in FIXED_PORTS {
+        if let Ok(listener) = listen(&rt, *port) {
+            let address = listener.local_addr()?;
+            let ip = address.ip().to_string(rt.alloc())?;
+            assert_eq!(rt; (ip.as_str(), address.port()), ("127.0.0.1", *port));
+        }
+    }
     Ok(())
 }
 
@@ -220,6 +234,21 @@ fn what_a_first_run_issued_the_second_knows(rt: HostRuntime) -> Result<(), Fail>
         let mode = fs::metadata(&rt, name)?.permissions().mode();
         assert_eq!(rt; mode & 0o777, 0o600, "{name}");
     }
+    Ok(())
+}
+
+/// A program that ends has copied the log into the database file.
+#[test]
+fn the_file_alone_is_the_store_behind_a_run(rt: HostRuntime) -> Result<(), Fail> {
+    let alloc = rt.alloc();
+    fs::write(&rt, "alone.toml", SITE)?;
+    let wanted = format!(in alloc; "0 {ORDERED}")?;
+    let first = done_by(&rt, alloc, "serve --site alone.toml --db alone.db", ORDER)?;
+    assert_eq!(rt; first.as_str(), wanted.as_str());
+    fs::write(&rt, "copy.db", fs::read(&rt, "alone.db")?.as_slice())?;
+    let words = "replay --site alone.toml --db copy.db --existing";
+    let second = done_by(&rt, alloc, words, SHOWN)?;
+    assert_eq!(rt; second.as_str(), wanted.as_str());
     Ok(())
 }
 
@@ -254,13 +283,15 @@ fn failures_of_a_port_are_told_behind_those_of_the_store(rt: HostRuntime) -> Res
     Ok(())
 }
 
-/// Serves so many simulated clients that ask once, for a site without a manager, where as many come:
-/// how many replies they took, or the line of the failure.
+/// Serves so many simulated clients that ask once, for a site without a manager, where as many come: how many
+/// of them took their reply and gave way to the next in their time, which is 50 ms each, or the line of the
+/// failure. All but the last say nothing more.
 fn replies_to_many(alloc: Global, count: u32, come: usize) -> Result<String, Fail> {
     let mut scripts = Vec::new(alloc);
-    for _client in 0..come {
-        scripts.push(ONE)?;
+    for _client in 1..come {
+        scripts.push(SILENT)?;
     }
+    scripts.push(ONE)?;
     let scene = Scene {
         site: SITE_ALONE,
         begun: 0,
@@ -272,8 +303,10 @@ fn replies_to_many(alloc: Global, count: u32, come: usize) -> Result<String, Fai
     match accepted {
         Ok(accepted) => {
             let mut replies = 0u32;
-            for outcome in outcomes.iter() {
-                if outcome.told(alloc)?.as_str() == "404:33 until 0" {
+            for (place, outcome) in outcomes.iter().enumerate() {
+                let behind = place.saturating_add(1).min(come.saturating_sub(1));
+                let wanted = format!(in alloc; "404:33 until {}", behind.saturating_mul(50))?;
+                if outcome.told(alloc)?.as_str() == wanted.as_str() {
                     replies = replies.saturating_add(1);
                 }
             }

@@ -137,5 +137,10 @@ fn all_words_are_read(rt: HostRuntime) -> Result<(), Fail> {
         let told = if told.is_empty() { job.as_str() } else { told };
         assert_eq!(rt; told, row.2, "{}", row.1);
     }
+    let system = Words {
+        words: &["station", "check-map", " a b "],
+    };
+    let told = outcome_of(rt.alloc(), &job_from_env(&(system, rt.alloc())))?;
+    assert_eq!(rt; told.as_str(), "check-map  a b ");
     Ok(())
 }
