@@ -1,7 +1,7 @@
 """The recipe's own commands, as a key pair's, a flash tool's and a label printer's.
 
-A hook is a command with SERIAL, MAC, MACS, CHIP, ORDER, KEY_SHA256 and FOLDER in its environment. It runs in a session
-of its own, so that all that it started ends with it.
+A hook is a command with CHIP, ORDER, SOCKET and OPERATOR in its environment, and what else is known by then. It runs in
+a session of its own, so that all that it started ends with it.
 """
 
 from __future__ import annotations

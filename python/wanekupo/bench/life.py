@@ -59,9 +59,11 @@ def life_steps(recipe: Recipe) -> list[str]:
     """The steps of a chip's life in their order, of which a chip may pass over those that it doesn't need."""
     keys = [it.command.name for it in recipe.wishes if it.command]
     burning = [f"{it} {batch}" for batch in (1, 2) for it in ("burn", "read back")] if recipe.wishes else []
-    before, label = (["before ship"] if "before_ship" in recipe.hooks else []), ["label"] * ("label" in recipe.hooks)
+    release, before, label = (
+        [step] * (step.replace(" ", "_") in recipe.hooks) for step in ("before register", "before ship", "label")
+    )
     identity = ["before identity", "identity"]
-    return ["read", "look", "register", *keys, "plan", *burning, *identity, *before, "ship", *label]
+    return ["read", "look", *release, "register", *keys, "plan", *burning, *identity, *before, "ship", *label]
 
 
 class LifeBench(Protocol):
@@ -76,6 +78,8 @@ class LifeBench(Protocol):
     def ask(self, call: Callable[[Station], Made]) -> Made: ...
 
     def order(self) -> Order: ...
+
+    def operator(self) -> str: ...
 
     def import_map(self) -> None: ...
 
@@ -161,6 +165,8 @@ class Life:
         self.step = "look"
         self.line.working(self.socket, "look", self.chip, "")
         found, recipe = self._ask(Station.find_device), self.line.recipe
+        if not found:
+            self._test_release()
         device = found or self.line.supply.registered(self._register)
         self._known = places_of(device.burnt)
         is_known = was_begun or self.line.kept.has_passed(self.chip)
@@ -178,6 +184,22 @@ class Life:
         if found and not is_known:
             self.line.kept.elsewhere(self.chip)
         return device
+
+    def _test_release(self) -> None:
+        """Has the recipe's command say whether the chip may be begun. Where it doesn't say yes nothing is sent and
+        nothing is kept of the chip; another one may be in the socket by then."""
+        command = self.line.recipe.hooks.get("before_register")
+        if not command:
+            return
+        self.step = "before register"
+        self.line.working(self.socket, self.step, self.chip, "")
+        try:
+            run_hook(command, self._own_facts(), self.line.recipe.file.parent, self._log)
+        except Ended as ended:
+            if ended.ending.name == "hook_missing":
+                raise
+            raise Ended("not_released", detail=ended.facts["detail"]) from ended
+        self._see()
 
     def _register(self) -> Device:
         words = (self.line.recipe.order, self.line.recipe.digest(), self._blocks)
@@ -372,9 +394,13 @@ class Life:
         return {**told, "MAC": record.mac or "", "MACS": " ".join(macs)}
 
     def _run(self, command: RecipeCommand, facts: Mapping[str, str]) -> None:
-        own = {"CHIP": self.chip, "ORDER": self.line.recipe.order, "SOCKET": self.socket}
         folder = {"FOLDER": str(self.line.kept.folder_of(self.chip))}
-        run_hook(command, {**own, **folder, **facts}, self.line.recipe.file.parent, self._log)
+        run_hook(command, {**self._own_facts(), **folder, **facts}, self.line.recipe.file.parent, self._log)
+
+    def _own_facts(self) -> dict[str, str]:
+        """What each hook is told."""
+        order, operator = self.line.recipe.order, self.line.operator()
+        return {"CHIP": self.chip, "ORDER": order, "SOCKET": self.socket, "OPERATOR": operator}
 
     def _log(self, done: HookResult) -> None:
         told = {"hook": done.name, "chip": self.chip, "serial": self.serial, "socket": self.socket}

@@ -11,7 +11,7 @@ import re
 import tomllib
 from dataclasses import dataclass, field
 from pathlib import Path
-from typing import Any, Callable, Mapping, Optional, Sequence
+from typing import Any, Callable, Mapping, Optional, Sequence, Union
 
 from wanekupo.chips.chip import bit, rlock, value, wlock
 from wanekupo.common.errors import StationError
@@ -20,7 +20,7 @@ from wanekupo.bench.words import FOLDER as WORDS
 from wanekupo.bench.words import TYPED
 
 NAME = re.compile(r"[A-Za-z0-9._-]{1,32}")
-HOOKS = ("before_identity", "before_ship", "label")
+HOOKS = ("before_register", "before_identity", "before_ship", "label")
 STARTS = ("key", "scan", "chip")
 LONGEST_HOOK, LONGEST_TOOL = 60.0, 120.0
 
@@ -75,12 +75,20 @@ class Wish:
 @dataclass(frozen=True)
 class Display:
     """What the operator sees and hears: `words` is the file with the words, `inches` the diagonal of the screen, 0
-    where it has 96 pixels an inch, and `badge` how a scan begins that names who works there."""
+    where it has 96 pixels an inch, and `badge` how a scan begins that names who works there. `operators` are the names
+    that may be there, or the form of each; without them any may, and nobody has to."""
 
     words: Path = WORDS / "en.toml"
     inches: float = 0
     sound: bool = True
     badge: str = "operator:"
+    operators: Union[tuple[str, ...], re.Pattern[str]] = ()
+
+    def may_work(self, name: str) -> bool:
+        """Whether somebody of this name may work here; `name` is empty where nobody said one."""
+        if isinstance(self.operators, re.Pattern):
+            return bool(name and self.operators.fullmatch(name))
+        return not self.operators or name in self.operators
 
 
 @dataclass(frozen=True)
@@ -254,7 +262,7 @@ def _map(name: str, recipe: Path) -> Path:
 
 def _display(table: Mapping[str, Any], here: Path, scanned: Sequence[str]) -> Display:
     """`scanned` is what a scan may begin with that is no badge."""
-    _known(table, ("words", "inches", "sound", "badge"), "[screen]")
+    _known(table, ("words", "inches", "sound", "badge", "operators"), "[screen]")
     usual = Display()
     name = _text({"words": usual.words.name, **table}, "words", "[screen]")
     words = next((it / name for it in (here, WORDS) if (it / name).is_file()), None)
@@ -269,7 +277,17 @@ def _display(table: Mapping[str, Any], here: Path, scanned: Sequence[str]) -> Di
     taken = [it for it in (*scanned, *TYPED) if it.startswith(badge)]
     if taken:
         raise ValueError(f"the badge {badge!r} of [screen] begins as {taken[0]!r} does")
-    return Display(words, float(inches), sound, badge)
+    return Display(words, float(inches), sound, badge, _operators(table.get("operators", [])))
+
+
+def _operators(found: Any) -> Union[tuple[str, ...], re.Pattern[str]]:
+    """The names of a list, or the form that a text has."""
+    if isinstance(found, list) and all(isinstance(it, str) and it for it in found):
+        return tuple(found)
+    try:
+        return re.compile(found)
+    except (re.error, TypeError) as error:
+        raise ValueError(f"operators of [screen] is no list of names, and no regular expression: {error}") from None
 
 
 def _wish(table: Mapping[str, Any], where: str, here: Path) -> Wish:
