@@ -5,10 +5,9 @@ Expected values are those of docs/line/bench.md, and what the shell's own comman
 
 from __future__ import annotations
 
-import json
 import unittest
 
-from running import ASK_WHERE, BenchCase, macs_of, script
+from running import ASK_WHERE, ENDED, BenchCase, macs_of, script
 from support import MAC
 
 from wanekupo.seat.journal import strict_lines
@@ -26,66 +25,49 @@ class Released(BenchCase):
     def ended_with(self, bench, mac):
         self.put("left", mac)
         bench.said("left")
-        found = bench.ended("left")
+        board = bench.until(lambda it: (it["sockets"][0]["chip"], it["sockets"][0]["state"] in ENDED) == (mac, True))
         self.take("left", mac)
-        return found
+        return tuple(board["sockets"][0][name] for name in ("state", "reason", "sentence"))
 
     def registered(self):
-        """The chips whose registration was sent."""
-        lines = strict_lines(self.folder / "a1.journal") if (self.folder / "a1.journal").exists() else []
+        lines = strict_lines(self.folder / "a1.journal")
         return [it["asked"]["chip"] for it in lines if it.get("path") == "/v1/device"]
 
-    def assert_no(self, bench, detail):
-        told = f"before_register says no, and the chip isn't begun ({detail}): {ASK_WHERE}."
-        self.assertEqual(self.ended_with(bench, MAC), ("FAIL", "not_released", told))
-        board = bench.board()
-        self.assertEqual((board["under_way"], board["shift"]["failed"], board["stopped"]), ([], {}, ""))
-        self.assertEqual((bench.socket("left")["box"], bench.socket("left")["scraps"]), ("ask", False))
-        self.assertEqual(self.registered(), [])
-        self.assertEqual(list((self.folder / "a1.json.bench" / "chips").iterdir()), [])
-
     def test_one_that_says_no(self):
-        """Its words are shown, and the chip is as good as before: nothing is sent or kept of it."""
+        """Its words are shown, and the chip is as good as before: nothing is sent or kept of it, and the line goes on.
+        The same where it takes too long; one that isn't there stops the line."""
         self.order()
         no = 'echo first; echo "$CHIP of $ORDER in $SOCKET by $OPERATOR: not \x1b[31mtested" >&2; exit 4\n'
-        bench = self.bench(script(self.folder / "no", no))
-        bench.said("operator:Bert Roth")
-        self.assert_no(bench, f"{MAC} of o1 in left by Bert Roth: not \\x1b[31mtested")
-        self.assertEqual([(it["hook"], it["status"]) for it in self.logged() if "hook" in it], [("before_register", 4)])
-        bench.end()
-        self.assert_no(self.bench(script(self.folder / "late", "sleep 99\n"), timeout=0.3), "more than 0.3 seconds")
+        said = (f"{MAC} of o1 in left by Bert Roth: not \\x1b[31mtested", "more than 0.3 seconds")
+        for hook, detail in zip((no, "sleep 99\n"), said):
+            bench = self.bench(script(self.folder / "hook", hook), timeout=0.3)
+            bench.said("operator:Bert Roth")
+            told = f"before_register says no, and the chip isn't begun ({detail}): {ASK_WHERE}."
+            self.assertEqual(self.ended_with(bench, MAC), ("FAIL", "not_released", told))
+            board = bench.board()
+            self.assertEqual((board["under_way"], board["shift"]["failed"], board["stopped"]), ([], {}, ""))
+            self.assertEqual((bench.socket("left")["box"], bench.socket("left")["scraps"]), ("ask", False))
+            self.assertEqual(list((self.folder / "a1.json.bench" / "chips").iterdir()), [])
+            (self.folder / "hook").unlink()
+            self.assertEqual(self.ended_with(bench, macs_of(2)[1])[1], "hook_missing")
+            self.assertEqual((self.registered(), bool(bench.board()["stopped"])), ([], True))
+            bench.end()
 
-    def test_one_that_isnt_there(self):
+    def test_what_comes_between(self):
+        """The bench dies while it asks, and another chip is in the socket behind the answer: neither is begun."""
         self.order()
-        file = script(self.folder / "gone", "exit 0\n")
-        bench = self.bench(file)
-        (self.folder / "gone").unlink()
-        self.assertEqual(self.ended_with(bench, MAC)[1], "hook_missing")
-        self.assertEqual((self.registered(), bool(bench.board()["stopped"])), ([], True))
-
-    def test_a_bench_that_dies_while_it_asks(self):
-        """No chip is begun by that."""
-        self.order()
-        file = script(self.folder / "slow", f"touch {self.folder}/asked; sleep 99\n")
-        bench = self.bench(file)
+        other, place = macs_of(2)[1], self.folder / "places" / "left"
+        self.put("left", other)
+        self.take("left", other)
+        bench = self.bench(script(self.folder / "slow", f"touch {self.folder}/asked; sleep 99\n"))
         self.put("left", MAC)
         bench.said("left")
         bench.until(lambda _: (self.folder / "asked").exists(), "asked")
         bench.kill()
-        self.assertEqual((self.bench(file).board()["under_way"], self.registered()), ([], []))
-
-    def test_another_chip_meanwhile(self):
-        """A MES says yes to the one that was asked for alone."""
-        self.order()
-        other = macs_of(2)[1]
-        self.put("left", other)
-        place = self.folder / "places" / "left"
-        self.take("left", other)
         bench = self.bench(script(self.folder / "swap", f"cp {self.folder}/chip-{other} {place}\n"))
-        self.put("left", MAC)
+        self.assertEqual(bench.board()["under_way"], [])
         bench.said("left")
-        self.assertEqual(bench.ended("left")[1], "other_chip")
-        self.assertEqual(self.registered(), [])
+        self.assertEqual((bench.ended("left")[1], self.registered()), ("other_chip", []))
 
     def test_one_that_says_yes(self):
         """It is asked once of a chip: one that is begun goes on, whatever it says by then."""
@@ -93,9 +75,9 @@ class Released(BenchCase):
         self.order()
         asked = self.folder / "asked"
         once = script(self.folder / "once", f"echo >> {asked}; [ $(wc -l < {asked}) -eq 1 ]\n")
-        broken = script(self.folder / "broken", "exit 1\n")
         hooks = {"before_register": {"command": [once]}}
-        bench = self.run_bench(self.recipe(hooks={**hooks, "before_ship": {"command": [broken]}}))
+        broken = {"before_ship": {"command": [script(self.folder / "broken", "exit 1\n")]}}
+        bench = self.run_bench(self.recipe(hooks={**hooks, **broken}))
         self.assertEqual(self.ended_with(bench, MAC)[1], "hook_failed")
         bench.end()
         bench = self.run_bench(self.recipe(hooks=hooks))
@@ -103,20 +85,12 @@ class Released(BenchCase):
         self.assertEqual(self.ended_with(bench, macs_of(2)[1])[1], "not_released")
         self.assertEqual((self.registered(), len(asked.read_text())), ([MAC], 2))
 
-
-class Operators(BenchCase):
-    """A recipe that says who may work there."""
-
-    over_office = True
-    SOCKETS = ("left",)
-
-    def test_a_list_and_a_form(self):
+    def test_operators_by_a_list_and_a_form(self):
         """Nothing is begun or scrapped before a badge that the recipe lets, and none other takes its place."""
         self.order()
         first = "Scan your badge first: the recipe says who may work here."
         for operators, good, bad in ((["Bert", "Anna"], "Anna", "Ann"), ("E[0-9]{4}", "E0815", "E08155")):
-            screen = {"screen": {"operators": operators}}
-            bench = self.run_bench(self.recipe(server={"operator": "Joe"}, top=screen))
+            bench = self.run_bench(self.recipe(server={"operator": "Joe"}, top={"screen": {"operators": operators}}))
             bench.until(lambda board: board["rest"])
             for text in ("left", f"scrap {MAC}", f"operator:{bad}", "left"):
                 bench.said(text)
@@ -126,13 +100,9 @@ class Operators(BenchCase):
                 bench.said(text)
                 self.assertEqual(bench.board()["operator"], good)
             mac = macs_of(2)[good == "Anna"]
-            self.put("left", mac)
-            bench.said("left")
-            self.assertEqual(bench.ended("left")[1], "passed")
-            lines = [json.loads(it) for it in (self.folder / "a1.journal").read_text("ascii").splitlines()]
-            own = {it["operator"] for it in lines if it.get("asked", {}).get("chip") == mac}
-            self.assertEqual(own, {good})
-            self.take("left", mac)
+            self.assertEqual(self.ended_with(bench, mac)[1], "passed")
+            lines = [it for it in strict_lines(self.folder / "a1.journal") if "path" in it]
+            self.assertEqual({it["operator"] for it in lines if it["asked"].get("chip") == mac}, {good})
             bench.end()
 
 

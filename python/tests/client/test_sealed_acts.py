@@ -30,7 +30,8 @@ class SealedActs(StationCase):
             self.assertEqual(status, 0 if name == "kept" else 1, out)
             self.assertIn(told, out)
             rows = (seals / "000001.rows").read_bytes().splitlines()
-            self.assertEqual([it.split(b" ")[:2] for it in rows[:2]], [[b"act", b"0000000001"], [b"act", b"0000000002"]])
+            kinds = [[b"act", b"0000000001"], [b"act", b"0000000002"]]
+            self.assertEqual([it.split(b" ")[:2] for it in rows[:2]], kinds)
             self.assertEqual(rows, sorted(rows))
 
     def test_words_that_lack_something(self):

@@ -10,8 +10,6 @@ from types import SimpleNamespace
 
 import pytest
 
-from wanekupo.books.compare import Text, differences
-from wanekupo.books.lines import act_lines
 from wanekupo.common import acts, store_words
 from wanekupo.common.errors import PlantError
 from wanekupo.common.process import end_tool
@@ -44,8 +42,9 @@ def refuse() -> None:
     raise Refused("no seat")
 
 
-def test_the_lines_of_a_run(file: Path) -> None:
-    """Where it begins and where it ended, also where it was refused or had a fault: each a line, whatever was typed."""
+def test_the_lines_of_a_run(file: Path, monkeypatch: pytest.MonkeyPatch) -> None:
+    """Where it begins and where it ended, also where it was refused or had a fault: each a line, whatever was typed.
+    Another user notes nothing."""
     assert end_tool("station-token", lambda: None) == 0 and end_tool("station-token", refuse) == 4
     with pytest.raises(ZeroDivisionError):
         acts.noted("station-token", lambda: 1 // 0)
@@ -54,11 +53,8 @@ def test_the_lines_of_a_run(file: Path) -> None:
     assert [it["what"] for it in lines_of(file)] == told
     assert {it["sudo"] for it in lines_of(file)} == {"anna\n"} and file.stat().st_mode & 0o777 == 0o600
     assert file.read_bytes().isascii() and file.read_bytes().count(b"\n") == 6
-
-
-def test_another_user_notes_nothing(file: Path, monkeypatch: pytest.MonkeyPatch) -> None:
     monkeypatch.setattr(acts.os, "geteuid", lambda: 7)
-    assert acts.noted("station-site", lambda: 3) == 3 and not file.exists()
+    assert acts.noted("station-site", lambda: 3) == 3 and len(lines_of(file)) == 6
 
 
 @pytest.mark.parametrize("kind", ["link", "folder", "others", "open folder"])
@@ -106,16 +102,3 @@ def test_words_that_are_cleaned_away_are_noted(monkeypatch: pytest.MonkeyPatch) 
     store_words.clean_words()
     store_words.clean_words()
     assert store_words.CALLER["SUDO_USER"] == "anna" and "SUDO_USER" not in fake.environ
-
-
-def rows(text: bytes) -> Text:
-    return Text.of(act_lines(text))
-
-
-def test_a_file_that_was_cut_or_edited() -> None:
-    """Lines may come. A later seal finds where one is gone or another one; a line that is being written is no row."""
-    before = rows(b"one\ntwo\xff\nthr")
-    assert not before.bad and not [*differences(before, rows(b"one\ntwo\xff\nthree\nfour\n"))]
-    last, other = "The line 2 of what root had done", r"text was two\xff, and is 2"
-    for text, told in ((b"one\n", "is gone"), (b"one\n2\n", other), (b"two\xff\n", "is gone")):
-        assert f"{last}: {told}." in [it.sentence() for it in differences(before, rows(text))]
