@@ -11,6 +11,7 @@ import argparse
 import contextlib
 import os
 import re
+import resource
 import signal
 import threading
 from dataclasses import replace
@@ -167,6 +168,8 @@ class Bench:
                 ended = life.run()
             except Leaving:
                 return
+            finally:
+                life.forget_keys()
             self._seen[name] = life.chip
             self._begin[name].clear()  # a key that is pressed from here on is the next chip's
             self._record(name, life, ended)
@@ -400,6 +403,7 @@ def main(settings: Settings, arguments: argparse.Namespace) -> int:
     recipe = recipe_of(arguments.recipe)
     settings = settings_for(recipe, settings, vars(arguments))
     take(recipe.display.words)
+    resource.setrlimit(resource.RLIMIT_CORE, (0, 0))  # neither this program nor espefuse leaves its memory in a file
     os.chdir(recipe.file.parent)  # from where the commands of sockets and hooks count
     print("Looking at the recipe and at each socket's command: this takes some seconds.", flush=True)
     faults = recipe_faults(recipe, settings.spool)

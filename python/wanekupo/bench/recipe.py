@@ -30,7 +30,7 @@ TABLES = ("server", "wish", "sockets", "hooks", "stop", "screen")
 WISHES = {
     "bit": ("index",),
     "value": ("value",),
-    "key": ("file", "command", "timeout", "burnt_as"),
+    "key": ("file", "command", "key", "timeout", "burnt_as"),
     "wlock": (),
     "rlock": (),
 }
@@ -53,7 +53,7 @@ class RecipeCommand:
 
 @dataclass(frozen=True)
 class Wish:
-    """A wish in the server's words. A key has a file, or a command that makes one for each chip."""
+    """A wish in the server's words. A key has a file, or a command that makes one for each chip, or that prints it."""
 
     kind: str
     field: str
@@ -61,6 +61,7 @@ class Wish:
     value: str = ""
     file: Optional[Path] = None
     command: Optional[RecipeCommand] = None
+    printed: Optional[RecipeCommand] = None
     burnt_as: str = ""
 
     def asked(self) -> dict[str, Any]:
@@ -303,11 +304,13 @@ def _wish(table: Mapping[str, Any], where: str, here: Path) -> Wish:
         return made(value=digits)
     if kind != "key":
         return made()
-    if ("file" in table) == ("command" in table):
-        raise ValueError(f"{where} has a file of a key, or a command that makes one for each chip, and not both")
+    if sum(name in table for name in ("file", "command", "key")) != 1:
+        raise ValueError(f"{where} has one of file, command and key, which is a table with a command that prints it")
     burnt_as = _text({"burnt_as": table.get("field"), **table}, "burnt_as", where)
     if "file" in table:
         return made(file=here / _text(table, "file", where), burnt_as=burnt_as)
+    if "key" in table:
+        return made(printed=_command(f"key of {table['field']}", table["key"], here, LONGEST_HOOK), burnt_as=burnt_as)
     timeout = _seconds(table, LONGEST_HOOK, where)
     words = _words(table["command"], f"the command of {where}", here)
     return made(command=RecipeCommand(f"key of {table['field']}", words, timeout), burnt_as=burnt_as)
