@@ -7,14 +7,20 @@ from __future__ import annotations
 
 import base64
 import hashlib
+import os
 import re
+import secrets
+import shutil
+import subprocess
 import sys
 import unittest
 from pathlib import Path
 
 from running import RED, BenchCase, macs_of, script
 from simulated_chip import SimulatedChip
-from support import MAC
+from support import MAC, ROOT
+
+LIBRARY = "/usr/lib/softhsm/libsofthsm2.so"
 
 
 class MadeKeys(BenchCase):
@@ -154,6 +160,33 @@ class PrintedKeys(BenchCase):
             self.assertEqual(bench.ended("left")[1], reason)
             self.assertIn(told, bench.ended("left")[2])
             bench.end()
+
+    @unittest.skipUnless(shutil.which("pkcs11-tool") and Path(LIBRARY).exists(), "no opensc, or no softhsm2")
+    def test_the_example_that_unwraps(self):
+        """deploy/thermostat/unwrap-key over a token of softhsm2: what the token's public key wrapped is burnt."""
+        self.needs_program()
+        (tokens := self.folder / "tokens").mkdir()
+        (settings := self.folder / ".config/softhsm2").mkdir(parents=True)
+        (settings / "softhsm2.conf").write_text(f"directories.tokendir = {tokens}\n", encoding="ascii")
+        (self.folder / "pin").write_text("1234", encoding="ascii")
+        self.key = secrets.token_bytes(32)
+        tool, own = f"pkcs11-tool --module {LIBRARY}", "--token-label flash --login"
+        for words in (
+            f"{tool} --init-token --slot-index 0 --label flash --so-pin 12345678",
+            f"{tool} {own} --login-type so --so-pin 12345678 --init-pin --pin 1234",
+            f"{tool} {own} --pin 1234 --keypairgen --key-type RSA:2048 --label unwrap --id 01",
+            f"{tool} {own} --pin 1234 --read-object --type pubkey --id 01 -o unwrap.der",
+            "openssl pkeyutl -encrypt -pubin -keyform DER -inkey unwrap.der -pkeyopt rsa_padding_mode:oaep "
+            "-in /dev/stdin -out BLOCK1.wrapped",
+        ):
+            home = {**os.environ, "HOME": str(self.folder)}
+            subprocess.run(words.split(), cwd=self.folder, env=home, input=self.key, capture_output=True, check=True)
+        self.order()
+        self.put("left", MAC)
+        bench = self.bench(f'exec "{ROOT}/deploy/thermostat/unwrap-key"\n')
+        self.assertEqual((bench.ended("left")[1], self.holding()), ("passed", set()))
+        known = self.asked("GET", f"/v1/device?chip={MAC}")[1]["keys"]
+        self.assertEqual(known, {"BLOCK1": hashlib.sha256(self.key[::-1]).hexdigest()})
 
 
 if __name__ == "__main__":
