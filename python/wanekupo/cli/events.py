@@ -1,0 +1,134 @@
+"""The command `events`: what stations' journals say, as IPC-CFX's messages in JSON, from where the last run stopped."""
+
+from __future__ import annotations
+
+import argparse
+import json
+import os
+import sys
+import time
+import urllib.request
+import uuid
+from http.client import HTTPException
+from pathlib import Path
+from typing import Any, Iterator
+
+from wanekupo.common.errors import BadSettings, BadStateFile, NoReply
+from wanekupo.common.files import hold_lock, opened_own, replace_file, tested_folder
+from wanekupo.common.printing import print_shown
+from wanekupo.common.texts import compact_json
+from wanekupo.seat.command_line import Command
+from wanekupo.seat.journal import OF_A_DAY, Asked, merged
+from wanekupo.seat.settings import Settings
+
+MORE = """. A message's UniqueID is made of its journal's lines: one that comes again, as where a reply was lost, has
+the same. FILE has the place behind the last message that was printed, or answered with 2xx by the URL."""
+
+# The messages, as IPC-2591 names them. What a station asks beside these is none.
+ARRIVED, DEPARTED, SCRAPPED = (f"CFX.Production.Units{it}" for it in ("Arrived", "Departed", "Scrapped"))
+TESTED = "CFX.Production.TestAndInspection.UnitsTested"
+NAMES = {"/v1/device": ARRIVED, "/v1/readback": TESTED, "/v1/ship": DEPARTED, "/v1/scrap": SCRAPPED}
+
+# How many seconds a listener has for a reply, and the pause before it is asked again.
+LONGEST, PAUSE = 10, 0.5
+
+
+def message(it: Asked, serial: str) -> dict[str, Any]:
+    """The message of an accepted request; its unit is the chip, by its factory MAC."""
+    name, chip, day = NAMES[it.path], it.members["chip"], OF_A_DAY.fullmatch(Path(it.file).name)
+    source = day[1].rstrip("-") if day and day[1] else Path(it.file).stem
+    said = compact_json([it.at, it.path, it.members, it.reply], sort_keys=True)
+    unit = {"UnitIdentifier": chip, "PositionNumber": 1}
+    body: dict[str, Any] = {"PrimaryIdentifier": serial or chip, "UnitCount": 1, "Units": [unit]}
+    if name == TESTED:
+        result = "Passed" if (it.reply or {}).get("outcome") == "match" else "Failed"
+        unit = {"UnitIdentifier": chip, "UnitPositionNumber": 1, "OverallResult": result}
+        body = {"TestMethod": "Automated", "TestedUnits": [unit]}
+    head = {"MessageName": name, "Version": "1.7", "TimeStamp": it.at, "Source": source, "Target": None}
+    unique = str(uuid.uuid5(uuid.NAMESPACE_OID, said))
+    return {**head, "UniqueID": unique, "RequestID": None, "MessageBody": {"$type": f"{name}, CFX", **body}}
+
+
+def messages_in(journals: list[str]) -> Iterator[tuple[str, dict[str, Any]]]:
+    """The messages of journals, each with the file in which its reply is, by their times."""
+    serials: dict[str, str] = {}
+    for it in merged(journals):
+        if it.is_done() and it.path == "/v1/identity" and it.reply:
+            serials[it.members["chip"]] = str(it.reply.get("serial"))
+        if it.is_done() and it.path in NAMES:
+            yield os.path.realpath(it.file), message(it, serials.get(it.members["chip"], ""))
+
+
+def new_messages(journals: list[str], place: dict[str, str]) -> Iterator[dict[str, Any]]:
+    """The messages behind a place, which goes on with each once the next one is asked for. It has the last message of
+    each file: a file that doesn't have that one is another one, and is given as a whole."""
+    found = list(messages_in(journals))
+    given = place.keys() & {file for file, it in found if place.get(file) == it["UniqueID"]}
+    for file, it in found:
+        if file not in given:
+            yield it
+            place[file] = it["UniqueID"]
+        elif place[file] == it["UniqueID"]:
+            given.remove(file)
+
+
+class _Unled(urllib.request.HTTPRedirectHandler):
+    """Goes nowhere else: there a POST would be a GET."""
+
+    def redirect_request(self, *_: Any) -> None:
+        return None
+
+
+def _post(url: str, data: bytes, patience: float) -> None:
+    """Gives a listener a message until it answers with 2xx."""
+    end, opener = time.monotonic() + patience, urllib.request.build_opener(_Unled)
+    while True:
+        try:
+            request = urllib.request.Request(url, data, {"Content-Type": "application/json"})
+            return opener.open(request, timeout=LONGEST).close()
+        except (OSError, HTTPException) as error:
+            if time.monotonic() + PAUSE > end:
+                told = "Give the command again: it begins with this message."
+                raise NoReply(f"{url} takes no message ({error})", told) from error
+        time.sleep(PAUSE)
+
+
+def _place_in(kept: Path) -> dict[str, str]:
+    tested_folder(kept.parent)
+    try:
+        with open(opened_own(kept, os.O_RDONLY), "rb") as source:
+            found = json.loads(source.read())
+        return {str(file): str(unique) for file, unique in found.items()}
+    except FileNotFoundError:
+        return {}
+    except (ValueError, TypeError, AttributeError) as error:
+        told = "Move it away: all messages come again then, each with its UniqueID of before."
+        raise BadStateFile(f"{kept} has no place in journals", told) from error
+
+
+def _add_arguments(parser: argparse.ArgumentParser) -> None:
+    parser.add_argument("journals", nargs="+", metavar="JOURNAL", help="a journal, or a folder with journals")
+    parser.add_argument("--cfx", action="store_true", required=True, help="in the form of IPC-CFX: there is no other")
+    parser.add_argument("--kept", type=Path, required=True, metavar="FILE", help="where the place is, with FILE.lock")
+    parser.add_argument("--post", metavar="URL", help="give each message to a listener, in place of printing it")
+
+
+def _events(settings: Settings, args: argparse.Namespace) -> int:
+    if args.post and not args.post.startswith(("http://", "https://")):
+        raise BadSettings(f"{args.post} is no URL of http or https", "Give that of the MES.")
+    busy = BadSettings(f"another run has {args.kept}", "Wait for it.")
+    with hold_lock(args.kept.with_name(f"{args.kept.name}.lock"), busy):
+        place = _place_in(args.kept)
+        for it in new_messages(args.journals, place):
+            replace_file(args.kept, compact_json(place))  # of the message in front
+            line = compact_json(it)
+            if args.post:
+                _post(args.post, line.encode("ascii"), settings.patience)
+            else:
+                print_shown(f"{line}\n")
+                sys.stdout.flush()
+        replace_file(args.kept, compact_json(place))
+    return 0
+
+
+COMMANDS = [Command("events", "give a MES what journals say, as messages of IPC-CFX", _add_arguments, _events, MORE)]
