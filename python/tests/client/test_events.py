@@ -40,21 +40,19 @@ MEANT = [
 # Takes so many messages into a file, and dies in front of its reply to the last; refuses the first.
 LISTENER = """
 import http.server, os, sys
-port, count, file = int(sys.argv[1]), int(sys.argv[2]), open(sys.argv[3], "ab", buffering=0)
-seen = [0]
 class Listener(http.server.BaseHTTPRequestHandler):
+    seen = 0
     def do_POST(self):
         data = self.rfile.read(int(self.headers["Content-Length"]))
-        seen[0] += 1
-        if seen[0] == 1:
-            return self.send_error(503)
-        file.write(data + b"\\n")
-        if seen[0] == count:
+        Listener.seen += 1
+        if Listener.seen > 1:
+            os.write(1, data + bytes([10]))
+        if Listener.seen == int(sys.argv[2]):
             os._exit(0)
-        self.send_response(204)
+        self.send_response(503 if Listener.seen == 1 else 204)
         self.end_headers()
-    def log_message(self, *words): pass
-http.server.HTTPServer(("127.0.0.1", port), Listener).serve_forever()
+    log_message = lambda *words: None
+http.server.HTTPServer(("127.0.0.1", int(sys.argv[1])), Listener).serve_forever()
 """
 
 
@@ -99,7 +97,8 @@ class Events(BooksCase):
         status, _, told = self.events("--post", url, "--patience", "1")
         self.assertEqual((status, f"{url} takes no message" in told), (3, True))
         for count in (3, 4, 99):
-            listener = subprocess.Popen([sys.executable, "-c", LISTENER, str(port), str(count), str(taken)])
+            with open(taken, "ab") as out:
+                listener = subprocess.Popen([sys.executable, "-c", LISTENER, str(port), str(count)], stdout=out)
             self.addCleanup(listener.wait)
             self.addCleanup(listener.kill)
             status = self.events("--post", url, "--patience", "3" if count < 99 else "60")[0]

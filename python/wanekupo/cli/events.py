@@ -3,15 +3,16 @@
 from __future__ import annotations
 
 import argparse
+import contextlib
 import json
 import os
 import sys
 import time
-import urllib.request
 import uuid
-from http.client import HTTPException
+from http.client import HTTPConnection, HTTPException, HTTPSConnection
 from pathlib import Path
 from typing import Any, Iterator
+from urllib.parse import urlsplit
 
 from wanekupo.common.errors import BadSettings, BadStateFile, NoReply
 from wanekupo.common.files import hold_lock, opened_own, replace_file, tested_folder
@@ -25,9 +26,9 @@ MORE = """. A message's UniqueID is made of its journal's lines: one that comes 
 the same. FILE has the place behind the last message that was printed, or answered with 2xx by the URL."""
 
 # The messages, as IPC-2591 names them. What a station asks beside these is none.
-ARRIVED, DEPARTED, SCRAPPED = (f"CFX.Production.Units{it}" for it in ("Arrived", "Departed", "Scrapped"))
 TESTED = "CFX.Production.TestAndInspection.UnitsTested"
-NAMES = {"/v1/device": ARRIVED, "/v1/readback": TESTED, "/v1/ship": DEPARTED, "/v1/scrap": SCRAPPED}
+NAMES = {"device": "UnitsArrived", "ship": "UnitsDeparted", "scrap": "UnitsScrapped"}
+NAMES = {**{f"/v1/{path}": f"CFX.Production.{name}" for path, name in NAMES.items()}, "/v1/readback": TESTED}
 
 # How many seconds a listener has for a reply, and the pause before it is asked again.
 LONGEST, PAUSE = 10, 0.5
@@ -36,21 +37,19 @@ LONGEST, PAUSE = 10, 0.5
 def message(it: Asked, serial: str) -> dict[str, Any]:
     """The message of an accepted request; its unit is the chip, by its factory MAC."""
     name, chip, day = NAMES[it.path], it.members["chip"], OF_A_DAY.fullmatch(Path(it.file).name)
+    unique = uuid.uuid5(uuid.NAMESPACE_OID, compact_json([it.at, it.path, it.members, it.reply], sort_keys=True))
     source = day[1].rstrip("-") if day and day[1] else Path(it.file).stem
-    said = compact_json([it.at, it.path, it.members, it.reply], sort_keys=True)
-    unit = {"UnitIdentifier": chip, "PositionNumber": 1}
-    body: dict[str, Any] = {"PrimaryIdentifier": serial or chip, "UnitCount": 1, "Units": [unit]}
-    if name == TESTED:
-        result = "Passed" if (it.reply or {}).get("outcome") == "match" else "Failed"
-        unit = {"UnitIdentifier": chip, "UnitPositionNumber": 1, "OverallResult": result}
-        body = {"TestMethod": "Automated", "TestedUnits": [unit]}
     head = {"MessageName": name, "Version": "1.7", "TimeStamp": it.at, "Source": source, "Target": None}
-    unique = str(uuid.uuid5(uuid.NAMESPACE_OID, said))
-    return {**head, "UniqueID": unique, "RequestID": None, "MessageBody": {"$type": f"{name}, CFX", **body}}
+    unit, body = {"UnitIdentifier": chip}, {"PrimaryIdentifier": serial or chip, "UnitCount": 1}
+    if name == TESTED:
+        unit["OverallResult"] = "Passed" if (it.reply or {}).get("outcome") == "match" else "Failed"
+        body = {"TestMethod": "Automated"}
+    body = {"$type": f"{name}, CFX", **body, "TestedUnits" if name == TESTED else "Units": [unit]}
+    return {**head, "UniqueID": str(unique), "RequestID": None, "MessageBody": body}
 
 
 def messages_in(journals: list[str]) -> Iterator[tuple[str, dict[str, Any]]]:
-    """The messages of journals, each with the file in which its reply is, by their times."""
+    """The messages of journals by their times, each with the file in which its reply is."""
     serials: dict[str, str] = {}
     for it in merged(journals):
         if it.is_done() and it.path == "/v1/identity" and it.reply:
@@ -72,20 +71,19 @@ def new_messages(journals: list[str], place: dict[str, str]) -> Iterator[dict[st
             given.remove(file)
 
 
-class _Unled(urllib.request.HTTPRedirectHandler):
-    """Goes nowhere else: there a POST would be a GET."""
-
-    def redirect_request(self, *_: Any) -> None:
-        return None
-
-
-def _post(url: str, data: bytes, patience: float) -> None:
-    """Gives a listener a message until it answers with 2xx."""
-    end, opener = time.monotonic() + patience, urllib.request.build_opener(_Unled)
+def _post(url: str, line: str, patience: float) -> None:
+    """Gives a listener a message until it answers with 2xx. A redirection is followed nowhere."""
+    end, parts = time.monotonic() + patience, urlsplit(url)
+    kind = HTTPSConnection if parts.scheme == "https" else HTTPConnection
     while True:
         try:
-            request = urllib.request.Request(url, data, {"Content-Type": "application/json"})
-            return opener.open(request, timeout=LONGEST).close()
+            where = f"{parts.path or '/'}?{parts.query}".rstrip("?")
+            with contextlib.closing(kind(parts.netloc, timeout=LONGEST)) as connection:
+                connection.request("POST", where, line, {"Content-Type": "application/json"})
+                status = connection.getresponse().status
+            if status // 100 == 2:
+                return
+            raise OSError(f"status {status}")
         except (OSError, HTTPException) as error:
             if time.monotonic() + PAUSE > end:
                 told = "Give the command again: it begins with this message."
@@ -97,13 +95,11 @@ def _place_in(kept: Path) -> dict[str, str]:
     tested_folder(kept.parent)
     try:
         with open(opened_own(kept, os.O_RDONLY), "rb") as source:
-            found = json.loads(source.read())
-        return {str(file): str(unique) for file, unique in found.items()}
+            return {str(file): str(unique) for file, unique in json.loads(source.read()).items()}
     except FileNotFoundError:
         return {}
-    except (ValueError, TypeError, AttributeError) as error:
-        told = "Move it away: all messages come again then, each with its UniqueID of before."
-        raise BadStateFile(f"{kept} has no place in journals", told) from error
+    except (ValueError, AttributeError) as error:
+        raise BadStateFile(f"{kept} has no place in journals", "Move it away: all messages come again then.") from error
 
 
 def _add_arguments(parser: argparse.ArgumentParser) -> None:
@@ -121,11 +117,10 @@ def _events(settings: Settings, args: argparse.Namespace) -> int:
         place = _place_in(args.kept)
         for it in new_messages(args.journals, place):
             replace_file(args.kept, compact_json(place))  # of the message in front
-            line = compact_json(it)
             if args.post:
-                _post(args.post, line.encode("ascii"), settings.patience)
+                _post(args.post, compact_json(it), settings.patience)
             else:
-                print_shown(f"{line}\n")
+                print_shown(f"{compact_json(it)}\n")
                 sys.stdout.flush()
         replace_file(args.kept, compact_json(place))
     return 0
