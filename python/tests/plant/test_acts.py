@@ -44,9 +44,9 @@ def test_the_lines_of_a_run(file: Path, monkeypatch: pytest.MonkeyPatch) -> None
     Another user notes nothing."""
     assert end_tool("station-token", lambda: None) == 0 and end_tool("station-token", refuse) == 1
     with pytest.raises(ZeroDivisionError):
-        acts.noted("station-token", lambda: 1 // 0)
+        acts.run_noted("station-token", lambda: 1 // 0)
     monkeypatch.setattr(acts.os, "geteuid", lambda: 7)
-    assert acts.noted("station-site", lambda: 3) == 3
+    assert acts.run_noted("station-site", lambda: 3) == 3
     lines = [json.loads(it) for it in file.read_text("ascii").splitlines()]
     ends = ("status 0", "status 1", "no status: it was refused, or failed")
     assert [it["what"] for it in lines] == [it for end in ends for it in (TYPED, f"{TYPED}: ended with {end}")]
@@ -65,7 +65,7 @@ def test_a_file_that_somebody_put_there(file: Path, capfd: pytest.CaptureFixture
         file.mkdir()
     elif kind == "open folder":
         file.parent.chmod(0o777)
-    assert acts.noted("station-token", lambda: 0) == 0
+    assert acts.run_noted("station-token", lambda: 0) == 0
     assert aim.read_text("ascii") == "his\n" and (kind != "open folder" or not file.exists())
     assert capfd.readouterr().err.count(f"{file} doesn't have who did this: ") == 2
 

@@ -34,13 +34,13 @@ NAMES = {**{f"/v1/{path}": f"CFX.Production.{name}" for path, name in NAMES.item
 LONGEST, PAUSE = 10, 0.5
 
 
-def message(it: Asked, serial: str) -> dict[str, Any]:
-    """The message of an accepted request; its unit is the chip, by its factory MAC."""
+def message(it: Asked, serials: dict[str, str]) -> dict[str, Any]:
+    """The message of an accepted request; its unit is the chip, by its factory MAC, and has a serial number."""
     name, chip, day = NAMES[it.path], it.members["chip"], OF_A_DAY.fullmatch(Path(it.file).name)
     unique = uuid.uuid5(uuid.NAMESPACE_OID, compact_json([it.at, it.path, it.members, it.reply], sort_keys=True))
     source = day[1].rstrip("-") if day and day[1] else Path(it.file).stem
     head = {"MessageName": name, "Version": "1.7", "TimeStamp": it.at, "Source": source, "Target": None}
-    unit, body = {"UnitIdentifier": chip}, {"PrimaryIdentifier": serial or chip, "UnitCount": 1}
+    unit, body = {"UnitIdentifier": chip}, {"PrimaryIdentifier": serials.get(chip, chip), "UnitCount": 1}
     if name == TESTED:
         unit["OverallResult"] = "Passed" if (it.reply or {}).get("outcome") == "match" else "Failed"
         body = {"TestMethod": "Automated"}
@@ -49,13 +49,14 @@ def message(it: Asked, serial: str) -> dict[str, Any]:
 
 
 def messages_in(journals: list[str]) -> Iterator[tuple[str, dict[str, Any]]]:
-    """The messages of journals by their times, each with the file in which its reply is."""
+    """The messages of journals by their times, each with the file in which its reply is. A serial number is told from
+    its identity on, so that a message that comes again is the same."""
     serials: dict[str, str] = {}
     for it in merged(journals):
         if it.is_done() and it.path == "/v1/identity" and it.reply:
             serials[it.members["chip"]] = str(it.reply.get("serial"))
         if it.is_done() and it.path in NAMES:
-            yield os.path.realpath(it.file), message(it, serials.get(it.members["chip"], ""))
+            yield os.path.realpath(it.file), message(it, serials)
 
 
 def new_messages(journals: list[str], place: dict[str, str]) -> Iterator[dict[str, Any]]:
@@ -92,13 +93,12 @@ def _post(url: str, line: str, patience: float) -> None:
 
 
 def _place_in(kept: Path) -> dict[str, str]:
-    tested_folder(kept.parent)
     try:
         with open(opened_own(kept, os.O_RDONLY), "rb") as source:
-            return {str(file): str(unique) for file, unique in json.loads(source.read()).items()}
+            return dict(json.loads(source.read()))
     except FileNotFoundError:
         return {}
-    except (ValueError, AttributeError) as error:
+    except (ValueError, TypeError) as error:
         raise BadStateFile(f"{kept} has no place in journals", "Move it away: all messages come again then.") from error
 
 
@@ -112,8 +112,8 @@ def _add_arguments(parser: argparse.ArgumentParser) -> None:
 def _events(settings: Settings, args: argparse.Namespace) -> int:
     if args.post and not args.post.startswith(("http://", "https://")):
         raise BadSettings(f"{args.post} is no URL of http or https", "Give that of the MES.")
-    busy = BadSettings(f"another run has {args.kept}", "Wait for it.")
-    with hold_lock(args.kept.with_name(f"{args.kept.name}.lock"), busy):
+    tested_folder(args.kept.parent)
+    with hold_lock(Path(f"{args.kept}.lock"), BadSettings(f"another run has {args.kept}", "Wait for it.")):
         place = _place_in(args.kept)
         for it in new_messages(args.journals, place):
             replace_file(args.kept, compact_json(place))  # of the message in front

@@ -48,7 +48,7 @@ def _comment(file: str) -> str:
     return next((comment.strip() for _, same, comment in found if same), "")
 
 
-def note(what: str) -> None:
+def note_act(what: str) -> None:
     """Notes what begins or has ended."""
     line = compact_json({"at": now_text(), **caller(), "what": shown(what, TYPED)}, sort_keys=True)
     syslog.openlog("wanekupo", 0, syslog.LOG_AUTHPRIV)
@@ -63,14 +63,14 @@ def note(what: str) -> None:
         print(shown(f"{FILE} doesn't have who did this: {error}"), file=sys.stderr)
 
 
-def noted(name: str, call: Callable[[], int]) -> int:
+def run_noted(name: str, call: Callable[[], int]) -> int:
     """The status of a tool's work, which root's notes have in front and behind. One that was killed has no end."""
     if os.geteuid():
         return call()
     what, status = shlex.join([name, *sys.argv[1:]]), "no status: it was refused, or failed"
-    note(what)
+    note_act(what)
     try:
         status = f"status {(done := call())}"
         return done
     finally:
-        note(f"{what}: ended with {status}")
+        note_act(f"{what}: ended with {status}")

@@ -43,11 +43,11 @@ def own_command(name: str) -> str:
 def end_tool(name: str, call: Callable[[], object]) -> int:
     """The status of a tool: 0 behind its call, else the error's own, with the cause in words behind the tool's name.
     Root leaves out first what led it elsewhere (`clean_words`), and has it noted who he is (`acts`)."""
-    from wanekupo.common.acts import noted  # a station runs commands on Windows too, where there is no such user
+    from wanekupo.common.acts import run_noted  # a station runs commands on Windows too, where there is no such user
     from wanekupo.common.store_words import clean_words
 
     clean_words()
-    return noted(name, lambda: _status_of(name, call))
+    return run_noted(name, lambda: _status_of(name, call))
 
 
 def _status_of(name: str, call: Callable[[], object]) -> int:
