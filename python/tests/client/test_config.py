@@ -130,7 +130,7 @@ class Example(unittest.TestCase):
     def test_its_files(self):
         """The page, which shows none of them, has a link to each, by which a reader finds it."""
         names = {it.name for it in (ROOT / "deploy" / "thermostat").iterdir()}
-        self.assertEqual(names, {"thermostat.toml", "make-csr", "flash", "label", "read-csr", "dac"})
+        self.assertEqual(names, {"thermostat.toml", "make-csr", "flash", "label", "read-csr", "dac", "unwrap-key"})
         self.assertEqual(set(re.findall(r"\]\(\.\./\.\./deploy/thermostat/([\w.-]+)\)", self.page)), names)
 
     def test_the_man_page(self):

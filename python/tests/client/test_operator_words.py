@@ -147,17 +147,21 @@ class Words(unittest.TestCase):
             file.write_text(RECIPE + more, encoding="utf-8")
             return recipe_of(file).display
 
-        found = read('words = "our.toml"\ninches = 10.1\nsound = false\nbadge = "EMP-"\n')
+        found = read('words = "our.toml"\ninches = 10.1\nsound = false\nbadge = "EMP-"\noperators = ["Anna"]\n')
         told = {"words": file.with_name("our.toml"), "inches": 10.1, "sound": False, "badge": "EMP-"}
+        told["operators"] = ("Anna",)
         self.assertEqual(vars(found), told)
         found = read('words = "de.toml"')
-        usual = {"words": words.FOLDER / "de.toml", "inches": 0, "sound": True, "badge": "operator:"}
+        usual = {"words": words.FOLDER / "de.toml", "inches": 0, "sound": True, "badge": "operator:", "operators": ()}
         self.assertEqual(vars(found), usual)
         for more, told in (
             ("colour = 1", "[screen] has 'colour'"),
             ('words = "no.toml"', "there is no file of words no.toml"),
             ("inches = 1", "inches of [screen]"),
             ("inches = true", "inches of [screen]"),
+            ("operators = 1", "operators of [screen]"),
+            ('operators = ["a", 1]', "operators of [screen]"),
+            ('operators = "E["', "operators of [screen]"),
             ("sound = 1", "sound of [screen]"),
             ('badge = "o"', "begins as 'o1' does"),
             ('badge = "st"', "begins as 'stop' does"),

@@ -11,6 +11,7 @@ import argparse
 import contextlib
 import os
 import re
+import resource
 import signal
 import threading
 from dataclasses import replace
@@ -72,15 +73,15 @@ class Bench:
         self.recipe, self.kept, self._url = recipe, kept, settings.url
         self.spool, self.profile = settings.spool, settings.profile
         sockets = [_found_in(name, kept) for name in recipe.sockets]
-        if kept.operator():
-            station.operated_by(kept.operator())
+        self._station, self._counting = station, threading.Lock()
+        if self.operator():
+            station.operated_by(self.operator())
         words = recipe.name, recipe.order, sockets, recipe.start, kept.shift(), life_steps(recipe)
-        self.board = Board(*words, kept.operator() or station.operator(), kept.last_chips(MOST_LAST))
+        self.board = Board(*words, self.operator(), kept.last_chips(MOST_LAST))
         self.board.under_way(kept.under_way())
         self.leaving = threading.Event()
         self._turns = Turns(station, self.board, self.leaving)
         self.supply = Supply(self.ask, recipe.order, self.board.left, self.leaving)
-        self._station, self._counting = station, threading.Lock()
         self.questions, self._scrapping = Questions(self.board), Scrapping(self)
         self._begin = {name: threading.Event() for name in recipe.sockets}
         self._seen = dict.fromkeys(recipe.sockets, "")
@@ -89,6 +90,11 @@ class Bench:
         self._opening = threading.Thread(target=self._open, daemon=True)
 
     # What a life has of its bench.
+
+    def operator(self) -> str:
+        """Who works here; nothing where nobody is named whom the recipe lets."""
+        name = self.kept.operator() or self._station.operator()
+        return name if self.recipe.display.may_work(name) else ""
 
     def ask(self, call: Callable[[Station], Made]) -> Made:
         return self._turns.ask(call)
@@ -162,6 +168,8 @@ class Bench:
                 ended = life.run()
             except Leaving:
                 return
+            finally:
+                life.forget_keys()
             self._seen[name] = life.chip
             self._begin[name].clear()  # a key that is pressed from here on is the next chip's
             self._record(name, life, ended)
@@ -173,7 +181,7 @@ class Bench:
             if self.board.is_stopped():
                 self._begin[name].clear()
             return self._begin[name].is_set() and not self.leaving.is_set()
-        if self.leaving.wait(LOOK) or self.board.is_stopped():
+        if self.leaving.wait(LOOK) or self.board.is_stopped() or not self._may_begin():
             return False
         try:
             life.find()
@@ -240,6 +248,8 @@ class Bench:
             self._works(text.removeprefix(self.recipe.display.badge).strip())
         elif words[:1] == ["stop"]:
             self.board.stop(said("you_stopped"))
+        elif words[:1] in (["scrap"], ["forget"]) and not self._may_begin():
+            self.board.notice(said("badge_first"))
         elif words[:1] == ["scrap"]:
             self._scrapping.begin(words[1:])
         elif words == ["go"]:
@@ -260,6 +270,8 @@ class Bench:
         is_key = self.recipe.start == "key" and (bool(named) or not words)
         if self.board.is_stopped():
             self.board.notice(said("stands"))
+        elif not self._may_begin():
+            self.board.notice(said("badge_first"))
         elif self.recipe.start == "chip":
             self.board.notice(said("by_itself"))
         elif is_traveller or is_key:
@@ -282,6 +294,10 @@ class Bench:
         found = [it for it in names if it in words]
         return found if self.recipe.order in words or len(found) == len(words) else []
 
+    def _may_begin(self) -> bool:
+        """Whether somebody works here whose name the recipe asks for."""
+        return self.recipe.display.may_work(self.operator())
+
     def pressed(self, name: str) -> None:
         """A socket's own button."""
         self._begin_by(name, [name])
@@ -290,6 +306,9 @@ class Bench:
         """A badge was scanned: who works here stands in the journal from now on."""
         if not operator.isprintable() or not 0 < len(operator) <= LONGEST_NAME:
             self.board.notice(said("no_name", badge=self.recipe.display.badge))
+            return
+        if not self.recipe.display.may_work(operator):
+            self.board.notice(said("not_listed", name=operator))
             return
         with self._on_disk():
             self.kept.log({"operator": operator})
@@ -384,6 +403,7 @@ def main(settings: Settings, arguments: argparse.Namespace) -> int:
     recipe = recipe_of(arguments.recipe)
     settings = settings_for(recipe, settings, vars(arguments))
     take(recipe.display.words)
+    resource.setrlimit(resource.RLIMIT_CORE, (0, 0))  # neither this program nor espefuse leaves its memory in a file
     os.chdir(recipe.file.parent)  # from where the commands of sockets and hooks count
     print("Looking at the recipe and at each socket's command: this takes some seconds.", flush=True)
     faults = recipe_faults(recipe, settings.spool)

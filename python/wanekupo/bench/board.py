@@ -21,7 +21,7 @@ RESULTS = (PASSED, FAILED, LABEL)
 # Where a chip goes, by the effect of its ending, and by its name where that says more; else somebody is called.
 BOXES = {PASS: "green", RED: "red", AGAIN: "again"}
 OWN_BOXES = {NO_LABEL: "again", "no_serial": "red", "gave_way": "red"}
-OWN_BOXES |= {"shipped_before": "ask", "other_order": "ask", "no_dump": "ask"}
+OWN_BOXES |= {"shipped_before": "ask", "other_order": "ask", "not_released": "ask", "no_dump": "ask"}
 
 # How many of the last chips are shown.
 MOST_LAST = 10

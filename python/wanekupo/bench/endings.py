@@ -87,10 +87,10 @@ SENT_AWAY = ("order_full", "used_up", *NUMBERLESS)
 
 # No chip was there, or nothing was done to it now.
 BEFORE = ("lost_before", "scrapped_before", "shipped_before")
-UNCOUNTED = ("no_chip", "bad_traveller", "other_order", *BEFORE)
+UNCOUNTED = ("no_chip", "bad_traveller", "other_order", "not_released", *BEFORE)
 
 # Of the red box: what isn't registered here, or is done with. Of the others: what failed at a chip of this order.
-UNSCRAPPED = ("scrapped_before", "shipped_before", "other_order", "coding", "bad_words")
+UNSCRAPPED = ("scrapped_before", "shipped_before", "other_order", "not_released", "coding", "bad_words")
 TRIED = ("no_burn", "no_read", "hook_failed", "hook_late")
 
 TABLE = [
@@ -139,6 +139,7 @@ TABLE = [
     Ending("no_burn", AGAIN, "espefuse can't burn the chip ({detail})", ONCE_MORE),
     Ending("no_read", AGAIN, "espefuse can't read the chip ({detail})", ONCE_MORE),
     # The recipe's own commands.
+    Ending("not_released", RED, "before_register says no, and the chip isn't begun ({detail})", ASK_WHERE),
     Ending("lost_key", RED, "The chip has or awaits a key that isn't on this bench ({detail})", RED_BOX),
     Ending("no_key", STOP, "There is no key to burn ({detail})", ENGINEER),
     Ending("hook_missing", STOP, "The command {hook} doesn't start ({detail})", ENGINEER),

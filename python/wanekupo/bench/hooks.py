@@ -1,7 +1,7 @@
 """The recipe's own commands, as a key pair's, a flash tool's and a label printer's.
 
-A hook is a command with SERIAL, MAC, MACS, CHIP, ORDER, KEY_SHA256 and FOLDER in its environment. It runs in a session
-of its own, so that all that it started ends with it.
+A hook is a command with CHIP, ORDER, SOCKET and OPERATOR in its environment, and what else is known by then. It runs in
+a session of its own, so that all that it started ends with it.
 """
 
 from __future__ import annotations
@@ -24,6 +24,9 @@ from wanekupo.common.texts import shown, without_secrets
 # What of a hook's output is kept in the log, and what of its last line comes on a screen.
 KEPT_OUTPUT, SHOWN_OUTPUT = 1 << 16, 120
 
+# What a command that gives a key has of the environment.
+BARE = ("HOME", "PATH")
+
 
 @dataclass(frozen=True)
 class HookResult:
@@ -35,25 +38,44 @@ class HookResult:
     output: str
 
 
-def run_hook(command: RecipeCommand, facts: Mapping[str, str], here: Path, log: Callable[[HookResult], None]) -> None:
-    """Runs a command in the recipe's folder with the facts in its environment, and has its output kept. Raises how it
-    failed. What it leaves running is ended."""
+def printed_by(
+    command: RecipeCommand, facts: Mapping[str, str], here: Path, log: Callable[[HookResult], None]
+) -> bytes:
+    """What a command prints that gives a key, which no disk and no log gets. Beside the facts it has BARE alone."""
+    with in_memory() as printed:
+        run_hook(command, facts, here, log, printed)
+        printed.seek(0)
+        return printed.read(KEPT_OUTPUT)
+
+
+def in_memory() -> IO[bytes]:
+    """A file without a name, which no disk has."""
+    return open(os.memfd_create("wanekupo"), "w+b", buffering=0)
+
+
+def run_hook(
+    command: RecipeCommand, facts: Mapping[str, str], here: Path, log: Callable[[HookResult], None],
+    printed: Optional[IO[bytes]] = None,
+) -> None:  # fmt: skip
+    """Runs a command in the recipe's folder with the facts in its environment, and has its output kept, but for what it
+    prints for `printed`. Raises how it failed. What it leaves running is ended."""
     begun = time.monotonic()
-    with tempfile.TemporaryFile() as output:
+    words = os.environ if printed is None else {name: os.environ[name] for name in BARE if name in os.environ}
+    with tempfile.TemporaryFile() if printed is None else in_memory() as output:
         try:
             process = subprocess.Popen(
                 command.words,
                 cwd=here,
-                env={**os.environ, **facts},
+                env={**words, **facts},
                 stdin=subprocess.DEVNULL,
-                stdout=output,
-                stderr=subprocess.STDOUT,
+                stdout=output if printed is None else printed,
+                stderr=output,
                 start_new_session=True,
             )
         except OSError as error:
             raise Ended("hook_missing", hook=command.name, detail=error.strerror) from error
         status = _waited(process, command.timeout)
-        said = _output(output)
+        said = _output(output) if printed is None or status else ""
     kept = without_secrets(said, (facts.get("KEY_SHA256", ""),))
     log(HookResult(command.name, status, round(time.monotonic() - begun, 3), kept))
     if status is None:

@@ -13,9 +13,9 @@ from typing import Any, Callable, Mapping, Optional, Protocol, Sequence, TypeVar
 from wanekupo.chips.chip import shows_work
 from wanekupo.bench.endings import REFUSALS, Ended, ended_by
 from wanekupo.common.errors import Refused, StationError
-from wanekupo.chips.espefuse import KeyFile, wishes_of
+from wanekupo.chips.espefuse import HeldKey, KeyFile, held_key, wishes_of
 from wanekupo.chips.families import Blocks, Told, family_of
-from wanekupo.bench.hooks import HookResult, run_hook
+from wanekupo.bench.hooks import HookResult, printed_by, run_hook
 from wanekupo.bench.bench_files import BenchFiles, synced_files
 from wanekupo.common.files import PRIVATE, place_file
 from wanekupo.seat.keys import keep_csr, sound_key_of
@@ -57,11 +57,13 @@ def _shown(names: Sequence[str]) -> str:
 
 def life_steps(recipe: Recipe) -> list[str]:
     """The steps of a chip's life in their order, of which a chip may pass over those that it doesn't need."""
-    keys = [it.command.name for it in recipe.wishes if it.command]
+    keys = [own.name for it in recipe.wishes if (own := it.command or it.printed)]
     burning = [f"{it} {batch}" for batch in (1, 2) for it in ("burn", "read back")] if recipe.wishes else []
-    before, label = (["before ship"] if "before_ship" in recipe.hooks else []), ["label"] * ("label" in recipe.hooks)
+    release, before, label = (
+        [step] * (step.replace(" ", "_") in recipe.hooks) for step in ("before register", "before ship", "label")
+    )
     identity = ["before identity", "identity"]
-    return ["read", "look", "register", *keys, "plan", *burning, *identity, *before, "ship", *label]
+    return ["read", "look", *release, "register", *keys, "plan", *burning, *identity, *before, "ship", *label]
 
 
 class LifeBench(Protocol):
@@ -76,6 +78,8 @@ class LifeBench(Protocol):
     def ask(self, call: Callable[[Station], Made]) -> Made: ...
 
     def order(self) -> Order: ...
+
+    def operator(self) -> str: ...
 
     def import_map(self) -> None: ...
 
@@ -109,7 +113,9 @@ class Life:
         except Leaving:
             raise
         except Exception as error:
-            return ended_by(error, self.step)
+            ended = ended_by(error, self.step)
+            ended.__traceback__ = ended.__cause__ = ended.__context__ = None  # their frames have keys
+            return ended
         return Ended("passed", serial=self.serial)
 
     def _at(self, step: str) -> None:
@@ -161,6 +167,8 @@ class Life:
         self.step = "look"
         self.line.working(self.socket, "look", self.chip, "")
         found, recipe = self._ask(Station.find_device), self.line.recipe
+        if not found:
+            self._test_release()
         device = found or self.line.supply.registered(self._register)
         self._known = places_of(device.burnt)
         is_known = was_begun or self.line.kept.has_passed(self.chip)
@@ -178,6 +186,22 @@ class Life:
         if found and not is_known:
             self.line.kept.elsewhere(self.chip)
         return device
+
+    def _test_release(self) -> None:
+        """Has the recipe's command say whether the chip may be begun. Where it doesn't say yes nothing is sent and
+        nothing is kept of the chip; another one may be in the socket by then."""
+        command = self.line.recipe.hooks.get("before_register")
+        if not command:
+            return
+        self.step = "before register"
+        self.line.working(self.socket, self.step, self.chip, "")
+        try:
+            run_hook(command, self._own_facts(), self.line.recipe.file.parent, self._log)
+        except Ended as ended:
+            if ended.ending.name == "hook_missing":
+                raise
+            raise Ended("not_released", detail=ended.facts["detail"]) from ended
+        self._see()
 
     def _register(self) -> Device:
         words = (self.line.recipe.order, self.line.recipe.digest(), self._blocks)
@@ -288,24 +312,46 @@ class Life:
         burnt = {} if device.state == "registered" else device.burnt.keys
         known = {**burnt, **device.batch1.keys}
         for wish in self.line.recipe.wishes:
-            if wish.kind != "key":
+            key = self._key_of(wish, device, wish.field in known) if wish.kind == "key" else None
+            if key is None:
                 continue
-            file = wish.file or self.line.kept.folder_of(self.chip) / f"{wish.field}.key"
-            is_known = wish.field in known
-            if device.state == "shipped" and wish.command and not file.exists():
-                continue  # it went with the chip
-            if wish.command and not file.exists() and not is_known:
-                if device.state not in PLANNED_ANEW:
-                    raise Ended("other_wishes", detail=wish.field)
-                self._make_key(wish, wish.command, file)
-            self.keys[wish.field] = KeyFile(str(file), wish.burnt_as)
+            self.keys[wish.field] = key
             try:
-                digest = self.keys[wish.field].digest()
+                digest = key.digest()
             except (OSError, ValueError) as error:
-                told = f"{file}: {error.strerror}" if isinstance(error, OSError) else str(error)
-                raise Ended("lost_key" if is_known else "no_key", detail=told) from error
-            if is_known and known[wish.field] != digest:
-                raise Ended("lost_key", detail=f"{file} is another one")
+                told = f"{key.path}: {error.strerror}" if isinstance(error, OSError) else str(error)
+                raise Ended("lost_key" if wish.field in known else "no_key", detail=told) from error
+            if known.get(wish.field, digest) != digest:
+                raise Ended("lost_key", detail=f"{key.path} is another one")
+
+    def _key_of(self, wish: Wish, device: Device, is_known: bool) -> Optional[KeyFile]:
+        """The key of a wish; none of a shipped chip whose key went with it."""
+        if wish.printed:
+            return None if device.state == "shipped" else self._print_key(wish, wish.printed)
+        file = wish.file or self.line.kept.folder_of(self.chip) / f"{wish.field}.key"
+        if wish.command and not file.exists():
+            if device.state == "shipped":
+                return None
+            if not is_known and device.state not in PLANNED_ANEW:
+                raise Ended("other_wishes", detail=wish.field)
+            if not is_known:
+                self._make_key(wish, wish.command, file)
+        return KeyFile(str(file), wish.burnt_as)
+
+    def _print_key(self, wish: Wish, command: RecipeCommand) -> HeldKey:
+        """Has a key printed, which is in memory from here on until the chip's end."""
+        self._at(f"key of {wish.field}")
+        facts, here = {**self._own_facts(), "FIELD": wish.field}, self.line.recipe.file.parent
+        try:
+            return held_key(command.name, wish.burnt_as, printed_by(command, facts, here, self._log))
+        except ValueError as error:
+            raise Ended("no_key", detail=str(error)) from error
+
+    def forget_keys(self) -> None:
+        for key in self.keys.values():
+            if isinstance(key, HeldKey):
+                key.forget()
+        self.keys.clear()
 
     def _make_key(self, wish: Wish, command: RecipeCommand, file: Path) -> None:
         """Has a key made, whose bytes are in a synced file of its own before its plan is sent."""
@@ -372,9 +418,13 @@ class Life:
         return {**told, "MAC": record.mac or "", "MACS": " ".join(macs)}
 
     def _run(self, command: RecipeCommand, facts: Mapping[str, str]) -> None:
-        own = {"CHIP": self.chip, "ORDER": self.line.recipe.order, "SOCKET": self.socket}
         folder = {"FOLDER": str(self.line.kept.folder_of(self.chip))}
-        run_hook(command, {**own, **folder, **facts}, self.line.recipe.file.parent, self._log)
+        run_hook(command, {**self._own_facts(), **folder, **facts}, self.line.recipe.file.parent, self._log)
+
+    def _own_facts(self) -> dict[str, str]:
+        """What each hook is told."""
+        order, operator = self.line.recipe.order, self.line.operator()
+        return {"CHIP": self.chip, "ORDER": order, "SOCKET": self.socket, "OPERATOR": operator}
 
     def _log(self, done: HookResult) -> None:
         told = {"hook": done.name, "chip": self.chip, "serial": self.serial, "socket": self.socket}

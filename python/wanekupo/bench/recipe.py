@@ -11,7 +11,7 @@ import re
 import tomllib
 from dataclasses import dataclass, field
 from pathlib import Path
-from typing import Any, Callable, Mapping, Optional, Sequence
+from typing import Any, Callable, Mapping, Optional, Sequence, Union
 
 from wanekupo.chips.chip import bit, rlock, value, wlock
 from wanekupo.common.errors import StationError
@@ -20,7 +20,7 @@ from wanekupo.bench.words import FOLDER as WORDS
 from wanekupo.bench.words import TYPED
 
 NAME = re.compile(r"[A-Za-z0-9._-]{1,32}")
-HOOKS = ("before_identity", "before_ship", "label")
+HOOKS = ("before_register", "before_identity", "before_ship", "label")
 STARTS = ("key", "scan", "chip")
 LONGEST_HOOK, LONGEST_TOOL = 60.0, 120.0
 
@@ -30,7 +30,7 @@ TABLES = ("server", "wish", "sockets", "hooks", "stop", "screen")
 WISHES = {
     "bit": ("index",),
     "value": ("value",),
-    "key": ("file", "command", "timeout", "burnt_as"),
+    "key": ("file", "command", "key", "timeout", "burnt_as"),
     "wlock": (),
     "rlock": (),
 }
@@ -53,7 +53,7 @@ class RecipeCommand:
 
 @dataclass(frozen=True)
 class Wish:
-    """A wish in the server's words. A key has a file, or a command that makes one for each chip."""
+    """A wish in the server's words. A key has a file, or a command that makes one for each chip, or that prints it."""
 
     kind: str
     field: str
@@ -61,6 +61,7 @@ class Wish:
     value: str = ""
     file: Optional[Path] = None
     command: Optional[RecipeCommand] = None
+    printed: Optional[RecipeCommand] = None
     burnt_as: str = ""
 
     def asked(self) -> dict[str, Any]:
@@ -75,12 +76,20 @@ class Wish:
 @dataclass(frozen=True)
 class Display:
     """What the operator sees and hears: `words` is the file with the words, `inches` the diagonal of the screen, 0
-    where it has 96 pixels an inch, and `badge` how a scan begins that names who works there."""
+    where it has 96 pixels an inch, and `badge` how a scan begins that names who works there. `operators` are the names
+    that may be there, or the form of each; without them any may, and nobody has to."""
 
     words: Path = WORDS / "en.toml"
     inches: float = 0
     sound: bool = True
     badge: str = "operator:"
+    operators: Union[tuple[str, ...], re.Pattern[str]] = ()
+
+    def may_work(self, name: str) -> bool:
+        """Whether somebody of this name may work here; `name` is empty where nobody said one."""
+        if isinstance(self.operators, re.Pattern):
+            return bool(name and self.operators.fullmatch(name))
+        return not self.operators or name in self.operators
 
 
 @dataclass(frozen=True)
@@ -254,7 +263,7 @@ def _map(name: str, recipe: Path) -> Path:
 
 def _display(table: Mapping[str, Any], here: Path, scanned: Sequence[str]) -> Display:
     """`scanned` is what a scan may begin with that is no badge."""
-    _known(table, ("words", "inches", "sound", "badge"), "[screen]")
+    _known(table, ("words", "inches", "sound", "badge", "operators"), "[screen]")
     usual = Display()
     name = _text({"words": usual.words.name, **table}, "words", "[screen]")
     words = next((it / name for it in (here, WORDS) if (it / name).is_file()), None)
@@ -269,7 +278,17 @@ def _display(table: Mapping[str, Any], here: Path, scanned: Sequence[str]) -> Di
     taken = [it for it in (*scanned, *TYPED) if it.startswith(badge)]
     if taken:
         raise ValueError(f"the badge {badge!r} of [screen] begins as {taken[0]!r} does")
-    return Display(words, float(inches), sound, badge)
+    return Display(words, float(inches), sound, badge, _operators(table.get("operators", [])))
+
+
+def _operators(found: Any) -> Union[tuple[str, ...], re.Pattern[str]]:
+    """The names of a list, or the form that a text has."""
+    if isinstance(found, list) and all(isinstance(it, str) and it for it in found):
+        return tuple(found)
+    try:
+        return re.compile(found)
+    except (re.error, TypeError) as error:
+        raise ValueError(f"operators of [screen] is no list of names, and no regular expression: {error}") from None
 
 
 def _wish(table: Mapping[str, Any], where: str, here: Path) -> Wish:
@@ -285,11 +304,13 @@ def _wish(table: Mapping[str, Any], where: str, here: Path) -> Wish:
         return made(value=digits)
     if kind != "key":
         return made()
-    if ("file" in table) == ("command" in table):
-        raise ValueError(f"{where} has a file of a key, or a command that makes one for each chip, and not both")
+    if sum(name in table for name in ("file", "command", "key")) != 1:
+        raise ValueError(f"{where} has one of file, command and key, which is a table with a command that prints it")
     burnt_as = _text({"burnt_as": table.get("field"), **table}, "burnt_as", where)
     if "file" in table:
         return made(file=here / _text(table, "file", where), burnt_as=burnt_as)
+    if "key" in table:
+        return made(printed=_command(f"key of {table['field']}", table["key"], here, LONGEST_HOOK), burnt_as=burnt_as)
     timeout = _seconds(table, LONGEST_HOOK, where)
     words = _words(table["command"], f"the command of {where}", here)
     return made(command=RecipeCommand(f"key of {table['field']}", words, timeout), burnt_as=burnt_as)

@@ -115,9 +115,9 @@ def _key_faults(recipe: Recipe) -> Iterator[str]:
 
 
 def _command_faults(recipe: Recipe) -> Iterator[str]:
-    own = [it.command for it in recipe.wishes if it.command]
+    own = [it.command or it.printed for it in recipe.wishes]
     for it in (*recipe.hooks.values(), *own):
-        if not shutil.which(it.words[0]):
+        if it and not shutil.which(it.words[0]):
             yield f"the command {it.name} can't be run: {it.words[0]} isn't there, or lacks chmod +x"
 
 

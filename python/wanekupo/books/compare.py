@@ -13,7 +13,7 @@ from itertools import chain
 from typing import Any, Iterable, Iterator, Optional
 
 from wanekupo.books.coherence import faults_of
-from wanekupo.books.lines import BadRow, line_parts
+from wanekupo.books.lines import NUMBERED, BadRow, line_parts
 from wanekupo.seat.states import LATER
 
 Members = dict[str, Any]
@@ -27,6 +27,7 @@ GIVEN = ("serial", "key_sha256")
 
 # How a row is named in a sentence, by its kind and the parts of its key.
 NAMES = {
+    "act": "the line {0} of what root had done",
     "device": "the device {1} of {0}",
     "entry": "the entry {2} of {1} of {0}",
     "import": "the imported serial number {2} of {1} of {0}",
@@ -53,7 +54,7 @@ class RowDifference:
 
 def _named(key: Key) -> str:
     kind, (*parts, last) = key
-    return NAMES[kind].format(*parts, last.lstrip("0") if kind == "entry" else last)
+    return NAMES[kind].format(*parts, last.lstrip("0") if kind in NUMBERED else last)
 
 
 @dataclass

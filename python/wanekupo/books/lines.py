@@ -8,13 +8,14 @@ from __future__ import annotations
 
 import json
 import re
-from typing import Any, Callable, Mapping
+from typing import Any, Callable, Iterator, Mapping
 
 from wanekupo.common.errors import StationError
 
 # The members of each kind of row, which are those of a reply where there is one. A member that a later server adds is
 # no part of a text.
 MEMBERS = {
+    "act": "n text",
     "device": "bits chip keys map order pending reason serial state",
     "entry": "bits event keys n note seat",
     "import": "issuer key_sha256 not_after not_before serial",
@@ -27,11 +28,12 @@ MEMBERS = {
 NAMES = {kind: frozenset(names.split()) for kind, names in MEMBERS.items()}
 
 # How many words the key of each kind has, and the members that the last of these are, but for an entry's number.
-WORDS = {"device": 2, "entry": 3, "import": 3, "map": 2, "order": 2, "record": 3, "seat": 2, "site": 1}
+WORDS = {"act": 1, "device": 2, "entry": 3, "import": 3, "map": 2, "order": 2, "record": 3, "seat": 2, "site": 1}
 KEYED = {"device": ["chip"], "map": ["map"], "order": ["name"], "seat": ["name"]}
 KEYED |= dict.fromkeys(("import", "record"), ["issuer", "serial"])
 
-# The kinds that a customer's own token shows.
+# The kinds whose last word is a number, and those that a customer's own token shows.
+NUMBERED = ("act", "entry")
 SHOWN = ("device", "entry", "order", "record")
 
 # The digits of an entry's number in its key.
@@ -77,6 +79,12 @@ def entry_line(customer: str, chip: str, members: Mapping[str, Any]) -> str:
     if type(number) is not int or not 0 < number < 10**DIGITS:
         raise BadRow(f"an entry of {chip} has the number {number!r}", "Ask who wrote it.")
     return line("entry", (customer, chip, f"{number:0{DIGITS}}"), members)
+
+
+def act_lines(text: bytes) -> Iterator[str]:
+    """What root had done, a row for each whole line of its file: one that is cut is being written."""
+    for number, told in enumerate(text.decode("utf-8", "backslashreplace").split("\n")[:-1], 1):
+        yield line("act", (f"{number:0{DIGITS}}",), {"n": number, "text": told})
 
 
 # Reading.
@@ -156,7 +164,7 @@ def line_parts(text: str) -> tuple[str, tuple[str, ...], dict[str, Any]]:
         raise BadRow(f"is no row of books: {text[:60]!r}")
     if COMPACT.encode(found) != brace[1:] + members:
         raise BadRow(f"isn't written as a row is: {text[:60]!r}")
-    own = [f"{found['n']:0{DIGITS}}"] if kind == "entry" else [found[name] for name in KEYED.get(kind, ())]
+    own = [f"{found['n']:0{DIGITS}}"] if kind in NUMBERED else [found[name] for name in KEYED.get(kind, ())]
     if own != key[len(key) - len(own) :]:
         raise BadRow(f"is of another name than its members: {text[:60]!r}")
     return kind, tuple(key), found

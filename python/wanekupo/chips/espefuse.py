@@ -16,7 +16,7 @@ import re
 import shlex
 import shutil
 import subprocess
-from dataclasses import dataclass
+from dataclasses import dataclass, field
 from pathlib import Path
 from typing import Any, Iterator, Mapping, Optional, Protocol, Sequence
 
@@ -99,8 +99,11 @@ class KeyFile:
     path: str
     burnt_as: str
 
+    def bytes_there(self) -> bytes:
+        return Path(self.path).read_bytes()
+
     def data(self) -> bytes:
-        data = Path(self.path).read_bytes()
+        data = self.bytes_there()
         if len(data) != 32:
             raise ValueError(f"{self.path} has {len(data)} bytes, and not 32")
         return data
@@ -117,6 +120,30 @@ class KeyFile:
     def digest(self) -> str:
         """The SHA-256 of the bytes as they stand in the block."""
         return hashlib.sha256(self.burnt()).hexdigest()
+
+
+@dataclass(frozen=True)
+class HeldKey(KeyFile):
+    """The same of a key that is in memory alone; `path` names what gave it."""
+
+    held: bytearray = field(default_factory=bytearray, repr=False)
+
+    def bytes_there(self) -> bytes:
+        return bytes(self.held)
+
+    def forget(self) -> None:
+        """The bytes are zeros, and then none: what asks for them later fails."""
+        self.held[:] = bytes(len(self.held))
+        self.held.clear()
+
+
+def held_key(name: str, burnt_as: str, printed: bytes) -> HeldKey:
+    """The key that a command printed: its 32 bytes, or their 64 hexadecimal digits in a line. No error has them."""
+    if len(printed) == 32:
+        return HeldKey(name, burnt_as, bytearray(printed))
+    if not re.fullmatch(rb"[0-9A-Fa-f]{64}\r?\n?", printed):
+        raise ValueError(f"the command {name} printed neither 32 bytes nor 64 hexadecimal digits")
+    return HeldKey(name, burnt_as, bytearray.fromhex(printed.decode("ascii").strip()))
 
 
 def wishes_of(family: Family, field: str, file: KeyFile) -> list[dict[str, Any]]:

@@ -16,6 +16,7 @@ from wanekupo.cli import change_commands as asking
 from wanekupo.cli import audit
 from wanekupo.bench import bench
 from wanekupo.lots import certificates
+from wanekupo.cli import events
 from wanekupo.cli import show_commands as looking
 from wanekupo.lots import manifest
 from wanekupo.metrics import prometheus_file as metrics
@@ -73,6 +74,7 @@ EXAMPLES = {
     "shift": "shift acme=line1.journal --from 2026-12-01T06:00 --to 2026-12-01T14:00 --html shift.html",
     "seal": "seal acme-seals --customer acme --minisign seals.key",
     "audit": "audit copy/books.db journals/ --from 2026-12-01T00:00Z --to 2026-12-02T00:00Z --html audit.html",
+    "events": "events journals/ --cfx --kept given.json --post https://mes.example/cfx",
     "metrics": "metrics --to wanekupo.prom --kept kept.json --tokens /etc/station/metrics",
     "ship-journal": "ship-journal station@gather.example:line1 --journal journals/",
     "witness": "witness journals/",
@@ -88,6 +90,7 @@ COMMANDS = [
     *shift_report.COMMANDS,
     *seal.COMMANDS,
     *audit.COMMANDS,
+    *events.COMMANDS,
     *metrics.COMMANDS,
     *shipping.COMMANDS,
     *witness.COMMANDS,

@@ -3,6 +3,7 @@
 from __future__ import annotations
 
 import argparse
+import itertools
 from pathlib import Path
 from typing import Iterator, Optional
 
@@ -11,18 +12,22 @@ from wanekupo.books import customer_rows as shown
 from wanekupo.books import store_rows as stored
 from wanekupo.books.chain import PLANT, Chain
 from wanekupo.books.compare import Text
-from wanekupo.books.lines import KEY
+from wanekupo.books.lines import KEY, act_lines
 from wanekupo.books.stamp import Service
 from wanekupo.books.store import StoreCopy, is_store
 from wanekupo.seat.command_line import Command
 from wanekupo.seat.settings import Settings, looking_station_of
 from wanekupo.common.errors import BadSettings
+from wanekupo.common.files import small_bytes
 from wanekupo.common.moments import now_text
 from wanekupo.common.printing import Progress, print_shown, warn
 from wanekupo.common.signing import signer_of
 from wanekupo.common.texts import shown as shown_text
 
 DONE, FOUND, NOT_COMPARED = 0, 1, 3
+
+# The most bytes of what root had done: ten runs of tools a day for thirty years.
+MOST_ACTS = 1 << 26
 
 MORE = """. Without --store these are one customer's orders, devices, records and ledgers, by a token that looks. Each
 seal is a line of FOLDER/chain, over the line before and over the day's rows. With --verify nothing is sealed: of two
@@ -34,6 +39,7 @@ def _add_arguments(parser: argparse.ArgumentParser) -> None:
     parser.add_argument("places", nargs="+", metavar="FOLDER", help="where the seals are; with --verify also A B")
     parser.add_argument("--customer", default="", metavar="NAME", help="whose token it is: the name stands in each row")
     parser.add_argument("--store", metavar="FILE", help="a copy of a stopped store, in place of a token")
+    parser.add_argument("--acts", type=Path, metavar="FILE", help="with --store, what root's tools noted")
     parser.add_argument("--verify", action="store_true", help="compare, and change nothing")
     parser.add_argument("--last", metavar="SEAL", help="with --verify, a seal's line that has to be there")
     group = parser.add_argument_group("a signature, and a time stamp")
@@ -59,8 +65,8 @@ def _seal(settings: Settings, args: argparse.Namespace) -> int:
         return _verify(args)
     if args.last is not None:
         raise BadSettings("--last is given without --verify", "A seal is held to the chain where that is verified.")
-    if len(args.places) != 1 or bool(args.store) == bool(args.customer):
-        told = "Give FOLDER, and --customer NAME with a token, or --store FILE."
+    if len(args.places) != 1 or bool(args.store) == bool(args.customer) or args.acts and not args.store:
+        told = "Give FOLDER, and --customer NAME with a token, or --store FILE, with or without --acts FILE."
         raise BadSettings("it isn't said whose books are sealed", told)
     if args.customer and not KEY.fullmatch(args.customer):
         raise BadSettings(f"{args.customer!r} is no customer's name", "Write it as the plant does: ask there.")
@@ -69,7 +75,8 @@ def _seal(settings: Settings, args: argparse.Namespace) -> int:
         chain.seals_of(args.customer or PLANT)
         if args.store:
             with StoreCopy(Path(args.store)) as store:
-                seal = chain.add(_lines_of(store), now_text(), PLANT, signer, service)
+                acts = act_lines(small_bytes(args.acts, MOST_ACTS)) if args.acts else ()
+                seal = chain.add(itertools.chain(acts, _lines_of(store)), now_text(), PLANT, signer, service)
         else:
             with looking_station_of(settings) as station, Progress("devices") as told_of:
                 lines = sorted(shown.lines_of(station, args.customer, told_of))
@@ -98,8 +105,8 @@ def sealed_rows(file: Path) -> Text:
 
 def _verify(args: argparse.Namespace) -> int:
     places = [Path(it) for it in args.places]
-    if args.store or args.customer or args.tsa:
-        told = "With --verify what is named is compared alone: leave --store, --customer and --tsa away."
+    if args.store or args.customer or args.tsa or args.acts:
+        told = "With --verify what is named is compared alone: leave --store, --acts, --customer and --tsa away."
         raise BadSettings("a word is given that only a seal takes", told)
     if len(places) == 2:
         if args.minisign or args.cms or args.tsa_ca or args.last is not None:

@@ -42,11 +42,17 @@ def own_command(name: str) -> str:
 
 def end_tool(name: str, call: Callable[[], object]) -> int:
     """The status of a tool: 0 behind its call, else the error's own, with the cause in words behind the tool's name.
-    Root leaves out first what led it elsewhere (`clean_words`)."""
-    from wanekupo.common.store_user import shown  # a station runs commands on Windows too, where there is no such user
+    Root leaves out first what led it elsewhere (`clean_words`), and has it noted who he is (`acts`)."""
+    from wanekupo.common.acts import run_noted  # a station runs commands on Windows too, where there is no such user
     from wanekupo.common.store_words import clean_words
 
     clean_words()
+    return run_noted(name, lambda: _status_of(name, call))
+
+
+def _status_of(name: str, call: Callable[[], object]) -> int:
+    from wanekupo.common.store_user import shown
+
     try:
         call()
         return 0

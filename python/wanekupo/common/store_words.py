@@ -14,6 +14,10 @@ from wanekupo.common.store_user import UserError, opened
 # with one a file.
 GOOD = re.compile(r"(?:TERM|LANG|LC_[A-Z]+)=[A-Za-z0-9_.@+-]*|TZ=[A-Za-z]{3,8}[0-9:+-]*")
 
+# Whom these said, before they were cleaned away, that root is: no more than words.
+CALLER: dict[str, str] = {}
+CLAIMS = ("SUDO_USER", "SSH_USER_AUTH")
+
 
 def clean_words() -> None:
     """Leaves of root's PATH the folders alone in which nobody else can put a program, and of the other words those that
@@ -21,6 +25,8 @@ def clean_words() -> None:
     are made where nobody else renames what is root's."""
     if os.geteuid():
         return
+    for name in CLAIMS:
+        CALLER.setdefault(name, os.environ.get(name, ""))
     kept = [it for it in os.get_exec_path() if _is_roots(it)]
     words = {name: value for name, value in os.environ.items() if GOOD.fullmatch(f"{name}={value}")}
     words["PATH"] = ":".join(kept) or "/usr/local/sbin:/usr/local/bin:/usr/sbin:/usr/bin"

@@ -22,6 +22,7 @@ from datetime import datetime, timedelta, timezone
 from pathlib import Path
 from typing import TextIO
 
+from wanekupo.common.acts import run_noted
 from wanekupo.common.errors import PlantError
 from wanekupo.common.store_user import UserError, shown
 from wanekupo.common.store_words import clean_words
@@ -134,7 +135,7 @@ def end_script(name: str, call: Callable[[], int], *, alone: bool = False) -> in
         if os.geteuid() != 0:
             raise StandbyError("Only root can do that.")
         with alone_at_work() if alone else contextlib.nullcontext():
-            return call()
+            return run_noted(name, call)
     except (StandbyError, UserError) as refused:
         print_told(f"{name}: refused: {refused}", sys.stderr)
     except OSError as error:

@@ -39,6 +39,7 @@ from pathlib import Path
 from typing import Any
 
 
+from wanekupo.common.acts import run_noted
 from wanekupo.common.errors import PAGES, cause_of
 from wanekupo.plant.backup.copies import BackupError, copy_store, copied_counts, opened_by, told_if_full
 from wanekupo.plant.restore.journals import half_of_memory, sources_of, take_journals
@@ -328,7 +329,7 @@ def main() -> int:
         if not program or not all(map(shutil.which, ("sqlite3", "setpriv"))):
             raise RestoreError(f"{args.program}, sqlite3 and setpriv are needed, and one isn't there")
         args.program = os.path.abspath(program)
-        return restore_as_root(args)
+        return run_noted("station-restore", lambda: restore_as_root(args))
     except (StationError, RestoreError, BackupError, UserError, OSError) as error:
         print(f"restore: {shown_lines(error_sentence(error))}", file=sys.stderr)
     if args.stop:
