@@ -5,6 +5,7 @@ the line of docs/proof/trust.md, and its gate's log is written here: in any rele
 forger has the maker's key: behind each change the sums and their signature are right.
 """
 
+import json
 import os
 import re
 import shutil
@@ -70,6 +71,12 @@ def test_a_release_is_what_its_check_finds(maker: Maker, release: Path) -> None:
     done = maker.ran(release / "check", maker.room / "maker.pub")
     assert not done.returncode, done.stdout + done.stderr
     assert "all is as it is signed" in done.stdout and done.stdout.endswith("last line: 12 passed, 0 failed\n")
+    bill = json.loads((release / "sbom.spdx.json").read_text())
+    names = {it["SPDXID"]: it["name"] for it in bill["packages"]}
+    ends = {it[end] for it in bill["relationships"] for end in ("spdxElementId", "relatedSpdxElement")}
+    assert len(names) == len(bill["packages"]) and ends - {"SPDXRef-DOCUMENT"} == set(names)
+    assert {"office_core", "sqlite", "curl", "python3-cryptography"} < set(names.values())
+    assert not {"base_tests", "test_fixtures"} & set(names.values())
 
 
 def digest_of(file: Path) -> str:
