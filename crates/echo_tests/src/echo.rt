@@ -36,7 +36,8 @@ impl Service<u8> for Echo {
 
 const ASKED: &[u8] = b"GET /hello HTTP/1.1\r\n\r\nGET /a?b HTTP/1.1\r\nConnection: close\r\n\r\n";
 
-const REPLIED: &[u8] = b"HTTP/1.1 200 OK\r\nContent-Type: text/csv\r\nContent-Length: 6\r\n\r\n/helloHTTP/1.1 200 OK\r\nContent-Type: text/csv\r\nContent-Length: 4\r\nConnection: close\r\n\r\n/a?b";
+const REPLIED: &[u8] =
+    b"HTTP/1.1 200 OK\r\nContent-Type: text/csv\r\nContent-Length: 6\r\n\r\n/helloHTTP/1.1 200 OK\r\nContent-Type: text/csv\r\nContent-Length: 4\r\nConnection: close\r\n\r\n/a?b";
 
 #[test]
 fn answers_with_the_target(rt: HostRuntime) {
