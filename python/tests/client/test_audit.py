@@ -146,6 +146,8 @@ class Audits(BooksCase):
         self.program.copied(self.folder / "later")
         out = self.found(self.folder / "later" / "books.db", journal)
         self.assertRegex(out, "no_journal +bolt +b1 +no journal of this seat was given: 1 of its 1 requests are of no")
+        line = json.loads(audited(self.folder / "later" / "books.db", journal, *ALWAYS, "--json")[1])
+        self.assertEqual([line[it] for it in ("kind", "customer", "seat")], ["no_journal", "bolt", "b1"])
 
     def test_folders(self):
         """Root's file says whose a folder's lines are; without a folder in it nothing is read."""

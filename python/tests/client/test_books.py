@@ -78,6 +78,9 @@ class Books(BooksCase):
         stopped = [(row["time"], row["what"], row["went_on"]) for row in self.rows("stopped")]
         told = "out of step (11): number 17, and the server expects 40"
         self.assertEqual(stopped, [(f"{DAY}12:00:00Z", told, "not yet")])
+        lines = [json.loads(line) for line in ran("shift", *journals, *PERIOD, "--json")[1].splitlines()]
+        lost = [(row["chip"], row["reason"]) for row in lines if row["table"] == "lost"]
+        self.assertEqual(lost, [("c3", "stray"), ("c4", "no label")])
 
     def test_what_is_first(self):
         """A chip that failed a stay before isn't; one that is shipped anew, as behind a restore, counts once."""

@@ -94,6 +94,9 @@ class Yield(StationCase):
         status, out, told = ran("yield", *words)
         self.assertEqual((status, out.splitlines()[1].split()[:5], told), (0, "o1 10 9 3 75.0".split(), ""))
         self.assertEqual((self.folder / "y.csv").read_text(encoding="ascii"), as_csv(difference_of(BEFORE, BEHIND)))
+        row = json.loads(ran("yield", *words[:2], "--json")[1].splitlines()[0])
+        told = [row[name] for name in ("order", "begun", "shipped", "given_up", "yield")]
+        self.assertEqual(told, ["o1", 10, 9, 3, "75.0"])
 
     def test_the_report_of_now(self):
         """A customer's and the site's, each with what a chip's life adds to what was printed before."""

@@ -4,6 +4,7 @@ import os
 import shutil
 import subprocess
 import sys
+import tomllib
 from pathlib import Path
 
 import pytest
@@ -48,3 +49,36 @@ def test_runs_nothing_of_the_folder_or_the_environment(program: Path, tmp_path: 
     done = subprocess.run(words, cwd=tmp_path, env=own, stdin=subprocess.DEVNULL, capture_output=True, text=True)
     assert (done.returncode, done.stderr) == (0, "")
     assert not (tmp_path / "ran").exists()
+
+
+def test_an_installation_by_pip_has_each_file_of_a_package():
+    """Also the maps of families, the bench's page and its words."""
+    tools = tomllib.loads((TOP / "python/pyproject.toml").read_text())["tool"]["setuptools"]
+    told = {it for name, forms in tools["package-data"].items()
+            for form in forms for it in (TOP / "python" / name.replace(".", "/")).glob(form)}  # fmt: skip
+    there = {it for it in (TOP / "python/wanekupo").rglob("*") if it.is_file() and it.suffix not in (".py", ".pyc")}
+    assert len({it for it in there if it.name == "map.toml"}) > 7 and there <= told
+
+
+# What bash has called a completion with, and prints what that offers.
+OFFERED = """source /dev/stdin; name=$1; shift; COMP_WORDS=("$name" "$@"); COMP_CWORD=$#
+"_$name" "$name" "${@: -1}" before; echo "${COMPREPLY[@]}"
+"""
+
+
+@pytest.mark.parametrize("words, offered", [
+    (["wanekupo", "se"], "settle seal"),
+    (["wanekupo", "devices", "--"], "--help --order --state --after --json"),
+    (["wanekupo", "run", ""], ""),
+    (["station-token", "ro"], "rotate"),
+    (["station-token", "rotate", "--g"], "--grace"),
+    (["station-backup", "--snap"], "--snapshot --snapshot-size"),
+    (["station-standby", "take"], "takeover"),
+])  # fmt: skip
+def test_bash_offers(words: list[str], offered: str) -> None:
+    """Commands, and options of a word that is begun; a file elsewhere, which is bash's own (-o default)."""
+    made = subprocess.run([TOP / "debian/print-help", words[0], "--completion"], env=os.environ | {"COLUMNS": "9999"},
+                          stdout=subprocess.PIPE, text=True, check=True).stdout  # fmt: skip
+    bash = ["bash", "-c", OFFERED, "bash", *words]
+    told = subprocess.run(bash, input=made, capture_output=True, text=True, check=True)
+    assert (told.stdout.split(), told.stderr) == (offered.split(), "")

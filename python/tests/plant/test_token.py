@@ -1,5 +1,6 @@
 """The commands of station-token: days, spans, what ends and what comes in its place, and the files that it writes."""
 
+import json
 import os
 import subprocess
 import tomllib
@@ -161,6 +162,9 @@ def test_the_list_shows_no_token():
     assert [line.split()[0] for line in lines] == ["name", "a1:1", "a1:2", "a1:3"]
     assert "2026-11-28 past" in lines[2] and "ended 2026-11-01T00:00" in lines[3]
     assert len(token.show(args_of("list"), tokens).shown.splitlines()) == 3
+    first, second = map(json.loads, token.show(args_of("list", "--json"), tokens).shown.splitlines())
+    assert (first["name"], first["seat"], second["until"]) == ("a1:1", "a1", "2026-11-28 past")
+    assert not {it.text for it in tokens.outers if it.text} & {*first.values(), *second.values()}
 
 
 SITE = '[[customer]]\nname = "acme"\nissuer = ["acme-ca"]\n\n[[customer]]\nname = "bolt"\nissuer = []\n'

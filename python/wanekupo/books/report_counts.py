@@ -7,6 +7,7 @@ from dataclasses import dataclass
 from typing import Mapping
 
 from wanekupo.common.errors import OtherReports
+from wanekupo.common.printing import table_lines
 from wanekupo.seat.states import REPORTED
 from wanekupo.common.texts import csv_lines, csv_rows, formulas_in, shown
 from wanekupo.books.yields import share
@@ -87,6 +88,14 @@ def as_text(difference: ReportDifference) -> str:
 
 def as_csv(difference: ReportDifference) -> str:
     return csv_lines(table(difference))
+
+
+def as_json(difference: ReportDifference) -> str:
+    """A line of JSON for each row; all but the first column and the yield are numbers."""
+    names, *rows = table(difference)
+    texts = (names[0], "yield")
+    parsed = [[it if name in texts else int(it) for name, it in zip(names, row)] for row in rows]
+    return table_lines(names, parsed, True)
 
 
 def formulas_of(difference: ReportDifference) -> list[str]:

@@ -22,7 +22,7 @@ from wanekupo.seat.settings import Settings
 from wanekupo.common.errors import BadSettings, NoPeriod
 from wanekupo.seat.journal_lines import add_folders, named_folders
 from wanekupo.common.moments import tested_period, text_of
-from wanekupo.common.printing import Formulas, print_shown
+from wanekupo.common.printing import Formulas, print_shown, table_lines
 from wanekupo.cli.shift import add_period
 from wanekupo.common.signing import add_signer, digest_of_file, signer_of
 
@@ -43,6 +43,8 @@ def _add_arguments(parser: argparse.ArgumentParser) -> None:
     parser.add_argument("--site", type=Path, metavar="FILE", help=said)
     parser.add_argument("--html", metavar="FILE", help="write a page, to be read and printed")
     parser.add_argument("--csv", metavar="FILE", help="write what is found as comma-separated values")
+    said = "print what is found alone, a line of JSON each; the status says more"
+    parser.add_argument("--json", action="store_true", help=said)
     told = "the proved program that answers the lines once more, by its path where PATH doesn't have it (%(default)s)"
     parser.add_argument("--program", default="station", metavar="P", help=told)
     said = "how many GB of memory the journals may take (%(default)s); the rest of an audit takes about as much"
@@ -96,16 +98,15 @@ def _audit(_: Settings, args: argparse.Namespace) -> int:
         audit = audit_of(books, journals, period, text_of(datetime.now(timezone.utc)), site)
         behind = _behind(books, journals, period) if audit.found else ""
         ask_again(program, journals, books, audit)
+    found = found_table(audit)
     if args.html:
         page = write(Path(args.html), as_html(audit, _read(path, journals, program)))
         if signer:
             signer.sign(Path(args.html), page)
     if args.csv:
-        table = found_table(audit)
-        Formulas().warn_of(table.columns, table.texts())
-        write(Path(args.csv), table.as_csv())
-    print_shown(as_text(audit))
-    print_shown(behind)
+        Formulas().warn_of(found.columns, found.texts())
+        write(Path(args.csv), found.as_csv())
+    print_shown(table_lines(found.columns, found.rows, True) if args.json else as_text(audit) + behind)
     if not audit.found and not audit.entries and not audit.held_lines:
         raise NoPeriod(*_nothing_of(period, journals))
     return FOUND if audit.found else NOT_FINISHED if audit.unfinished else DONE

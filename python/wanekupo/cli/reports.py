@@ -16,7 +16,7 @@ from wanekupo.books.lost import LOST, given_up, lost_csv, lost_formulas, lost_te
 from wanekupo.common.moments import moment_of
 from wanekupo.common.site_file import SiteFileError, read_site_file
 from wanekupo.common.printing import Formulas, Progress, print_shown, table_lines, warn
-from wanekupo.books.report_counts import as_csv, as_text, counts_of, difference_of, formulas_of
+from wanekupo.books.report_counts import as_csv, as_json, as_text, counts_of, difference_of, formulas_of
 from wanekupo.seat.journal_restore import restore
 from wanekupo.seat.station import Station
 
@@ -93,6 +93,7 @@ def _add_yield(parser: argparse.ArgumentParser) -> None:
     parser.add_argument("earlier", metavar="EARLIER", help=REPORT)
     parser.add_argument("later", metavar="LATER", nargs="?", help="the same, printed later")
     parser.add_argument("--csv", metavar="FILE", help="write it as comma-separated values too")
+    parser.add_argument("--json", action="store_true", help="a line of JSON each, in place of a table")
 
 
 def _report_in(file: str) -> str:
@@ -125,7 +126,7 @@ def _yield(settings: Settings, args: argparse.Namespace) -> int:
     if args.csv:
         warn(*(f"warning: {it}" for it in formulas_of(difference)))
         write(Path(args.csv), as_csv(difference))
-    print_shown(as_text(difference))
+    print_shown(as_json(difference) if args.json else as_text(difference))
     return 0
 
 

@@ -16,7 +16,7 @@ from wanekupo.seat.command_line import Command, told_as_error
 from wanekupo.seat.settings import Settings
 from wanekupo.common.errors import BadSettings
 from wanekupo.common.moments import moment_of, tested_period
-from wanekupo.common.printing import Formulas, print_shown, warn
+from wanekupo.common.printing import Formulas, print_shown, table_lines, warn
 
 MORE = """. A step counts when its reply was written down, by the station's clock. A journal is a file, or a folder;
 acme=FOLDER says whose it is, which is needed where two customers' orders have one name. The rest of serial numbers is
@@ -38,6 +38,8 @@ def _add_arguments(parser: argparse.ArgumentParser) -> None:
     parser.add_argument("--left", action="append", default=[], metavar="TOKEN", help=said)
     parser.add_argument("--html", metavar="FILE", help="write a page, to be read and printed")
     parser.add_argument("--csv", metavar="FOLDER", help="write a file of comma-separated values for each table")
+    said = "a line of JSON for each row, with the name of its table, in place of the tables"
+    parser.add_argument("--json", action="store_true", help=said)
 
 
 def customers_journals(words: list[str]) -> list[Owned]:
@@ -74,7 +76,8 @@ def _shift(settings: Settings, args: argparse.Namespace) -> int:
         for table in shown:
             formulas.warn_of(table.columns, table.texts())
             write(folder / f"{table.name}.csv", table.as_csv())
-    print_shown(as_text(shift, shown))
+    lines = (table_lines(("table", *it.columns), [(it.name, *row) for row in it.rows], True) for it in shown)
+    print_shown("".join(lines) if args.json else as_text(shift, shown))
     return 0
 
 

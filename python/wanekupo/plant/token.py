@@ -39,6 +39,7 @@ from pathlib import Path
 from typing import Optional
 
 
+from wanekupo.common.printing import table_lines
 from wanekupo.common.process import end_tool, run_command
 from wanekupo.standby import living
 from wanekupo.standby.half import SETTINGS, Half, StandbyError, read_settings
@@ -367,7 +368,8 @@ def show(args: argparse.Namespace, tokens: Tokens) -> Outcome:
     asking = {it.seat for it in tokens.open_ones()} | {HEALTH}
     without = [name for name in tokens.seats if name not in asking]
     told = f"without an outer token: {', '.join(without)}" if without else ""
-    return Outcome("\n".join([*lines, ""]), told, is_change=False)
+    shown = table_lines(rows[0], rows[1:], True) if args.json else "\n".join([*lines, ""])
+    return Outcome(shown, told, is_change=False)
 
 
 def inner(args: argparse.Namespace, tokens: Tokens) -> Outcome:
@@ -457,6 +459,7 @@ def token_parser() -> argparse.ArgumentParser:
         under[name].add_argument("--to", metavar="FILE", help="a new file for the outer token, in place of the output")
     under["inner"].add_argument("--to", metavar="FILE", required=True, help="a new file for the seat's own token")
     under["list"].add_argument("--all", action="store_true", help="those that have ended too")
+    under["list"].add_argument("--json", action="store_true", help="a line of JSON each, in place of a table")
     return made
 
 
