@@ -2,8 +2,7 @@
 //!
 //! As a program it prints vectors for the clients of a seat, which the gate compares with the file
 //! `stdout` beside this folder: a line of JSON for each state of a station, with what it does there
-//! at each event and what its state is then, and a line for each step of a few longer runs. An
-//! event that a line doesn't have changes nothing there.
+//! at each event and what its state is then. An event that a line doesn't have changes nothing.
 #![tactic(auto)]
 
 #[cfg(test)]

@@ -1,4 +1,4 @@
-//! A walk over the states of a station, and runs in which it keeps many requests aside.
+//! A walk over the states of a station.
 
 use crate::words::{acts_words, file_words};
 use seat_core::{Act, Event, Place, Sent, Station, Waiting};
@@ -41,19 +41,9 @@ struct Reached {
     words: String,
 }
 
-/// The vectors, a line of JSON each.
+/// The vectors: a line of JSON for each state that a station comes to, the nearest first.
 pub fn vectors(alloc: Global) -> Result<String, AllocError> {
     let mut told = String::new(alloc);
-    tell_states(alloc, &mut told)?;
-    for last in [4, 18] {
-        tell_run(alloc, &mut told, last, Event::Accept(90))?;
-        tell_run(alloc, &mut told, last, Event::Refuse(12, 0))?;
-    }
-    Ok(told)
-}
-
-/// Tells each state that a station comes to, the nearest first, whatever befalls it.
-fn tell_states(alloc: Global, told: &mut String) -> Result<(), AllocError> {
     let mut states = Vec::new(alloc);
     states.push(Reached {
         events: Vec::new(alloc),
@@ -63,9 +53,9 @@ fn tell_states(alloc: Global, told: &mut String) -> Result<(), AllocError> {
         let Some(events) = events_at(alloc, states.as_slice(), place)? else {
             break;
         };
-        tell_state(alloc, told, &mut states, events.as_slice())?;
+        tell_state(alloc, &mut told, &mut states, events.as_slice())?;
     }
-    Ok(())
+    Ok(told)
 }
 
 /// The first events that lead to the state at a place of the walk.
@@ -141,37 +131,6 @@ fn renumber(station: &mut Station) {
             request: sent.request,
         }),
     };
-}
-
-/// Tells a run in which each request before the last one is kept aside, that is refused as 12, and
-/// so are those but the newest one, which this befalls.
-fn tell_run(alloc: Global, told: &mut String, last: u64, end: Event) -> Result<(), AllocError> {
-    let mut station = Station::new(alloc)?;
-    for event in run_events(alloc, last, end)?.as_slice() {
-        let acts = station.step(*event);
-        let words = state_words(alloc, &station)?;
-        write!(told, "{{\"run\":{last}")?;
-        tell_step(alloc, told, *event, acts.as_slice(), words.as_str())?;
-        told.push_str("}\n")?;
-    }
-    Ok(())
-}
-
-/// The events of such a run.
-fn run_events(alloc: Global, last: u64, end: Event) -> Result<Vec<Event>, AllocError> {
-    let mut events = Vec::new(alloc);
-    events.push(Event::Start)?;
-    events.push(Event::Refuse(11, NUMBER))?;
-    for request in 1..last {
-        events.push(Event::Want(request))?;
-        events.push(Event::Refuse(13, 0))?;
-    }
-    events.push(Event::Want(last))?;
-    for _ in 1..last.min(17) {
-        events.push(Event::Refuse(12, 0))?;
-    }
-    events.push(end)?;
-    Ok(events)
 }
 
 /// Tells an event, what the station does, and what its state is then, as a member of an object.

@@ -26,12 +26,11 @@ import wanekupo.seat.connection
 import wanekupo.seat.station
 from wanekupo.common.errors import NoReply, NotTheServer, OutOfStep, Refused, UnderWay
 from wanekupo.seat.forms import FAR
+from wanekupo.seat.state_file import StateFile
 from wanekupo.seat.station import Station
 
-VECTORS = TOP / "crates/seat_tests/stdout"
-LINES = [json.loads(line) for line in VECTORS.read_text("ascii").splitlines()]
-Rows = dict[str, dict[str, tuple[str, str]]]
-ROWS: Rows = {line.pop("state"): line for line in LINES if "state" in line}
+LINES = (TOP / "crates/seat_tests/stdout").read_text("ascii").splitlines()
+ROWS: dict[str, dict[str, list[str]]] = {line.pop("state"): line for line in map(json.loads, LINES)}
 NUMBER, FIRST, RUNS, CALLS = 7, 100, 10_000, 4
 STATUSES = {1: 400, 10: 400, 11: 409, 12: 409, 13: 404, 50: 503, 51: 409}
 PAGE = b"<html>Please sign in.</html>"
@@ -97,8 +96,8 @@ class Machine:
     """What a station is and does by the vectors; `shift` makes its number of that of the vectors. Without a number it
     asks for that once it is asked for something, `wanted`, and joins the write of both."""
 
-    def __init__(self, rows: Rows, words: str = "unknown; nothing"):
-        self.rows, self.words, self.shift, self.wanted = rows, words, FIRST - NUMBER, 1
+    def __init__(self, words: str = "unknown; nothing"):
+        self.words, self.shift, self.wanted = words, FIRST - NUMBER, 1
 
     def take(self, event: str) -> list[str]:
         """What the station does at an event, whose state is another one then."""
@@ -107,7 +106,7 @@ class Machine:
         return self._taken(f"want {self.wanted}") if is_first else acts
 
     def _taken(self, event: str) -> list[str]:
-        acts, words = self.rows[self.words].get(event, ("", self.words))
+        acts, words = ROWS[self.words].get(event, ("", self.words))
         shift, place = self.shift, re.match(r"(?:free|under way) (\d+)", words)
         if place:
             self.shift += int(place[1]) - NUMBER
@@ -115,18 +114,6 @@ class Machine:
         self.words = words
         shifted = lambda it: f"{it[1]} {int(it[2]) + shift}"
         return [re.sub(r"^(log|send|show stopped 11) (\d+)", shifted, act) for act in acts.split("; ") if act]
-
-
-class Script(Machine):
-    """The same of one run, whose events are given, with its own numbers."""
-
-    def __init__(self, lines: list[dict[str, tuple[str, str]]]):
-        super().__init__({})
-        self.lines, self.shift = lines, 0
-
-    def _taken(self, event: str) -> list[str]:
-        acts, self.words = self.lines.pop(0)[event]
-        return acts.split("; ") if acts else []
 
 
 def befalling(words: str, is_sent: bool) -> list[str]:
@@ -147,54 +134,21 @@ def walk() -> Iterator[list[str]]:
     for words, is_sent, events in ways:
         for event in befalling(words, is_sent):
             yield [*events, event]
-            machine = Machine(ROWS, words)
+            machine = Machine(words)
             acts = machine.take(event)
             way = machine.words, bool(acts) and acts[-1].startswith(("send", "ask"))
             if way not in (known[:2] for known in ways):
                 ways.append((*way, [*events, event]))
 
 
-class Clock:
-    """Pauses are acts, and patience ends where it is told to."""
-
-    def __init__(self, run: Run):
-        self.run, self.now = run, 0.0
-
-    def monotonic(self) -> float:
-        return self.now
-
-    def sleep(self, _: float) -> None:
-        self.run.act("pause")
-
-
-class Log:
-    """A journal whose lines are acts."""
-
-    def __init__(self, run: Run):
-        self.run = run
-
-    def asked(self, _path: str, body: str, _reason: str = "") -> None:
-        members = json.loads(body)
-        self.run.act(f"log {members['nr']} {int(members['chip'], 16)}")
-
-    def answered(self, number: int, status: int, body: dict[str, Any]) -> None:
-        self.run.act(f"log {number} {'done 90' if status == 200 else 'not %d' % body['no']}")
-
-    def resynchronized(self, number: int) -> None:
-        self.run.act(f"log {number}")
-
-
 class Run:
     """A seat that is befallen by what is chosen, and held to the machine at each act. `kills` is how often it is killed
-    behind one."""
+    behind one. It is the seat's journal, whose lines are acts, and its clock, whose pauses are."""
 
-    def __init__(self, seat: type, machine: Machine, file: Path, choose: Choose, chance: random.Random, kills: float):
-        self.seat, self.machine, self.file, self.choose, self.chance = seat, machine, file, choose, chance
-        self.kills, self.clock = kills, Clock(self)
-        self.due: list[str] = []
-        self.before = machine.words, machine.shift
-        self.following = ""
-        self.sent: dict[tuple[int, int], bytes] = {}
+    def __init__(self, seat: type, file: Path, choose: Choose, chance: random.Random, kills: float = 0):
+        self.seat, self.file, self.choose, self.chance, self.kills = seat, file, choose, chance, kills
+        self.machine, self.now, self.following = Machine(), 0.0, ""
+        self.due, self.sent = list[str](), dict[tuple[int, int], bytes]()
         self.station: Any = None
 
     def act(self, told: str) -> None:
@@ -203,6 +157,22 @@ class Run:
         self.due.pop(0)
         if self.chance.random() < self.kills:
             raise Killed
+
+    def monotonic(self) -> float:
+        return self.now
+
+    def sleep(self, _: float) -> None:
+        self.act("pause")
+
+    def asked(self, _path: str, body: str, _reason: str = "") -> None:
+        members = json.loads(body)
+        self.act(f"log {members['nr']} {int(members['chip'], 16)}")
+
+    def answered(self, number: int, status: int, body: dict[str, Any]) -> None:
+        self.act(f"log {number} {'done 90' if status == 200 else 'not %d' % body['no']}")
+
+    def resynchronized(self, number: int) -> None:
+        self.act(f"log {number}")
 
     def take(self, event: str) -> None:
         self.before = self.machine.words, self.machine.shift
@@ -221,9 +191,9 @@ class Run:
             raise Killed
         shift = self.machine.shift
         self.take(event)
-        return self.answered(event, members["chip"], shift)
+        return self.reply(event, members["chip"], shift)
 
-    def answered(self, event: str, chip: str, shift: int) -> tuple[int, str, bytes]:
+    def reply(self, event: str, chip: str, shift: int) -> tuple[int, str, bytes]:
         word, *numbers = event.split()
         if word == "accept":
             return 200, "application/json", json.dumps({"chip": chip, "state": "shipped"}).encode()
@@ -231,7 +201,7 @@ class Run:
             no, expected = map(int, numbers)
             told = {"no": no, "error": "e"} | ({"expected": expected + shift} if no == 11 else {})
             return STATUSES[no], "application/json", json.dumps(told).encode()
-        self.clock.now += 10**6 if word == "give" else 0
+        self.now += 10**6 if word == "give" else 0
         miss = self.chance.choice(MISSES)
         if isinstance(miss, Exception):
             raise miss
@@ -242,7 +212,7 @@ class Run:
         """The seat of a process that has just started."""
         self.station.close() if self.station else None
         late = lambda told: self.act(f"show late {int(re.findall('chip ([0-9a-f]{12})', told)[0], 16)}")
-        self.station = self.seat("http://127.0.0.1:9", "abc", self.file, 1000, journal=Log(self), tell=late)
+        self.station = self.seat("http://127.0.0.1:9", "abc", self.file, 1000, journal=self, tell=late)
         keep = self.station._state.keep
         self.station._state.keep = lambda **changes: (keep(**changes), self.act("write"))
         self.station._server.once, self.station._server._is_kept = self.once, lambda: False
@@ -279,8 +249,7 @@ class Run:
         except Killed:
             if "write" in self.due:
                 self.machine.words, self.machine.shift = self.before
-            self.following = self.following or ("start" if self.machine.words.startswith("unknown") else "")
-            self.following = self.following or self.chance.choice(("start", "look"))
+            self.following = self.following or self.chance.choice(befalling(self.machine.words, False)[:2])
             told, self.due = "", []
         due = [re.sub(r"tell \d+ not|show unsure", "refused", act) for act in self.due]
         if due != [told] * bool(told):
@@ -312,7 +281,7 @@ def over(run: Run) -> Iterator[Run]:
     """A run by its own clock, from no file on."""
     run.file.unlink(missing_ok=True)
     with pytest.MonkeyPatch.context() as patch:
-        patch.setattr(wanekupo.seat.connection, "time", run.clock)
+        patch.setattr(wanekupo.seat.connection, "time", run)
         patch.setattr("os.fsync", lambda _: None)
         try:
             yield run
@@ -320,22 +289,11 @@ def over(run: Run) -> Iterator[Run]:
             run.station.close() if run.station else None
 
 
-def ran(seat: type, file: Path, count: int) -> None:
-    """Random runs of a seat, which is killed now and then."""
-    chance = random.Random(93)
-    choose = lambda words, is_sent: chance.choice(befalling(words, is_sent))
-    for _ in range(count):
-        with over(Run(seat, Machine(ROWS), file, choose, chance, kills=0.02)) as run:
-            run.machine.wanted = chance.choice((1, 2))
-            for _ in range(CALLS):
-                run.step()
-
-
-def walked(seat: type, file: Path, machine: Machine, events: list[str]) -> None:
+def walked(seat: type, file: Path, events: list[str]) -> None:
     """A run whose events are given; it is killed behind the last."""
     left = deque(events)
     choose = lambda words, is_sent: left.popleft() if left else "start"
-    with over(Run(seat, machine, file, choose, random.Random(len(events)), kills=0)) as run:
+    with over(Run(seat, file, choose, random.Random(len(events)))) as run:
         while left:
             run.step()
 
@@ -351,23 +309,27 @@ def test_each_state_and_event(file: Path) -> None:
     walks = list(walk())
     assert len(walks) > 2000
     for events in walks:
-        walked(Station, file, Machine(ROWS), events)
+        walked(Station, file, events)
 
 
 def test_random_runs(file: Path) -> None:
-    ran(Station, file, RUNS)
+    """What befalls the seat is anything, and it is killed behind some acts."""
+    chance = random.Random(93)
+    choose = lambda words, is_sent: chance.choice(befalling(words, is_sent))
+    for _ in range(RUNS):
+        with over(Run(Station, file, choose, chance, kills=0.02)) as run:
+            run.machine.wanted = chance.choice((1, 2))
+            for _ in range(CALLS):
+                run.step()
 
 
-def test_many_kept_requests(file: Path) -> None:
-    """The longer runs, in which the oldest of more than sixteen are forgotten."""
-    runs: list[list[dict[str, tuple[str, str]]]] = []
-    for line in [line for line in LINES if line.pop("run", 0)]:
-        runs += [[]] if "start" in line else []
-        runs[-1].append(line)
-    assert len(runs) == 4
-    for lines in runs:
-        events = [next(iter(line)) for line in lines]
-        walked(Station, file, Script(lines), events[:2] + events[3:])
+def test_the_oldest_is_forgotten() -> None:
+    """The newest sixteen are kept, and one that is refused again is the newest."""
+    state, asked = StateFile(None, "abc"), [{"path": "/v1/ship", "body": f'{{"nr":7,"chip":{it}}}'} for it in range(18)]
+    state._data |= {"next": 7}
+    for it in (*asked, asked[2]):
+        state._data["late"] = state.late_with(it)
+    assert state.late == [*asked[3:], asked[2]]
 
 
 def wrong_seat(name: str) -> Any:
@@ -383,7 +345,7 @@ def test_a_wrong_seat(file: Path, name: str) -> None:
     seat = wrong_seat(name)
     with pytest.raises(Differs):
         for events in walk():
-            walked(seat, file, Machine(ROWS), events)
+            walked(seat, file, events)
 
 
 def test_wrong_machines() -> None:
