@@ -116,8 +116,8 @@ class Run:
 
     def asked(self, path: str, body: bytes) -> bytes:
         """The reply to a POST request, if it is the one that the machine sends."""
-        members = members_of(body) or {"nr": 0}
-        number = members["nr"]
+        members = {"nr": 0, **(members_of(body) or {})}
+        number, self.is_heard = members["nr"], True
         told = "ask" if number == FAR else f"send {number} {self.name_of(path, members)}"
         if not self.owed:
             self.take("start" if self.machine.words.startswith("unknown") else f"want {told[-1]}")
@@ -215,7 +215,8 @@ class Run:
 
     def start(self) -> None:
         """Starts the station, until it ends or is killed."""
-        self.has_order, self.state, self.owed = self.chance.random() < 0.5, "settled", ""
+        self.has_order, self.state = self.chance.random() < 0.5, "settled"
+        self.owed, self.is_heard = "", False
         with self.turn:
             if not self.machine.words.startswith("unknown"):
                 self.take("start")
@@ -228,7 +229,9 @@ class Run:
         self.kill()
         if self.process.wait() != -signal.SIGKILL:
             self.hold(not self.owed, f"it ended with status {status} in place of {self.owed}")
-            self.hold(status != 0 or "stopped" not in self.machine.words, "it ended with status 0, and has stopped")
+            self.hold(self.is_heard or "stopped" in self.machine.words, "it sent nothing that changes anything")
+            is_rightly = (status == 0) == (self.state == "shipped")
+            self.hold(is_rightly, f"it ended with status {status}, and its chip is {self.state}")
             self.test_log()
             wrong = Journal(self.own / "log").faults()
             self.hold(not wrong, f"its log: {wrong[:1]}")

@@ -134,6 +134,7 @@ class Seats(unittest.TestCase):
 
     def test_right(self):
         self.assertEqual(self.faults_of(RIGHT, 60), dict.fromkeys(RIGHT, ""))
+        self.assertIn("it sent nothing", vectors.fault_of(["true"], 1, 1))
 
     def test_wrong_in_one_way(self):
         for way, fault in self.faults_of({way: [sys.executable, OWN, way] for way in SEATS}, 400).items():
