@@ -2,8 +2,8 @@
 
     python3 -m kit.vectors [--seed N] [--starts N] --station ./my-station with its words
 
-A server without books answers what the vectors may have it answer, or the station is killed in place of an answer. It
-makes its order, where that isn't there, and asks for the identity of a settled chip. The status is 1 at a fault.
+A server without books answers whatever the vectors have a row for, or kills the station in place of an answer. The
+station makes its order, where that isn't there, and asks for the identity of a settled chip. At a fault the status is 1.
 """
 
 from __future__ import annotations
@@ -93,9 +93,9 @@ class Handler(http.server.BaseHTTPRequestHandler):
 
 
 class Run:
-    """One state file of a station. `befell` has each state with what befell a station there."""
+    """One state file of a station. `befell` has the faults that replies had before."""
 
-    def __init__(self, command: Sequence[str], chance: random.Random, befell: set[tuple[str, str]]):
+    def __init__(self, command: Sequence[str], chance: random.Random, befell: set[str]):
         self.command, self.machine, self.chance, self.befell = command, Machine(), chance, befell
         self.owed, self.is_paused, self.answered, self.fault = "", False, 0.0, ""
         self.names, self.sent, self.log = dict[str, int](), dict[str, bytes](), list[str]()
@@ -143,9 +143,7 @@ class Run:
         stops = ("refuse 11" if "unknown" not in words else "-", "refuse 12" if "aside" not in words else "-")
         often = {"refuse": 2, "miss": 2}
         weights = [0.3 if it.startswith(stops) else often.get(it.split()[0], 1) for it in events]
-        (event,) = self.chance.choices(events, weights)
-        self.befell.add((words, event))
-        return event
+        return self.chance.choices(events, weights)[0]
 
     def reply(self, event: str, path: str, members: Mapping[str, Any]) -> bytes:
         """What a station gets, in bytes; none where its connection ends without."""
@@ -156,10 +154,11 @@ class Run:
             return json_told(STATUSES.get(no, 409), {"error": "refused", "no": no, **more})
         done = json_told(200, REPLIES[path])
         faults = [it for it in MISSES if path in it.paths or not it.paths]
-        fault = self.chance.choice([it for it in faults if ("miss", it.name) not in self.befell] or faults)
-        if word == "miss":
-            self.befell.add((word, fault.name))
-        return done if word == "accept" else fault.answer(done, path, members)
+        fault = self.chance.choice([it for it in faults if it.name not in self.befell] or faults)
+        if word == "accept":
+            return done
+        self.befell.add(fault.name)
+        return fault.answer(done, path, members)
 
     def hold(self, is_so: bool, fault: str) -> None:
         self.fault = self.fault or ("" if is_so else f"{fault}, at {self.machine.words}")
@@ -241,7 +240,7 @@ def fault_of(command: Sequence[str], seed: int, starts: int) -> str:
     """The first fault of a station, nothing where it has none."""
     server = http.server.ThreadingHTTPServer(("127.0.0.1", 0), Handler)
     threading.Thread(target=server.serve_forever, daemon=True).start()
-    chance, befell, fault = random.Random(seed), set[tuple[str, str]](), ""
+    chance, befell, fault = random.Random(seed), set[str](), ""
     try:
         while starts > 0 and not fault:
             with tempfile.TemporaryDirectory() as folder:
