@@ -3,7 +3,7 @@
     python3 -m kit.vectors [--seed N] [--starts N] --station ./my-station with its words
 
 A server without books answers whatever the vectors have a row for, or kills the station in place of an answer. The
-station makes its order, where that isn't there, and asks for the identity of a settled chip. At a fault the status is 1.
+station makes its order, where that isn't there, and asks for the identity of a settled chip. A fault is status 1.
 """
 
 from __future__ import annotations
