@@ -24,18 +24,18 @@ MOST = 3
 LOOKS = 0.2
 
 
-def _told(status: int, kind: str, body: bytes) -> bytes:
+def reply_of(status: int, kind: str, body: bytes) -> bytes:
     fields = f"Content-Type: {kind}\r\nContent-Length: {len(body)}\r\nConnection: close\r\n"
     return f"HTTP/1.1 {status} Told\r\n{fields}\r\n".encode() + body
 
 
 def _page(status: int) -> Answer:
     body = b"<html><body>Please sign in to the plant's network.</body></html>"
-    return lambda reply, path, members: _told(status, "text/html", body)
+    return lambda reply, path, members: reply_of(status, "text/html", body)
 
 
 def _json(status: int, body: Mapping[str, Any]) -> Answer:
-    return lambda reply, path, members: _told(status, "application/json", json.dumps(body).encode())
+    return lambda reply, path, members: reply_of(status, "application/json", json.dumps(body).encode())
 
 
 def _body(reply: bytes) -> bytes:
@@ -68,7 +68,7 @@ def _of_another(reply: bytes, path: str, members: Mapping[str, Any]) -> bytes:
         told |= {"reason": None, "pending": {"batch1": work, "batch2": work}}
     else:
         told = {"chip": 12 * "f", "state": "scrapped" if path == "/v1/scrap" else "shipped"}
-    return _told(200, "application/json", json.dumps(told).encode())
+    return reply_of(200, "application/json", json.dumps(told).encode())
 
 
 def _as_it_is(reply: bytes, path: str, members: Mapping[str, Any]) -> bytes:

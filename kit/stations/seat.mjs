@@ -191,7 +191,8 @@ function membersOf({ status, kind, data }, target, asked) {
   }
   const isObject = body !== null && typeof body === "object" && !Array.isArray(body);
   const isThere = (name) => name in body && (!ECHOED.includes(name) || body[name] === asked[name]);
-  if (isObject && status === 200 && (REPLIES[target] ?? []).every(isThere)) return body;
+  const isDone = status === 200 && asked.nr !== FAR;
+  if (isObject && isDone && (REPLIES[target] ?? []).every(isThere)) return body;
   if (isObject && status !== 200 && status !== UNKEPT && Number.isInteger(body.no) && "error" in body) return body;
   throw new NoReply(`status ${status}, which is no reply to ${target}`);
 }

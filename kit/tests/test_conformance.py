@@ -3,8 +3,6 @@
 from __future__ import annotations
 
 import contextlib
-import hashlib
-import http.server
 import io
 import json
 import os
@@ -13,7 +11,6 @@ import shutil
 import subprocess
 import sys
 import tempfile
-import threading
 import unittest
 from concurrent.futures import ThreadPoolExecutor
 from pathlib import Path
@@ -21,7 +18,7 @@ from types import SimpleNamespace
 from unittest import mock
 
 import kit.__main__ as command
-from kit import checks, job, journal, protocol
+from kit import checks, job, journal, protocol, vectors
 from kit.course import Course, Options
 from kit.findings import Findings
 from kit.syncs import can_trace
@@ -54,6 +51,28 @@ FOUND = {
     "ends-early": ("ended", r"it ended with status 0, and 240ac4000001 isn't shipped"),
     "claims-late": ("late", r"it doesn't go on behind a late copy"),
     "own-orders": ("late", r"it sent no registration, and ended with status 1"),
+}
+# What a seat's machine finds in those that are wrong in the protocol.
+SEATS = {
+    "next-number": r"ask in place of send \d+ [12]",
+    "identity-again": r"it sent send 101 (\d) in place of send 100 \1|ask in place",
+    "unlogged": r"its log has .* in place of .*'log \d+ [12]'\] at the end",
+    "believing": r"in place of send \d+ [12]",
+    "stops-at-502": r"ended with status 1 in place of (send|ask)",
+    "begins-with-1": r"send 1 [12] in place of ask",
+    "drops-refused": r"not (1|10)'\] in place of|ended with status 1 in place of",
+    "digest-of-body": r"has another digest than its members",
+    "no-pause": r"is sent again without a pause",
+    "no-reply-line": r"its log has .* in place of .*(not \d+|done 90)",
+    "bad-time": r"has the time '\d+'",
+    "claims-late": r"ended with status 1 in place of send \d+ [12], at under way .*; kept",
+}
+# Words of the station in JavaScript, in place of which others make it wrong, and what the machine finds then.
+PLANTS = {
+    "if (asked) await this.complete(true);": ("", r"in place of (send|\['log)"),
+    "(await this.expected())": ("1", r"send 1 [12] in place of ask"),
+    "told : null;\n": ("null : null;\n", r"in place of nothing, at .*stopped"),
+    "keep({ under_way: isKept": ("keep({ next: number + 1, under_way: isKept", r"send \d+ [12] in place of send \d+"),
 }
 # Where the station over the client in Python finds it, on a machine without its package.
 PLACES = {**os.environ, "PYTHONPATH": str(ROOT / "python")}
@@ -103,6 +122,36 @@ class Stations(unittest.TestCase):
                 self.assertRegex(told, rf"\nFAULT {row}: .*{words}")
 
 
+class Seats(unittest.TestCase):
+    """The vectors of a seat's machine find nothing in right stations, and the faults of those that are wrong in the
+    protocol."""
+
+    def faults_of(self, commands, starts):
+        """The first fault of each station."""
+        with mock.patch.dict(os.environ, PLACES), ThreadPoolExecutor(4) as pool:
+            found = {name: pool.submit(vectors.fault_of, words, 1, starts) for name, words in commands.items()}
+        return {name: fault.result() for name, fault in found.items()}
+
+    def test_right(self):
+        self.assertEqual(self.faults_of(RIGHT, 60), dict.fromkeys(RIGHT, ""))
+        self.assertIn("it sent nothing", vectors.fault_of(["true"], 1, 1))
+
+    def test_wrong_in_one_way(self):
+        for way, fault in self.faults_of({way: [sys.executable, OWN, way] for way in SEATS}, 400).items():
+            self.assertRegex(fault, SEATS[way], way)
+
+    @unittest.skipUnless("javascript" in RIGHT, "no Node 18")
+    def test_wrong_in_javascript(self):
+        text = (HERE / "stations" / "seat.mjs").read_text("utf-8")
+        with tempfile.TemporaryDirectory() as folder:
+            for place, (old, (new, _)) in enumerate(PLANTS.items()):
+                self.assertEqual(text.count(old), 1)
+                (Path(folder) / f"{place}.mjs").write_text(text.replace(old, new), "utf-8")
+            commands = {old: [NODE, f"{folder}/{place}.mjs"] for place, old in enumerate(PLANTS)}
+            for old, fault in self.faults_of(commands, 400).items():
+                self.assertRegex(fault, PLANTS[old][1], old)
+
+
 class Brief(Course):
     """A run whose minutes end with its first disturbed chip."""
 
@@ -138,55 +187,6 @@ class Few(unittest.TestCase):
         row, words = FOUND["next-number"]
         self.assertEqual(other, 1, faults)
         self.assertRegex(faults, rf"\nFAULT {row}: .*{words}")
-
-
-class Refusing(http.server.BaseHTTPRequestHandler):
-    """Refuses each request as 12."""
-
-    def do_POST(self):
-        self.server.asked.append(self.rfile.read(int(self.headers.get("Content-Length", 0))))
-        told = b'{"error":"other_body","no":12}'
-        self.send_response(409)
-        self.send_header("Content-Type", "application/json")
-        self.send_header("Content-Length", str(len(told)))
-        self.end_headers()
-        self.wfile.write(told)
-
-    do_GET = do_POST  # noqa: N815
-
-    def log_message(self, *_):
-        pass
-
-
-class Stops(unittest.TestCase):
-    """A station that is refused as 12 stops, and sends nothing when it starts again."""
-
-    def setUp(self):
-        self.server = http.server.ThreadingHTTPServer(("127.0.0.1", 0), Refusing)
-        self.server.asked = []
-        threading.Thread(target=self.server.serve_forever, daemon=True).start()
-        self.addCleanup(self.server.server_close)
-        self.addCleanup(self.server.shutdown)
-
-    def started(self, folder, words):
-        """The status of a start over a folder's state file."""
-        files = {name: str(folder / name.lower()) for name in ("KIT_STATE", "KIT_LOG", "KIT_JOB", "KIT_CHIP")}
-        url = f"http://127.0.0.1:{self.server.server_address[1]}"
-        environment = {**PLACES, **files, "KIT_URL": url, "KIT_TOKEN": "abc"}
-        return subprocess.run([*map(str, words)], env=environment, capture_output=True, timeout=60).returncode
-
-    def test_a_start_behind_a_stop(self):
-        under_way = {"path": "/v1/ship", "body": '{"nr":7,"chip":"240ac4000001"}'}
-        state = {"token": hashlib.sha256(b"abc").hexdigest(), "next": 7, "under_way": under_way, "last": None}
-        for name, words in RIGHT.items():
-            with self.subTest(name), tempfile.TemporaryDirectory() as folder:
-                self.server.asked.clear()
-                (Path(folder) / "kit_state").write_text(json.dumps({**state, "late": [], "stop": None}))
-                (Path(folder) / "kit_state").chmod(0o600)
-                (Path(folder) / "kit_job").write_text('{"keys":{}}')
-                statuses = [self.started(Path(folder), words) for _ in range(2)]
-                self.assertEqual((statuses, self.server.asked), ([1, 1], [under_way["body"].encode()]))
-                self.assertEqual(json.loads((Path(folder) / "kit_state").read_bytes())["under_way"], under_way)
 
 
 class Books:

@@ -3,7 +3,6 @@
 use seat_core::{Act, Outcome, Place, Station, Trouble};
 use std::alloc::{AllocError, Global};
 use std::fmt::Write;
-use std::test::Fail;
 
 /// Tells what became of a request.
 fn tell_outcome(told: &mut String, outcome: Outcome) -> Result<(), AllocError> {
@@ -46,7 +45,7 @@ pub fn tell_act(told: &mut String, act: Act) -> Result<(), AllocError> {
 }
 
 /// The words of what a station does.
-pub fn acts_words(alloc: Global, acts: &[Act]) -> Result<String, Fail> {
+pub fn acts_words(alloc: Global, acts: &[Act]) -> Result<String, AllocError> {
     let mut told = String::new(alloc);
     for act in acts {
         if !told.is_empty() {
@@ -67,7 +66,7 @@ fn tell_place(told: &mut String, place: Place) -> Result<(), AllocError> {
 }
 
 /// The words of a station's file, but for its last reply.
-pub fn file_words(alloc: Global, station: &Station) -> Result<String, Fail> {
+pub fn file_words(alloc: Global, station: &Station) -> Result<String, AllocError> {
     let mut told = String::new(alloc);
     tell_place(&mut told, station.file.place)?;
     for request in station.file.aside.as_slice() {

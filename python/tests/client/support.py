@@ -147,7 +147,6 @@ class Proxy:
     | late copy    | it is held, and gets no reply; a copy of it comes to the program behind the next request |
     | held         | it is held, and gets no reply; a copy of it comes to the program with `deliver` |
     | copied       | it is done, and gets its reply; a copy of it comes to the program with `deliver` |
-    | refused, 18  | it isn't passed on, and is refused as 18 |
     | done, 6      | it is done, and another copy of it is refused as 6 |
     """
 
@@ -180,10 +179,10 @@ class Proxy:
         self.seen.append((fault, request))
         page = b"HTTP/1.1 %s Bad\r\nContent-Type: text/html\r\nContent-Length: 6\r\nConnection: close\r\n\r\n<html>"
         reply = b""
-        does, _, no = (fault or "").partition(", ")
+        no = (fault or "").partition(", ")[2]
         if fault in ("held", "late copy", "copied"):
             (self.late if fault == "late copy" else self.held).append(request)
-        if fault not in ("held", "late copy", "lost request", "502", "401") and does != "refused":
+        if fault not in ("held", "late copy", "lost request", "502", "401"):
             with socket.create_connection((HOST, self.program.port)) as server:
                 server.sendall(request[: len(request) // 2] if fault == "cut request" else request)
                 server.shutdown(socket.SHUT_WR)

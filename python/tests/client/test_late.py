@@ -136,28 +136,6 @@ class Late(StationCase):
         self.assertEqual(self.requests()[-4:], [*answers, ("/v1/import", number + 1, 200)])
         self.assertEqual((self.imported("Z1 Z2"), len(self.told)), (Imported(0, 2), 1))
 
-    def test_a_kept_request_that_gets_another_refusal(self):
-        """As 6 it may be the one that was accepted: what is under way waits, and begins again. As 18 or 11 the store
-        isn't the one that refused it as 12: the seat stops, and its file has it under its number."""
-        for place, (no, stops) in enumerate(((6, False), (18, True), (11, True)), 2):
-            number, order = self.seat.own_number(), f"o{place}"
-            self.refused_and_held(lambda: self.registered(self.seat, MACS[place], order), 14)
-            self.made(order, f"B{place}-")
-            self.delivered()
-            sent = len(self.wire.seen)
-            self.assertEqual(self.refused(lambda: self.imported(f"Z{place}"), no, None, f"refused, {no}"), stops)
-            self.assertEqual(len(self.wire.seen), sent + 2)
-            if stops:
-                self.assertTrue(self.refused(self.seat.finish, no))
-                self.assertEqual([json.loads(it["body"])["nr"] for it in self.kept()["late"]], [number, number])
-                self.assertEqual(len(self.wire.seen), sent + 2)
-                self.seat.resynchronize()
-            else:
-                self.assertEqual(self.kept()["under_way"]["path"], "/v1/import")
-                self.assertEqual(self.seat.finish().reply, {"added": 1, "present": 0})
-                self.assertEqual(self.requests()[-1], ("/v1/import", number + 1, 200))
-            self.assertEqual(len(self.told), 1)
-
     def test_one_of_several_behind_a_lost_request(self):
         """Two may come late; the second does, while the next request is lost on its first way."""
         self.seat.close()

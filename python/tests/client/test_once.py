@@ -32,7 +32,7 @@ from support import (
 )
 
 import wanekupo.seat.connection
-from wanekupo.common.errors import BadStateFile, NoReply, NotTheServer, OutOfStep, Refused, UnderWay
+from wanekupo.common.errors import BadStateFile, NoReply, NotTheServer, OutOfStep
 from wanekupo.seat.replies import Imported, Order, Word, Work
 from wanekupo.seat.station import Station
 from wanekupo.seat.journal import Journal, issued, requests_of
@@ -129,7 +129,7 @@ class Once(StationCase):
         self.assertEqual((stop.no, stop.number, stop.expected), (no, number, expected))
 
     def test_a_seat_that_another_uses(self):
-        """After one foreign request, after two, and in a repeat: the station stops, each time, until it is told."""
+        """After one foreign request, and after two: the station stops, each time, until it is told."""
         station, other = self.station(), self.station(file="other.json")
         station.make_order(**ORDER)
         for count, no in ((1, 12), (2, 11)):
@@ -146,48 +146,6 @@ class Once(StationCase):
             station.resynchronize()
         self.assertEqual(station.import_serials("acme-ca", rows("Y1 Y2 Z1")), Imported(1, 2))
 
-    def test_a_repeat_of_a_seat_that_another_uses(self):
-        """It may be done, so it is under way until the station is told."""
-        station, other = self.station(), self.station(file="other.json")
-        station.make_order(**ORDER)
-        proxy = self.proxy(["lost request"] * 9)
-        station.close()
-        station = self.station(proxy.url, patience=0)
-        with self.assertRaises(NoReply):
-            station.import_serials("acme-ca", rows("Z2"))
-        proxy.faults.clear()
-        with self.assertRaises(UnderWay):
-            station.import_map(MAP)
-        other.import_map(MAP)
-        sent = len(proxy.seen)
-        for call in (station.finish, lambda: station.import_serials("acme-ca", rows("Z2")), station.finish):
-            self.out_of_step(call, 12, 2, 3)
-            other.import_map(MAP)
-        self.out_of_step(lambda: station.import_map(MAP), 12, 2, 3)
-        self.assertEqual(len(proxy.seen), sent + 1)
-        station.resynchronize()
-        self.assertEqual(station.import_serials("acme-ca", rows("Z2")), Imported(1, 0))
-        self.assertEqual(station.expected_number(), 7)
-
-    def test_a_stop_outlives_the_station(self):
-        """It sends nothing that changes anything, however often it starts, until a person has it go on."""
-        proxy = self.proxy()
-        with self.station(proxy.url) as station:
-            station.make_order(**ORDER)
-            self.station(file="other.json").import_map(MAP)
-            self.out_of_step(lambda: station.import_serials("acme-ca", rows("Z1")), 12, 2, 3)
-        sent = len(proxy.seen)
-        for call in (Station.finish, lambda station: station.import_map(MAP)):
-            with self.station(proxy.url) as station:
-                self.out_of_step(lambda: call(station), 12, 2, 3)
-        self.assertEqual(len(proxy.seen), sent)
-        with self.station(proxy.url) as station:
-            self.assertEqual(station.order("o1").next, "A998")
-            station.resynchronize()
-        with self.station(proxy.url) as station:
-            self.assertEqual(station.finish().path, "/v1/order")
-            self.assertEqual(station.import_serials("acme-ca", rows("Z1")), Imported(1, 0))
-
     def test_calls_of_several_threads(self):
         """They wait for each other; a seat without a state file asks for its number once."""
         station, names = self.station(), ("o1", "o2", "o3", "o4")
@@ -196,15 +154,6 @@ class Once(StationCase):
             made = list(pool.map(lambda order: station.make_order(**order), orders))
         self.assertEqual([order.next for order in made], ["A000", "A002", "A004", "A006"])
         self.assertEqual(station.expected_number(), 5)
-
-    def test_a_repeat_that_is_refused_was_never_done(self):
-        """A request whose first sending was lost is judged at its second, and takes no number where it is refused."""
-        station = self.station(self.proxy(["lost request"]).url)
-        with mock.patch.object(station, "expected_number", return_value=1), self.assertRaises(Refused) as found:
-            station.ship(MAC)
-        self.assertEqual(found.exception.no, 15)
-        self.assertIsNone(station.finish())
-        self.assertEqual(station.expected_number(), 1)
 
     def test_the_state_file(self):
         station = self.station()
@@ -309,20 +258,6 @@ class Peers(unittest.TestCase):
             self.assertNotIn("hell", str(found.exception))
         with self.assertRaises(ValueError):
             Station("htps://127.0.0.1", "abc", None)
-
-    def test_a_post_stays_under_way_where_no_reply_says_what_became_of_it(self):
-        for status, kind, body in (
-            (403, "text/html", b"<html>"),
-            (503, "application/json", b'{"error":"unkept","no":50}'),
-            (200, "application/json", OTHERS),
-        ):
-            station = self.serve(status, kind, body)
-            with mock.patch.object(station, "expected_number", return_value=1):
-                for _ in range(2):
-                    with self.assertRaises((NotTheServer, NoReply)):
-                        station.ship(MAC)
-            with self.assertRaises(UnderWay):
-                station.scrap(MAC)
 
 
 if __name__ == "__main__":

@@ -9,7 +9,7 @@ from typing import Any, Callable, Mapping, Optional, TypeVar
 
 from wanekupo.chips.work import Word, Work
 from wanekupo.common.errors import NotTheServer, Refused
-from wanekupo.seat.forms import COUNT, REPLIES, wrong_in
+from wanekupo.seat.forms import COUNT, FAR, REPLIES, wrong_in
 
 # Members of a reply that are those of its request.
 ECHOED = ("chip", "name")
@@ -175,7 +175,10 @@ def entries_of(data: Mapping[str, Any]) -> list[Entry]:
 
 
 def _strange_in(path: str, members: Mapping[str, Any], body: Any) -> Optional[str]:
-    """Why what came at 200 isn't the reply to a request, in words; None where it is."""
+    """Why what came at 200 isn't the reply to a request, in words; None where it is. No seat comes to
+    the number by which it asks for its own: nobody accepts that."""
+    if members.get("nr") == FAR:
+        return f"number {FAR} was accepted"
     if path.endswith("/report"):
         return None if isinstance(body, str) else "no report"
     if not isinstance(body, dict):

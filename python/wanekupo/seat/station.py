@@ -22,6 +22,7 @@ from wanekupo.common.errors import BadStateFile, NotTheServer, OutOfStep, Refuse
 from wanekupo.chips.espefuse import Burner
 from wanekupo.chips.families import Blocks
 from wanekupo.common.printing import warn
+from wanekupo.seat.forms import FAR
 from wanekupo.seat.replies import (
     Device, LastRequest, Entry, Identity, Imported, Listed, Order, Plan, Verdict, accepted, device_of, devices_of,
     entries_of, identity_of, imported_of, order_of, work_of,
@@ -32,9 +33,6 @@ from wanekupo.seat.state_file import StateFile, members_of
 Self = TypeVar("Self", bound="Seat")
 Words = ParamSpec("Words")
 Result = TypeVar("Result")
-
-# A number that no seat comes to.
-FAR = 2**53 - 1
 
 # Refusals: a number that isn't the next, and one that was accepted with another request. Those below come before the
 # number is looked at. Up to these, a refusal says nothing of what became of the same request when it was sent before.
@@ -286,14 +284,11 @@ class Seat:
     @_in_turn
     def expected_number(self) -> int:
         """The number that the server expects of the seat. Nothing is changed."""
-        try:
-            accepted(*self._posted("/v1/ship", json.dumps({"nr": FAR, "chip": 12 * "0"}))[:2])
-        except Refused as refused:
-            if refused.no == WRONG_NUMBER and "expected" in refused.more:
-                expected: int = refused.more["expected"]
-                return expected
-            raise
-        raise NotTheServer(f"number {FAR} was accepted")
+        refused = Refused(*self._posted("/v1/ship", json.dumps({"nr": FAR, "chip": 12 * "0"}))[:2])
+        if refused.no != WRONG_NUMBER or "expected" not in refused.more:
+            raise refused
+        expected: int = refused.more["expected"]
+        return expected
 
     def operator(self) -> str:
         """Who works there, as the journal's lines have it."""
