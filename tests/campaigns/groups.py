@@ -1,0 +1,111 @@
+"""The groups of campaign.toml: what each runs at which size, of which files it is, and what it takes of a machine."""
+
+import hashlib
+import os
+import re
+import shlex
+import subprocess
+import tomllib
+from collections.abc import Mapping
+from dataclasses import dataclass
+from typing import Any
+
+from common.needs import ROOT, missing
+
+SHORT, RELEASE = "short", "release"
+TESTS, MEASURES, CLIENTS = "tests/all", "bench/run", "bench/client"
+# What all of a kind stand on, as patterns of names.
+COMMON = {
+    TESTS: r"tests/(common/|conftest\.py|pytest\.ini|all$)",
+    MEASURES: r"tests/common/|bench/(run$|common|[\w.]+\.(py|c)$|rust_station/)",
+}
+# The most hours of a short size and of a release's, and the first of seeds.
+SHORT_HOURS, HOURS, FIRST_SEED = 1, 5, 7
+
+
+def git(*words: str, given: str = "") -> str:
+    """What git says of this repository; nothing where it fails."""
+    words = ("git", "-C", str(ROOT), *words)
+    return subprocess.run(words, input=given, capture_output=True, text=True, check=False).stdout
+
+
+def changed_here() -> list[str]:
+    """The names of files that aren't as the commit has them."""
+    told = git("diff", "-z", "--name-only", "HEAD") + git("ls-files", "-zo", "--exclude-standard")
+    return told.split("\0")[:-1]
+
+
+def files_here() -> dict[str, str]:
+    """What git calls the text of each file of the tree, committed or not."""
+    rows = (row.split("\t", 1) for row in git("ls-files", "-sz").split("\0")[:-1])
+    changed = changed_here()
+    there = [name for name in changed if (ROOT / name).is_file()]
+    texts = git("hash-object", "--stdin-paths", given="".join(f"{name}\n" for name in there)).split()
+    files = {name: about.split()[1] for about, name in rows if name not in changed}
+    return files | dict(zip(there, texts, strict=True))
+
+
+@dataclass(frozen=True)
+class Group:
+    """A test or a measure; the table's head says what its members are. `of` is a pattern of names."""
+
+    name: str
+    run: str
+    of: str
+    sizes: Mapping[str, str]
+    hours: float
+    needs: tuple[str, ...]
+    processors: int
+    is_quiet: bool
+    starts: str | None
+
+    def words(self, size: str) -> str | None:
+        """Its words at a size, which may be a number; None where it has no such size."""
+        is_sized = self.sizes[RELEASE].startswith("--size ")
+        return (f"--size {size}" if is_sized else None) if size.isdigit() else self.sizes.get(size)
+
+    def most_hours(self, size: str) -> float:
+        return SHORT_HOURS if size == SHORT else self.hours
+
+    def command(self, size: str) -> str:
+        return f"{self.run} {self.words(size) or ''}".strip()
+
+    def digest(self, size: str, files: Mapping[str, str]) -> str:
+        """What a result of this size is of: the command, and the texts of its files."""
+        own = sorted(f"{text} {name}\n" for name, text in files.items() if re.match(self.of, name))
+        return hashlib.sha256("".join([self.command(size), *own]).encode()).hexdigest()[:32]
+
+    def lacks(self) -> str:
+        """Why it can't run here, or nothing."""
+        if lacking := missing(self.needs):
+            return f"there is no {', '.join(lacking)}"
+        there = len(os.sched_getaffinity(0))
+        return f"it takes {self.processors} processors, of {there}" if there < self.processors else ""
+
+
+def group_of(name: str, row: Mapping[str, Any], sets: Mapping[str, str], starts: str | None) -> Group:
+    """A row of the table. It is of the program if it gets it, of what it runs, and of what it names."""
+    run = {"tests": f"{TESTS} ", "bench": f"{MEASURES} "}.get(next(iter(row)), "") + next(iter(row.values()))
+    first, *words = shlex.split(run)
+    files = [it.partition("::")[0] for it in words if ".py" in it] if first == TESTS else []
+    own = [f"tests/({it}$|{it.partition('/')[0]}/(?!test_))" for it in files]
+    own += [COMMON.get(first, f"{first}$"), *([f"bench/{words[0]}$"] if first == MEASURES else [])]
+    named = ["program"] * (first in (TESTS, MEASURES, CLIENTS)) + row.get("of", "").split()
+    needs = row.get("needs", "").split()
+    return Group(
+        name, run, "|".join([*own, *map(sets.__getitem__, named)]),
+        {RELEASE: ""} | {size: row[size] for size in (SHORT, RELEASE) if size in row},
+        row.get("hours", HOURS), tuple(it for it in needs if not it.isdigit()),
+        int(next(filter(str.isdigit, needs), 1)), row.get("quiet", first == MEASURES), starts,
+    )  # fmt: skip
+
+
+def read_groups() -> dict[str, Group]:
+    """The groups by their names, in the table's order. One with seeds is a group for each of them."""
+    table = tomllib.loads((ROOT / "tests/campaign.toml").read_text("utf-8"))
+    rows = dict[str, Mapping[str, Any]]()
+    for name, row in table["groups"].items():
+        kind, run = next(iter(row.items()))
+        seeds = range(FIRST_SEED, FIRST_SEED + row.get("seeds", 0))
+        rows |= {f"{name}-{seed}": row | {kind: f"{run} --seed {seed}"} for seed in seeds} or {name: row}
+    return {name: group_of(name, row, table["files"], table["starts"].get(name)) for name, row in rows.items()}

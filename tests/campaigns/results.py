@@ -1,0 +1,134 @@
+"""The results of campaigns, docs/proof/tried.json, and their page, docs/proof/tried.md, which is made of them alone."""
+
+import fcntl
+import json
+import os
+import re
+import sys
+from collections.abc import Iterator, Mapping, Sequence
+from dataclasses import asdict, dataclass, field
+from pathlib import Path
+from typing import Any
+
+from campaigns.groups import RELEASE, Group, files_here, git
+from common.needs import ROOT
+
+FILE = ROOT / "docs/proof/tried.json"
+PAGE, SHOWN = FILE.with_suffix(".md"), "docs/proof/tried.md"
+PASSED, FAILED, NOT_RUN = "passed", "failed", "not run"
+# The most characters of what was said that a row has.
+LONGEST = 400
+GOAL, NUMBER = re.compile(r".*, (?:met|missed)$"), re.compile(r"(?<![\w.,:-])\d{4,}(?![\w:-])")
+HEAD = """# What was tried, and when
+
+`tests/campaign` writes this page of [tried.json](tried.json), which has more of each row, and
+[nobody else does](../../tests/README.md#a-campaign). `tools/pages` names each row whose files have
+changed since. *Lost* is a reply that the books don't have, *twice* what they have too often. What
+was measured before is in [the results](../../bench/RESULTS.md).
+
+| Command | What it found | Commit |
+|---|---|---|
+"""
+
+
+@dataclass
+class Result:
+    """What became of a group: `digest` is of its command and files, `about` has when and where it ran, `failures` what
+    failed before at this group and size."""
+
+    group: str
+    size: str
+    command: str
+    commit: str
+    digest: str
+    status: str = NOT_RUN
+    said: list[str] = field(default_factory=list)
+    counts: dict[str, int] = field(default_factory=dict)
+    seconds: float | None = None
+    seed: int | None = None
+    about: dict[str, Any] = field(default_factory=dict)
+    failures: list[str] = field(default_factory=list)
+
+
+def read_results() -> list[Result]:
+    return [Result(**row) for row in json.loads(FILE.read_text("utf-8"))] if FILE.exists() else []
+
+
+def why_old(result: Result, group: Group | None, files: Mapping[str, str]) -> str:
+    """Why a result isn't of this tree, or nothing."""
+    if group is None:
+        return "of no group of the table"
+    if result.digest == group.digest(result.size, files):
+        return ""
+    changed = git("diff", "--name-only", result.commit.split()[0]).splitlines()
+    names = [name for name in changed if re.match(group.of, name)] or ["its command or its files"]
+    return f"of {result.commit}; changed since: {names[0]}{f' and {len(names) - 1} more' * (len(names) > 1)}"
+
+
+def row_of(result: Result) -> str:
+    """A row of the page: what failed, a measure's goals, or what was said; of much, the counts and its end."""
+    is_failed, counts = result.status == FAILED, ", ".join(f"{it} {name}" for name, it in result.counts.items())
+    said = [line.strip() for line in result.said if GOAL.fullmatch(line) and not is_failed] or result.said
+    text = f"{'FAILED: ' * is_failed}{'; '.join(said) or counts}"
+    if len(text) > LONGEST and not is_failed:
+        text = f"{counts or f'{len(said)} lines'}; the last: {said[-1]}"
+    text = NUMBER.sub(lambda number: f"{int(number[0]):,}", text[:LONGEST])
+    minutes = (result.seconds or 0) / 60
+    found = "; ".join([text, *([f"in {minutes:.0f} min"] if minutes >= 1 else []), *result.failures])
+    seed = f" --seed {result.seed}" * (result.command.startswith("tests/all") and " --seed " not in result.command)
+    cells = (f"`{result.command}{seed}`", found, result.commit)
+    return "".join(f"| {cell.replace('|', '/')} " for cell in cells) + "|\n"
+
+
+def page_of(results: Sequence[Result], groups: Mapping[str, Group]) -> str:
+    """The page of these results, in the order of the groups; its last row is what is left of a release's size."""
+    places = list(groups)
+    rows = sorted(results, key=lambda it: (places.index(it.group) if it.group in groups else -1, it.size.zfill(9)))
+    done = {it.group for it in results if (it.size, it.status) == (RELEASE, PASSED)}
+    left = [f"{name} {it.words(RELEASE)}".strip() for name, it in groups.items() if name not in done]
+    last = f"| `tests/campaign --size release` | left, {len(left)} of {len(groups)}: {'; '.join(left)} | |\n"
+    return HEAD + "".join(map(row_of, rows)) + last
+
+
+def replace_text(file: Path, text: str) -> None:
+    """Writes a file whole or not at all."""
+    new = file.with_name(f".{file.name}-new")
+    new.write_text(text, "utf-8")
+    os.replace(new, file)
+
+
+def keep(results: Sequence[Result], groups: Mapping[str, Group]) -> None:
+    """Keeps the results, a line each, and writes their page."""
+    rows = [{name: value for name, value in asdict(it).items() if value not in (None, [], {})} for it in results]
+    replace_text(FILE, "[\n" + ",\n".join(json.dumps(row, ensure_ascii=False) for row in rows) + "\n]\n")
+    replace_text(PAGE, page_of(results, groups))
+
+
+def keep_new(new: Result, groups: Mapping[str, Group]) -> None:
+    """Keeps a new result in the place of that of its group and size; if that failed, the new one tells so."""
+    results = read_results()
+    for it in [it for it in results if (it.group, it.size) == (new.group, new.size)]:
+        failed = [f"failed at {it.commit}, seed {it.seed}: {it.said[0]}"] if it.status == FAILED else []
+        new.failures = [*it.failures, *failed]
+        results.remove(it)
+    keep([*results, new], groups)
+
+
+def judged(groups: Mapping[str, Group]) -> Iterator[str]:
+    """`fault:` where the page isn't as written, `failed:` each row that failed, `old:` each of another tree."""
+    results, files = read_results(), files_here()
+    if not PAGE.exists() or PAGE.read_text("utf-8") != page_of(results, groups):
+        yield f"fault: {SHOWN} isn't what {FILE.name} and tests/campaign.toml make: tests/campaign --page writes it"
+    for it in results:
+        if it.status == FAILED:
+            yield f"failed: {SHOWN}: {it.group} ({it.size}): {it.said[0]}"
+        if why := why_old(it, groups.get(it.group), files):
+            yield f"old: {SHOWN}: {it.group} ({it.size}) is {why}"
+
+
+def lock() -> None:
+    """Takes the results of this tree until this process ends."""
+    try:
+        fcntl.flock(os.open(FILE.parent, os.O_RDONLY | os.O_DIRECTORY), fcntl.LOCK_EX | fcntl.LOCK_NB)
+    except BlockingIOError:
+        sys.exit("campaign: another one is under way over the results of this tree")

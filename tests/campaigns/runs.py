@@ -1,0 +1,125 @@
+"""A group is run: its words, its end, what it said and counted. All of it serves and loads on this machine alone."""
+
+import hashlib
+import os
+import re
+import shlex
+import shutil
+import signal
+import subprocess
+import tempfile
+import time
+from collections.abc import Sequence
+from contextlib import suppress
+from dataclasses import replace
+from datetime import UTC, datetime
+from pathlib import Path
+from typing import Any
+
+from campaigns.groups import CLIENTS, MEASURES, TESTS, Group, changed_here, files_here, git
+from campaigns.results import FAILED, NOT_RUN, PASSED, Result
+from common.needs import APART, ROOT, may_be_apart
+
+# The lines that are kept of what failed, and of what a measure said; how many seconds a group that is stopped has to
+# clear away; and the most hours of a smallest run.
+TAIL, KEPT, CLEARING, SMALLEST = 12, 400, 60, 1 / 6
+FAULT, LEFT_OUT = re.compile(r"(?:FAILED|ERROR) (\S+ - .*)"), re.compile(r"SKIPPED \[\d+\] \S+: (.*)")
+MISSED, STOPPED = re.compile(r"(.*, missed)"), (124, 137)
+COUNT = re.compile(r"\b(\d+) (passed|failed|skipped|xfailed|errors?|refused|not|tests)\b")
+ALONE = ("--collect-only", "--help")
+
+
+def ended(words: Sequence[str], folder: Path, hours: float, is_measure: bool) -> int:
+    """Runs a command for some hours at most, and ends it with this process, however that ends: its status. The folder
+    gets `said` and `errors`. Measures clear nothing away, so root's have a place apart."""
+    apart, sign = (APART, "KILL") if is_measure and may_be_apart() else ([], "INT")
+    limit = ["timeout", "--signal=INT", f"--kill-after={CLEARING}", str(3600 * hours), "setpriv", "--pdeathsig", sign]
+    with open(folder / "said", "wb") as said, open(folder / "errors", "wb") as errors:
+        process = subprocess.Popen(
+            ["setpriv", "--pdeathsig", "INT", *limit, *apart, *words], cwd=folder if is_measure else ROOT,
+            env=os.environ | {"PYTHONDONTWRITEBYTECODE": "1", "COLUMNS": "400"}, stdin=subprocess.DEVNULL,
+            stdout=said, stderr=errors,
+        )  # fmt: skip
+        try:
+            return process.wait()
+        finally:
+            process.send_signal(signal.SIGINT)
+            process.wait()
+            with suppress(ProcessLookupError):
+                os.killpg(process.pid, signal.SIGKILL)
+
+
+def found_by(pattern: re.Pattern[str], lines: Sequence[str]) -> list[str]:
+    """What stands in a pattern's group in the lines that fit it, each once."""
+    return list(dict.fromkeys(it[1] for it in map(pattern.fullmatch, lines) if it))
+
+
+def run(group: Group, words: str, hours: float, program: Path, seed: int) -> tuple[str, list[str], dict[str, int]]:
+    """What becomes of a group: passed, failed or not run; what it said, or why; its counts."""
+    first, *others = shlex.split(group.run)
+    with tempfile.TemporaryDirectory() as name:
+        folder = Path(name)
+        folder.chmod(0o755)
+        command = [str(ROOT / first) if "/" in first else first, *others]
+        command += ["--program", str(program)] if first in (TESTS, MEASURES, CLIENTS) else []
+        command += [f"--found={folder / 'found'}", "-q", f"--seed={seed}"] if first == TESTS else []
+        status = ended([*command, *shlex.split(words)], folder, hours, first.startswith("bench/"))
+        files = [folder / it for it in ("said", "errors", "found")]
+        output, errors, found = (it.read_text("utf-8", "replace").splitlines() if it.exists() else [] for it in files)
+    said, lines = found if first == TESTS else output[-KEPT:], output + errors
+    counts = {name: int(count) for line in lines[-3:] for count, name in COUNT.findall(line)}
+    faults, left_out = found_by(FAULT, output)[:TAIL], found_by(LEFT_OUT, output)
+    if status in STOPPED:
+        return FAILED, [f"stopped behind {hours:g} hours", *faults], counts
+    if status == 77:
+        return NOT_RUN, lines[-1:], counts
+    if faults or status:
+        return FAILED, faults or [f"it ended with status {status}", *lines[-TAIL:]], counts
+    return (NOT_RUN, left_out, counts) if left_out and not counts.get(PASSED) else (PASSED, said, counts)
+
+
+def about_here(program: Path) -> dict[str, Any]:
+    """When and where a run begins: the toolchain, the program, and the machine with its load."""
+    asked = subprocess.run(["rt", "version"], capture_output=True, text=True).stdout if shutil.which("rt") else "none"
+    model = re.search(r"(?m)^model name\s*: (.*)$", Path("/proc/cpuinfo").read_text())
+    return {
+        "began": datetime.now(UTC).isoformat(timespec="seconds"),
+        "toolchain": asked.strip(),
+        "program": hashlib.sha256(program.read_bytes()).hexdigest(),
+        "machine": f"{os.cpu_count()} processors {model[1] if model else ''}, Linux {os.uname().release}",
+        "processors": sorted(os.sched_getaffinity(0)),
+        "load": [round(it, 2) for it in os.getloadavg()],
+    }
+
+
+def tried(group: Group, size: str, program: Path, seed: int) -> Result:
+    """Runs a group at a size, and says what became of it. A missed goal fails."""
+    own, begun = re.search(r" --seed (\d+)", group.run), time.monotonic()
+    seed = int(own[1]) if own else seed
+    is_changed = any(re.match(group.of, name) for name in changed_here())
+    commit = git("log", "-1", "--abbrev=8", "--format=%h of %cs").strip() + " and changed files" * is_changed
+    digest, about = group.digest(size, files_here()), about_here(program)
+    status, said, counts = run(group, group.words(size) or "", group.most_hours(size), program, seed)
+    if missed := found_by(MISSED, said):
+        status, said = FAILED, [*missed, *said]
+    seconds = round(time.monotonic() - begun, 1)
+    return Result(group.name, size, group.command(size), commit, digest, status, said, counts, seconds, seed, about)
+
+
+def as_started(groups: Sequence[Group]) -> list[Group]:
+    """The groups as they are started: those of tests that have no smallest run are one, whose tests are collected."""
+    rest = [it for it in groups if it.run.startswith(f"{TESTS} ") and it.starts is None]
+    files = dict.fromkeys(word for it in rest for word in it.run.split()[1:] if ".py" in word)
+    one = [replace(it, name=f"{len(rest)} of tests", run=" ".join([TESTS, *files])) for it in rest[:1]]
+    return [it for it in groups if it not in rest] + one
+
+
+def started(group: Group, program: Path) -> tuple[str, str]:
+    """What became of a group's smallest run, and what there is to say of it."""
+    begun, is_pytest = time.monotonic(), group.run.startswith(f"{TESTS} ") or "pytest" in group.run
+    words = ALONE[not is_pytest] if group.starts is None else group.starts
+    if lacking := group.lacks() if words not in ALONE else "":
+        return NOT_RUN, lacking
+    status, said, _ = run(group, words, SMALLEST, program, 7)
+    took = f"{words} in {time.monotonic() - begun:.1f} s"
+    return status, took if status == PASSED else "\n".join([words, *said]) if status == FAILED else "; ".join(said)

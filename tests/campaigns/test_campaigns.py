@@ -1,0 +1,233 @@
+"""Campaigns over a repository of three groups and one crate, which are made here, and the table of this one.
+
+Expected are the words of `tests/campaign --help`, tests/README.md and docs/decisions.md. No built program is needed.
+"""
+
+import json
+import shutil
+import signal
+import subprocess
+import sys
+import time
+from pathlib import Path
+
+import pytest
+
+from campaigns.groups import COMMON, TESTS, read_groups
+from campaigns.results import git
+from common.needs import ROOT
+
+TABLE = """
+[files]
+program = ["crates/*/src/*", ":!crates/*_tests/*"]
+
+[[group]]
+name = "first"
+run = "tests/first"
+short = ["--size 2", 1]
+release = ["--size 20", 1]
+of = ["program"]
+
+[[group]]
+name = "second"
+run = "tests/second"
+short = ["", 10]
+of = ["clients"]
+starts = ""
+
+[[group]]
+name = "absent"
+run = "tests/first"
+short = ["--of absent", 1]
+of = ["clients"]
+needs = ["no-such-command"]
+starts = ""
+"""
+FIRST = '#!/bin/sh\necho "tried with $*"\n'
+FILES = {
+    "tests/campaign.toml": TABLE, "tests/first": FIRST, "tests/second": '#!/bin/sh\nexec tail -f "$0"\n',
+    "crates/a/src/lib.rt": "one\n", "crates/a_tests/src/lib.rt": "one\n", "clients/page": "one\n", "docs/proof/a": "",
+}  # fmt: skip
+COPIED = "common/needs.py", "common/ports.py", "campaign", "all", "conftest.py", "pytest.ini"
+
+
+class Tree:
+    """A repository with a campaign."""
+
+    def __init__(self, top: Path):
+        self.top = top
+        for name, text in FILES.items():
+            self.put(name, text)
+        for name in COPIED:
+            self.put(f"tests/{name}", (ROOT / "tests" / name).read_text("utf-8"))
+        for name in ("first", "second", "all"):
+            (top / "tests" / name).chmod(0o755)
+        shutil.copytree(ROOT / "tests/campaigns", top / "tests/campaigns", ignore=shutil.ignore_patterns("test_*"))
+        self.git("init", "-q")
+        self.commit()
+
+    def put(self, name: str, text: str) -> None:
+        (self.top / name).parent.mkdir(parents=True, exist_ok=True)
+        (self.top / name).write_text(text, "utf-8")
+
+    def git(self, *words: str) -> None:
+        user = ["-c", "user.name=a", "-c", "user.email=a@localhost", "-c", "commit.gpgsign=false"]
+        subprocess.run(["git", "-C", self.top, *user, *words], check=True, capture_output=True)
+
+    def commit(self) -> None:
+        self.git("add", "-A")
+        self.git("commit", "-qm", "A commit")
+
+    def words(self, *words: str) -> list[str]:
+        return [sys.executable, "-B", str(self.top / "tests/campaign"), "--program", "/bin/true", *words]
+
+    def ran(self, *words: str) -> tuple[int, list[str]]:
+        """The status and what was said of a campaign."""
+        done = subprocess.run(self.words(*words), capture_output=True, text=True, timeout=300)
+        return done.returncode, (done.stdout + done.stderr).splitlines()
+
+    def kept(self) -> dict[str, dict]:
+        text = (self.top / "docs/proof/tried.json").read_text("utf-8")
+        return {it["group"]: it for it in json.loads(text)["results"]}
+
+
+@pytest.fixture
+def tree(tmp_path: Path) -> Tree:
+    return Tree(tmp_path / "tree")
+
+
+def test_results_are_kept(tree: Tree) -> None:
+    """With all that is owed of each, and not run again at the same size."""
+    assert tree.ran("--only", "first", "absent") == (0, [
+        "first: passed: tried with --size 2", "absent: NOT RUN: there is no no-such-command",
+        "1 passed, 0 failed, 1 not run",
+    ])  # fmt: skip
+    kept = tree.kept()["first"]
+    assert {"began", "tree", "toolchain", "program", "machine", "processors", "load"} == kept["about"].keys()
+    assert (kept["status"], kept["said"], kept["seed"]) == ("passed", ["tried with --size 2"], 7)
+    assert "| `tests/first --size 2` | tried with --size 2 |" in (tree.top / "docs/proof/tried.md").read_text("utf-8")
+    assert tree.ran("--only", "first")[1][0] == "first: passed: before"
+    assert tree.ran("--size", "5", "--only", "first")[1][0] == "first: passed: tried with --size 5"
+    assert tree.ran("--left", "--size", "release")[1][0] == "first: NOT RUN: left, 1 minutes at most"
+    assert tree.ran("--hours", "0.01", "--size", "release")[1][-1] == "0 passed, 0 failed, 1 not run"
+
+
+@pytest.mark.parametrize("is_committed", [False, True])
+def test_a_line_of_a_crate(tree: Tree, is_committed: bool) -> None:
+    """It makes the rows that are of it old, by name, and no others; the group is left again."""
+    tree.ran("--only", "first")
+    assert tree.ran("--judge") == (0, [])
+    tree.put("crates/a_tests/src/lib.rt", "two\n")
+    tree.put("clients/page", "two\n")
+    assert tree.ran("--judge") == (0, [])
+    tree.put("crates/a/src/lib.rt", "two\n")
+    if is_committed:
+        tree.commit()
+    [old] = tree.ran("--judge")[1]
+    assert old.startswith("old: docs/proof/tried.md: first (short) is of ") and old.endswith(": crates/a/src/lib.rt")
+    assert tree.ran("--only", "first")[1][0] == "first: passed: tried with --size 2"
+    assert bool(tree.ran("--judge")[1]) != is_committed
+
+
+def test_a_page_by_hand(tree: Tree) -> None:
+    """A page that isn't what the results make is a fault, and so is a row of no group; the old can be forgotten."""
+    tree.ran("--only", "first")
+    page = tree.top / "docs/proof/tried.md"
+    page.write_text(page.read_text("utf-8").replace("--size 2", "--size 3"), "utf-8")
+    assert [it[:6] for it in tree.ran("--judge")[1]] == ["fault:"]
+    assert (tree.ran("--page")[0], tree.ran("--judge")[1]) == (0, [])
+    tree.put("tests/campaign.toml", TABLE.replace('"first"', '"other"', 1))
+    assert tree.ran("--judge")[1][-1].endswith("first (short) is of no group of the table")
+    assert (tree.ran("--forget-old")[0], tree.kept(), tree.ran("--judge")[1]) == (0, {}, [])
+
+
+def test_a_failure(tree: Tree) -> None:
+    """It is red, never written as passed, said by --judge, and told behind its mending, with its seed."""
+    tree.put("tests/first", f"{FIRST}exit 3\n")
+    tree.commit()
+    status, said = tree.ran("--only", "first", "--seed", "9")
+    assert (status, said[-1]) == (1, "0 passed, 1 failed, 0 not run")
+    page = tree.top / "docs/proof/tried.md"
+    assert "| FAILED: it ended with status 3; tried with --size 2 |" in page.read_text("utf-8")
+    assert [it[:7] for it in tree.ran("--judge")[1]] == ["failed:"]
+    tree.put("tests/first", FIRST)
+    tree.commit()
+    assert tree.ran("--only", "first")[0] == 0
+    assert "; failed at" in page.read_text("utf-8") and "seed 9: it ended with status 3" in page.read_text("utf-8")
+
+
+def is_gone(name: str) -> bool:
+    """Whether no process runs this file any more."""
+    done = subprocess.run(["grep", "-slF", name, *Path("/proc").glob("[0-9]*/cmdline")], capture_output=True, text=True)
+    return not [it for it in done.stdout.splitlines() if "/self/" not in it]
+
+
+@pytest.mark.parametrize("sign", [signal.SIGKILL, signal.SIGTERM])
+def test_a_kill(tree: Tree, sign: int) -> None:
+    """Nothing is lost but the group under way, which ends too. Meanwhile another one is refused. The next goes on."""
+    with subprocess.Popen(tree.words(), stdout=subprocess.PIPE, text=True) as process:
+        assert process.stdout and process.stdout.readline().startswith("first: passed")
+        own = str(tree.top / "tests/second")
+        while is_gone(own):
+            time.sleep(0.1)
+        assert tree.ran("--only", "first") == (1, ["campaign: another one is under way over the results of this tree"])
+        process.send_signal(sign)
+    for _ in range(100):
+        if is_gone(own):
+            break
+        time.sleep(0.1)
+    assert is_gone(own) and tree.kept().keys() == {"first"}
+    tree.put("tests/second", "#!/bin/sh\nexit 77\n")
+    assert tree.ran()[1] == [
+        "first: passed: before", "second: NOT RUN: ", "absent: NOT RUN: there is no no-such-command",
+        "1 passed, 0 failed, 2 not run",
+    ]  # fmt: skip
+
+
+def test_starts(tree: Tree) -> None:
+    """What fails at its smallest is red, what can't run here says why, and nothing is kept."""
+    tree.put("tests/second", "#!/bin/sh\nexit 1\n")
+    status, said = tree.ran("--starts")
+    assert (status, said[-1]) == (1, "1 groups were started, 1 failed, 1 not run")
+    assert "absent: NOT RUN: there is no no-such-command" in said
+    assert not (tree.top / "docs/proof/tried.json").exists()
+
+
+SOME = """import pytest
+def test_good(found):
+    found("12345 tried")
+def test_bad():
+    assert 1 == 2
+@pytest.mark.needs("no-such-command")
+def test_absent():
+    pass
+"""
+
+
+@pytest.mark.parametrize(("word", "status", "said"), [
+    ("good", "passed", "one: passed: 12345 tried"), ("bad", "failed", "one: FAILED: test_bad: assert 1 == 2"),
+    ("none", "failed", "one: FAILED: it ended with status 5"), ("'good or bad'", "failed", "one: FAILED: test_bad: "),
+    ("'good or absent'", "passed", "one: passed: 12345 tried"), ("absent", "", "one: NOT RUN: there is no no-such"),
+])  # fmt: skip
+def test_counts(tree: Tree, word: str, status: str, said: str) -> None:
+    """Those of tests are what they say: pytest's numbers, and the lines that they tell."""
+    tree.put("tests/some/test_some.py", SOME)
+    row = f'name = "one"\nrun = "tests/all some/test_some.py"\nof = []\nshort = ["-k {word}", 5]\n'
+    tree.put("tests/campaign.toml", f"[files]\n[[group]]\n{row}")
+    assert tree.ran()[1][0].startswith(said)
+    if status:
+        counted = {"passed": "good" in word, "failed": "bad" in word, "skipped": "absent" in word}
+        kept, counts = tree.kept()["one"], {name: 1 for name, is_there in counted.items() if is_there}
+        assert (kept["status"], kept.get("counts", {})) == (status, counts)
+
+
+def test_the_table() -> None:
+    """Each test and each measure is of a group, and each pattern is of a file; else no change would make a row old."""
+    groups = read_groups()
+    run = {word for it in groups.values() for word in it.run.split()}
+    tests = {str(it.relative_to(ROOT / "tests")) for it in (ROOT / "tests").rglob("test_*.py")}
+    measures = {it.name for it in (ROOT / "bench").iterdir() if it.is_file() and it.stat().st_mode & 0o100} - {"run"}
+    assert tests - run == {"campaigns/test_campaigns.py"} and measures - {"client"} <= run
+    patterns = {it for group in groups.values() for it in group.of if not it.startswith(":!")}
+    assert git("ls-files", "--error-unmatch", "--", *patterns).stderr == ""
+    assert all({*COMMON} < {*it.of} for it in groups.values() if it.program == TESTS)
