@@ -1,4 +1,4 @@
-"""The machine, the commit and the program of figures, for `all` and `sizes`."""
+"""The machine, the commit and the program of figures, for `sizes`."""
 
 import hashlib
 import os

@@ -49,6 +49,9 @@ class Result:
     about: dict[str, Any] = field(default_factory=dict)
     failures: list[str] = field(default_factory=list)
 
+    def counted(self) -> str:
+        return ", ".join(f"{count} {name}" for name, count in self.counts.items())
+
 
 def read_results() -> list[Result]:
     return [Result(**row) for row in json.loads(FILE.read_text("utf-8"))] if FILE.exists() else []
@@ -67,7 +70,7 @@ def why_old(result: Result, group: Group | None, files: Mapping[str, str]) -> st
 
 def row_of(result: Result) -> str:
     """A row of the page: what failed, a measure's goals, or what was said; of much, the counts and its end."""
-    is_failed, counts = result.status == FAILED, ", ".join(f"{it} {name}" for name, it in result.counts.items())
+    is_failed, counts = result.status == FAILED, result.counted()
     said = [line.strip() for line in result.said if GOAL.fullmatch(line) and not is_failed] or result.said
     text = f"{'FAILED: ' * is_failed}{'; '.join(said) or counts}"
     if len(text) > LONGEST and not is_failed:

@@ -4,6 +4,7 @@ Expected are the words of `tests/campaign --help`, tests/README.md and docs/deci
 """
 
 import json
+import re
 import shutil
 import signal
 import subprocess
@@ -13,35 +14,22 @@ from pathlib import Path
 
 import pytest
 
-from campaigns.groups import COMMON, TESTS, read_groups
-from campaigns.results import git
+from campaigns.groups import files_here, read_groups
 from common.needs import ROOT
 
-TABLE = """
+TABLE = r"""
 [files]
-program = ["crates/*/src/*", ":!crates/*_tests/*"]
+program = 'crates/(?!test_)\w+(?<!_tests)/src/'
+clients = 'clients/'
 
-[[group]]
-name = "first"
-run = "tests/first"
-short = ["--size 2", 1]
-release = ["--size 20", 1]
-of = ["program"]
+[groups]
+first = {run = "tests/first", short = "--size 2", release = "--size 20", of = "program"}
+second = {run = "tests/second", short = "", of = "clients"}
+absent = {run = "tests/first", short = "--of absent", of = "clients", needs = "no-such-command"}
 
-[[group]]
-name = "second"
-run = "tests/second"
-short = ["", 10]
-of = ["clients"]
-starts = ""
-
-[[group]]
-name = "absent"
-run = "tests/first"
-short = ["--of absent", 1]
-of = ["clients"]
-needs = ["no-such-command"]
-starts = ""
+[starts]
+second = ""
+absent = ""
 """
 FIRST = '#!/bin/sh\necho "tried with $*"\n'
 FILES = {
@@ -87,8 +75,10 @@ class Tree:
         return done.returncode, (done.stdout + done.stderr).splitlines()
 
     def kept(self) -> dict[str, dict]:
-        text = (self.top / "docs/proof/tried.json").read_text("utf-8")
-        return {it["group"]: it for it in json.loads(text)["results"]}
+        return {it["group"]: it for it in json.loads((self.top / "docs/proof/tried.json").read_text("utf-8"))}
+
+    def page(self) -> str:
+        return (self.top / "docs/proof/tried.md").read_text("utf-8")
 
 
 @pytest.fixture
@@ -103,57 +93,58 @@ def test_results_are_kept(tree: Tree) -> None:
         "1 passed, 0 failed, 1 not run",
     ])  # fmt: skip
     kept = tree.kept()["first"]
-    assert {"began", "tree", "toolchain", "program", "machine", "processors", "load"} == kept["about"].keys()
+    assert {"began", "toolchain", "program", "machine", "processors", "load"} == kept["about"].keys()
     assert (kept["status"], kept["said"], kept["seed"]) == ("passed", ["tried with --size 2"], 7)
-    assert "| `tests/first --size 2` | tried with --size 2 |" in (tree.top / "docs/proof/tried.md").read_text("utf-8")
+    assert "| `tests/first --size 2` | tried with --size 2 |" in tree.page()
     assert tree.ran("--only", "first")[1][0] == "first: passed: before"
     assert tree.ran("--size", "5", "--only", "first")[1][0] == "first: passed: tried with --size 5"
-    assert tree.ran("--left", "--size", "release")[1][0] == "first: NOT RUN: left, 1 minutes at most"
-    assert tree.ran("--hours", "0.01", "--size", "release")[1][-1] == "0 passed, 0 failed, 1 not run"
+    assert "| left, 3 of 3: first --size 20; second; absent |" in tree.page()
+    assert tree.ran("--left", "--size", "release")[1][0] == "first: NOT RUN: left, 5 h at most"
+    assert tree.ran("--hours", "0.01", "--size", "release")[1][-1] == "0 passed, 0 failed, 3 not run"
 
 
-@pytest.mark.parametrize("is_committed", [False, True])
-def test_a_line_of_a_crate(tree: Tree, is_committed: bool) -> None:
-    """It makes the rows that are of it old, by name, and no others; the group is left again."""
+def test_a_line_that_is_changed(tree: Tree) -> None:
+    """It makes the rows that are of it old, by name, before its commit and behind it, and no others."""
     tree.ran("--only", "first")
     assert tree.ran("--judge") == (0, [])
     tree.put("crates/a_tests/src/lib.rt", "two\n")
     tree.put("clients/page", "two\n")
     assert tree.ran("--judge") == (0, [])
-    tree.put("crates/a/src/lib.rt", "two\n")
-    if is_committed:
-        tree.commit()
+    tree.put("crates/a/src/new.rt", "two\n")
     [old] = tree.ran("--judge")[1]
-    assert old.startswith("old: docs/proof/tried.md: first (short) is of ") and old.endswith(": crates/a/src/lib.rt")
+    assert old.startswith("old: docs/proof/tried.md: first (short) is of ")
+    tree.commit()
+    [old] = tree.ran("--judge")[1]
+    assert old.endswith("changed since: crates/a/src/new.rt")
     assert tree.ran("--only", "first")[1][0] == "first: passed: tried with --size 2"
-    assert bool(tree.ran("--judge")[1]) != is_committed
+    assert tree.ran("--judge")[1] == []
 
 
 def test_a_page_by_hand(tree: Tree) -> None:
-    """A page that isn't what the results make is a fault, and so is a row of no group; the old can be forgotten."""
+    """A page that isn't what the results make is a fault, and so is a row of no group; --page mends both."""
     tree.ran("--only", "first")
-    page = tree.top / "docs/proof/tried.md"
-    page.write_text(page.read_text("utf-8").replace("--size 2", "--size 3"), "utf-8")
+    (tree.top / "docs/proof/tried.md").write_text(f"{tree.page()}| `tests/first` | none lost | a |\n", "utf-8")
     assert [it[:6] for it in tree.ran("--judge")[1]] == ["fault:"]
     assert (tree.ran("--page")[0], tree.ran("--judge")[1]) == (0, [])
-    tree.put("tests/campaign.toml", TABLE.replace('"first"', '"other"', 1))
+    tree.put("tests/campaign.toml", TABLE.replace("first =", "other =", 1))
     assert tree.ran("--judge")[1][-1].endswith("first (short) is of no group of the table")
-    assert (tree.ran("--forget-old")[0], tree.kept(), tree.ran("--judge")[1]) == (0, {}, [])
+    assert (tree.ran("--page")[0], tree.kept(), tree.ran("--judge")[1]) == (0, {}, [])
 
 
 def test_a_failure(tree: Tree) -> None:
     """It is red, never written as passed, said by --judge, and told behind its mending, with its seed."""
     tree.put("tests/first", f"{FIRST}exit 3\n")
-    tree.commit()
     status, said = tree.ran("--only", "first", "--seed", "9")
     assert (status, said[-1]) == (1, "0 passed, 1 failed, 0 not run")
-    page = tree.top / "docs/proof/tried.md"
-    assert "| FAILED: it ended with status 3; tried with --size 2 |" in page.read_text("utf-8")
+    assert "| FAILED: it ended with status 3; tried with --size 2 |" in tree.page()
     assert [it[:7] for it in tree.ran("--judge")[1]] == ["failed:"]
-    tree.put("tests/first", FIRST)
-    tree.commit()
+    tree.put("tests/first", FIRST.replace("tried", "the ratio, missed; tried"))
     assert tree.ran("--only", "first")[0] == 0
-    assert "; failed at" in page.read_text("utf-8") and "seed 9: it ended with status 3" in page.read_text("utf-8")
+    tree.put("tests/first", f"{FIRST}echo 'the ratio, at least 1.1: 1.0, missed'\n")
+    assert tree.ran("--only", "first")[0] == 1
+    tree.put("tests/first", FIRST)
+    assert tree.ran("--only", "first")[0] == 0
+    assert re.search(r"; failed at .* seed 9: it ended with status 3; failed at .* seed 7: the ratio,", tree.page())
 
 
 def is_gone(name: str) -> bool:
@@ -188,7 +179,7 @@ def test_starts(tree: Tree) -> None:
     """What fails at its smallest is red, what can't run here says why, and nothing is kept."""
     tree.put("tests/second", "#!/bin/sh\nexit 1\n")
     status, said = tree.ran("--starts")
-    assert (status, said[-1]) == (1, "1 groups were started, 1 failed, 1 not run")
+    assert (status, said[-1]) == (1, "1 passed, 1 failed, 1 not run")
     assert "absent: NOT RUN: there is no no-such-command" in said
     assert not (tree.top / "docs/proof/tried.json").exists()
 
@@ -204,30 +195,32 @@ def test_absent():
 """
 
 
-@pytest.mark.parametrize(("word", "status", "said"), [
-    ("good", "passed", "one: passed: 12345 tried"), ("bad", "failed", "one: FAILED: test_bad: assert 1 == 2"),
-    ("none", "failed", "one: FAILED: it ended with status 5"), ("'good or bad'", "failed", "one: FAILED: test_bad: "),
-    ("'good or absent'", "passed", "one: passed: 12345 tried"), ("absent", "", "one: NOT RUN: there is no no-such"),
+@pytest.mark.parametrize(("word", "said"), [
+    ("good", "one: passed: 12345 tried"), ("bad", "one: FAILED: some/test_some.py::test_bad - assert 1 == 2"),
+    ("none", "one: FAILED: it ended with status 5"), ("'good or bad'", "one: FAILED: some/test_some.py::test_bad - "),
+    ("'good or absent'", "one: passed: 12345 tried"), ("absent", "one: NOT RUN: there is no no-such-command"),
 ])  # fmt: skip
-def test_counts(tree: Tree, word: str, status: str, said: str) -> None:
+def test_counts(tree: Tree, word: str, said: str) -> None:
     """Those of tests are what they say: pytest's numbers, and the lines that they tell."""
     tree.put("tests/some/test_some.py", SOME)
-    row = f'name = "one"\nrun = "tests/all some/test_some.py"\nof = []\nshort = ["-k {word}", 5]\n'
-    tree.put("tests/campaign.toml", f"[files]\n[[group]]\n{row}")
+    row = f"""[groups]\none = {{tests = "some/test_some.py", short = "-k {word}"}}\n"""
+    tree.put("tests/campaign.toml", f"[files]\nprogram = 'none'\n{row}[starts]\n")
     assert tree.ran()[1][0].startswith(said)
-    if status:
+    if "absent" != word != "none":
         counted = {"passed": "good" in word, "failed": "bad" in word, "skipped": "absent" in word}
-        kept, counts = tree.kept()["one"], {name: 1 for name, is_there in counted.items() if is_there}
-        assert (kept["status"], kept.get("counts", {})) == (status, counts)
+        assert tree.kept()["one"]["counts"] == {name: 1 for name, is_there in counted.items() if is_there}
 
 
 def test_the_table() -> None:
-    """Each test and each measure is of a group, and each pattern is of a file; else no change would make a row old."""
-    groups = read_groups()
-    run = {word for it in groups.values() for word in it.run.split()}
-    tests = {str(it.relative_to(ROOT / "tests")) for it in (ROOT / "tests").rglob("test_*.py")}
+    """Each test and each measure is of a group, and each file of a crate, of deploy or of a client too; else no change
+    of it would make a row old. A group's pattern is of what it runs."""
+    groups, files = read_groups(), files_here()
+    run = {word.partition("::")[0] for it in groups.values() for word in it.run.split()}
+    tests = {name.removeprefix("tests/") for name in files if re.fullmatch(r"tests/.*/test_\w+\.py", name)}
     measures = {it.name for it in (ROOT / "bench").iterdir() if it.is_file() and it.stat().st_mode & 0o100} - {"run"}
     assert tests - run == {"campaigns/test_campaigns.py"} and measures - {"client"} <= run
-    patterns = {it for group in groups.values() for it in group.of if not it.startswith(":!")}
-    assert git("ls-files", "--error-unmatch", "--", *patterns).stderr == ""
-    assert all({*COMMON} < {*it.of} for it in groups.values() if it.program == TESTS)
+    watched = [name for name in files if re.match(r"(crates|deploy|clients|python|kit)/.*(?<!\.md)$", name)]
+    bare = [name for name in watched if not any(re.match(it.of, name) for it in groups.values())]
+    assert len(watched) > 1000 and bare == []
+    run_by = {it: it.run.split()[0] for it in groups.values()}
+    assert [it.name for it, program in run_by.items() if program in files and not re.match(it.of, program)] == []
