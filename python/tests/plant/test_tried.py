@@ -19,7 +19,7 @@ keep([Result(*row, PASSED, ["lost 0"]) for row in rows], groups)
 """
 # A file, groups that are of it, and groups that aren't.
 CHANGED = {
-    "crates/office_core/src/make.rt": ("kill statuses client serving rules", "plant"),
+    "crates/office_core/src/office.rt": ("kill statuses client serving rules", "plant"),
     "crates/file_tests/src/upgrades.rt": ("strength strength-tests rules", "kill client serving"),
     "deploy/nginx.conf": ("tokens shards hostile plant", "kill replay store"),
     "python/wanekupo/seat/keys.py": ("client replay lots crafted", "kill store rules"),
@@ -60,7 +60,8 @@ def test_a_row_by_hand(tree: Path) -> None:
         with (tree / name).open("a", encoding="utf-8") as file:
             file.write(line)
     status, lines = said_by(tree, "tools/pages", "--check")
-    told = [it.partition(" docs/proof/tried.md: ")[2].split()[0] for it in lines if it.startswith("pages: no fault, but old:")]
-    faults = [it for it in lines if not it.startswith("pages: no fault, but old:")]
-    assert status == 1 and {"tokens", "shards"} <= set(told) and "kill" not in told
+    front = "pages: no fault, but old: docs/proof/tried.md: "
+    named = [it.removeprefix(front).split()[0] for it in lines if it.startswith(front)]
+    faults = [it for it in lines if not it.startswith(front)]
+    assert status == 1 and {"tokens", "shards"} <= set(named) and "kill" not in named
     assert len(faults) == 1 and faults[0].startswith("pages: fault: docs/proof/tried.md isn't what tried.json")
