@@ -222,5 +222,5 @@ def test_the_table() -> None:
     watched = [name for name in files if re.match(r"(crates|deploy|clients|python|kit)/.*(?<!\.md)$", name)]
     bare = [name for name in watched if not any(re.match(it.of, name) for it in groups.values())]
     assert len(watched) > 1000 and bare == []
-    run_by = {it: it.run.split()[0] for it in groups.values()}
-    assert [it.name for it, program in run_by.items() if program in files and not re.match(it.of, program)] == []
+    programs = {name: it.run.split()[0] for name, it in groups.items()}
+    assert [it for it, run in programs.items() if run in files and not re.match(groups[it].of, run)] == []
