@@ -1,5 +1,6 @@
 """The groups of campaign.toml: what each runs at which size, of which files it is, and what it takes of a machine."""
 
+import functools
 import hashlib
 import os
 import re
@@ -12,7 +13,7 @@ from typing import Any
 
 from common.needs import ROOT, missing
 
-SHORT, RELEASE = "short", "release"
+SHORT, RELEASE, STARTS = "short", "release", "starts"
 TESTS, MEASURES, CLIENTS = "tests/all", "bench/run", "bench/client"
 # What all of a kind stand on, as patterns of names.
 COMMON = {
@@ -29,16 +30,17 @@ def git(*words: str, given: str = "") -> str:
     return subprocess.run(words, input=given, capture_output=True, text=True, check=False).stdout
 
 
-def changed_here() -> list[str]:
-    """The names of files that aren't as the commit has them."""
-    told = git("diff", "-z", "--name-only", "HEAD") + git("ls-files", "-zo", "--exclude-standard")
-    return told.split("\0")[:-1]
+@functools.cache
+def changed_since(commit: str) -> list[str]:
+    """The names of files that aren't as a commit has them."""
+    return git("diff", "--name-only", commit).splitlines() + git("ls-files", "-o", "--exclude-standard").splitlines()
 
 
 def files_here() -> dict[str, str]:
     """What git calls the text of each file of the tree, committed or not."""
     rows = (row.split("\t", 1) for row in git("ls-files", "-sz").split("\0")[:-1])
-    changed = changed_here()
+    changed_since.cache_clear()
+    changed = changed_since("HEAD")
     there = [name for name in changed if (ROOT / name).is_file()]
     texts = git("hash-object", "--stdin-paths", given="".join(f"{name}\n" for name in there)).split()
     files = {name: about.split()[1] for about, name in rows if name not in changed}
@@ -55,9 +57,7 @@ class Group:
     sizes: Mapping[str, str]
     hours: float
     needs: tuple[str, ...]
-    processors: int
     is_quiet: bool
-    starts: str | None
 
     def words(self, size: str) -> str | None:
         """Its words at a size, which may be a number; None where it has no such size."""
@@ -77,13 +77,13 @@ class Group:
 
     def lacks(self) -> str:
         """Why it can't run here, or nothing."""
-        if lacking := missing(self.needs):
-            return f"there is no {', '.join(lacking)}"
-        there = len(os.sched_getaffinity(0))
-        return f"it takes {self.processors} processors, of {there}" if there < self.processors else ""
+        there, many = len(os.sched_getaffinity(0)), [it for it in self.needs if it.isdigit()]
+        lacking = missing(it for it in self.needs if it not in many)
+        lacking += [f"{it} processors" for it in many if int(it) > there]
+        return f"this machine lacks {', '.join(lacking)}" if lacking else ""
 
 
-def group_of(name: str, row: Mapping[str, Any], sets: Mapping[str, str], starts: str | None) -> Group:
+def group_of(name: str, row: Mapping[str, Any], sets: Mapping[str, str]) -> Group:
     """A row of the table. It is of the program if it gets it, of what it runs, and of what it names."""
     run = {"tests": f"{TESTS} ", "bench": f"{MEASURES} "}.get(next(iter(row)), "") + next(iter(row.values()))
     first, *words = shlex.split(run)
@@ -91,13 +91,9 @@ def group_of(name: str, row: Mapping[str, Any], sets: Mapping[str, str], starts:
     own = [f"tests/({it}$|{it.partition('/')[0]}/(?!test_))" for it in files]
     own += [COMMON.get(first, f"{first}$"), *([f"bench/{words[0]}$"] if first == MEASURES else [])]
     named = ["program"] * (first in (TESTS, MEASURES, CLIENTS)) + row.get("of", "").split()
-    needs = row.get("needs", "").split()
-    return Group(
-        name, run, "|".join([*own, *map(sets.__getitem__, named)]),
-        {RELEASE: ""} | {size: row[size] for size in (SHORT, RELEASE) if size in row},
-        row.get("hours", HOURS), tuple(it for it in needs if not it.isdigit()),
-        int(next(filter(str.isdigit, needs), 1)), row.get("quiet", first == MEASURES), starts,
-    )  # fmt: skip
+    sizes = {RELEASE: ""} | {size: row[size] for size in (SHORT, RELEASE, STARTS) if size in row}
+    pattern, needs = "|".join([*own, *map(sets.__getitem__, named)]), tuple(row.get("needs", "").split())
+    return Group(name, run, pattern, sizes, row.get("hours", HOURS), needs, row.get("quiet", first == MEASURES))
 
 
 def read_groups() -> dict[str, Group]:
@@ -106,6 +102,7 @@ def read_groups() -> dict[str, Group]:
     rows = dict[str, Mapping[str, Any]]()
     for name, row in table["groups"].items():
         kind, run = next(iter(row.items()))
+        row |= {STARTS: table[STARTS][name]} if name in table[STARTS] else {}
         seeds = range(FIRST_SEED, FIRST_SEED + row.get("seeds", 0))
         rows |= {f"{name}-{seed}": row | {kind: f"{run} --seed {seed}"} for seed in seeds} or {name: row}
-    return {name: group_of(name, row, table["files"], table["starts"].get(name)) for name, row in rows.items()}
+    return {name: group_of(name, row, table["files"]) for name, row in rows.items()}

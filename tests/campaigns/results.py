@@ -7,10 +7,9 @@ import re
 import sys
 from collections.abc import Iterator, Mapping, Sequence
 from dataclasses import asdict, dataclass, field
-from pathlib import Path
 from typing import Any
 
-from campaigns.groups import RELEASE, Group, files_here, git
+from campaigns.groups import RELEASE, Group, changed_since, files_here
 from common.needs import ROOT
 
 FILE = ROOT / "docs/proof/tried.json"
@@ -21,10 +20,10 @@ LONGEST = 400
 GOAL, NUMBER = re.compile(r".*, (?:met|missed)$"), re.compile(r"(?<![\w.,:-])\d{4,}(?![\w:-])")
 HEAD = """# What was tried, and when
 
-`tests/campaign` writes this page of [tried.json](tried.json), which has more of each row, and
+`tests/campaign` writes this page of [tried.json](tried.json), and
 [nobody else does](../../tests/README.md#a-campaign). `tools/pages` names each row whose files have
-changed since. *Lost* is a reply that the books don't have, *twice* what they have too often. What
-was measured before is in [the results](../../bench/RESULTS.md).
+changed since. *Lost* is a reply that the books don't have, *twice* what they have too often. All
+that a group said: `jq -r '.[] | select(.group == "serving") | .said[]' tried.json`.
 
 | Command | What it found | Commit |
 |---|---|---|
@@ -49,9 +48,6 @@ class Result:
     about: dict[str, Any] = field(default_factory=dict)
     failures: list[str] = field(default_factory=list)
 
-    def counted(self) -> str:
-        return ", ".join(f"{count} {name}" for name, count in self.counts.items())
-
 
 def read_results() -> list[Result]:
     return [Result(**row) for row in json.loads(FILE.read_text("utf-8"))] if FILE.exists() else []
@@ -63,21 +59,24 @@ def why_old(result: Result, group: Group | None, files: Mapping[str, str]) -> st
         return "of no group of the table"
     if result.digest == group.digest(result.size, files):
         return ""
-    changed = git("diff", "--name-only", result.commit.split()[0]).splitlines()
-    names = [name for name in changed if re.match(group.of, name)] or ["its command or its files"]
+    changed = changed_since(result.commit.partition(" ")[0])
+    names = [it for it in changed if re.match(group.of, it)] or ["its command or its files"]
     return f"of {result.commit}; changed since: {names[0]}{f' and {len(names) - 1} more' * (len(names) > 1)}"
 
 
-def row_of(result: Result) -> str:
-    """A row of the page: what failed, a measure's goals, or what was said; of much, the counts and its end."""
-    is_failed, counts = result.status == FAILED, result.counted()
+def told(result: Result) -> str:
+    """What failed, a measure's goals, or what was said; of much, the counts and its end."""
+    is_failed, counts = result.status == FAILED, ", ".join(f"{it} {name}" for name, it in result.counts.items())
     said = [line.strip() for line in result.said if GOAL.fullmatch(line) and not is_failed] or result.said
     text = f"{'FAILED: ' * is_failed}{'; '.join(said) or counts}"
-    if len(text) > LONGEST and not is_failed:
-        text = f"{counts or f'{len(said)} lines'}; the last: {said[-1]}"
-    text = NUMBER.sub(lambda number: f"{int(number[0]):,}", text[:LONGEST])
+    text = f"{counts or f'{len(said)} lines'}; the last: {said[-1]}" if len(text) > LONGEST and not is_failed else text
+    return NUMBER.sub(lambda number: f"{int(number[0]):,}", text[:LONGEST])
+
+
+def row_of(result: Result) -> str:
+    """A row of the page."""
     minutes = (result.seconds or 0) / 60
-    found = "; ".join([text, *([f"in {minutes:.0f} min"] if minutes >= 1 else []), *result.failures])
+    found = "; ".join([told(result), *([f"in {minutes:.0f} min"] if minutes >= 1 else []), *result.failures])
     seed = f" --seed {result.seed}" * (result.command.startswith("tests/all") and " --seed " not in result.command)
     cells = (f"`{result.command}{seed}`", found, result.commit)
     return "".join(f"| {cell.replace('|', '/')} " for cell in cells) + "|\n"
@@ -93,18 +92,14 @@ def page_of(results: Sequence[Result], groups: Mapping[str, Group]) -> str:
     return HEAD + "".join(map(row_of, rows)) + last
 
 
-def replace_text(file: Path, text: str) -> None:
-    """Writes a file whole or not at all."""
-    new = file.with_name(f".{file.name}-new")
-    new.write_text(text, "utf-8")
-    os.replace(new, file)
-
-
 def keep(results: Sequence[Result], groups: Mapping[str, Group]) -> None:
-    """Keeps the results, a line each, and writes their page."""
+    """Keeps the results, a line each, and writes their page: each file whole or not at all."""
     rows = [{name: value for name, value in asdict(it).items() if value not in (None, [], {})} for it in results]
-    replace_text(FILE, "[\n" + ",\n".join(json.dumps(row, ensure_ascii=False) for row in rows) + "\n]\n")
-    replace_text(PAGE, page_of(results, groups))
+    text = "[\n" + ",\n".join(json.dumps(row, ensure_ascii=False) for row in rows) + "\n]\n"
+    for file, own in ((FILE, text), (PAGE, page_of(results, groups))):
+        new = file.with_name(f".{file.name}-new")
+        new.write_text(own, "utf-8")
+        os.replace(new, file)
 
 
 def keep_new(new: Result, groups: Mapping[str, Group]) -> None:
@@ -118,15 +113,14 @@ def keep_new(new: Result, groups: Mapping[str, Group]) -> None:
 
 
 def judged(groups: Mapping[str, Group]) -> Iterator[str]:
-    """`fault:` where the page isn't as written, `failed:` each row that failed, `old:` each of another tree."""
+    """`fault:` where the page isn't as written; `failed:` or `old:` of each row that failed or is of another tree."""
     results, files = read_results(), files_here()
     if not PAGE.exists() or PAGE.read_text("utf-8") != page_of(results, groups):
         yield f"fault: {SHOWN} isn't what {FILE.name} and tests/campaign.toml make: tests/campaign --page writes it"
     for it in results:
-        if it.status == FAILED:
-            yield f"failed: {SHOWN}: {it.group} ({it.size}): {it.said[0]}"
-        if why := why_old(it, groups.get(it.group), files):
-            yield f"old: {SHOWN}: {it.group} ({it.size}) is {why}"
+        why, row = why_old(it, groups.get(it.group), files), f"{SHOWN}: {it.group} ({it.size})"
+        if why or it.status == FAILED:
+            yield f"failed: {row}: {it.said[0]}" if it.status == FAILED else f"old: {row} is {why}"
 
 
 def lock() -> None:

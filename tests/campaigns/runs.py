@@ -11,12 +11,11 @@ import tempfile
 import time
 from collections.abc import Sequence
 from contextlib import suppress
-from dataclasses import replace
 from datetime import UTC, datetime
 from pathlib import Path
 from typing import Any
 
-from campaigns.groups import CLIENTS, MEASURES, TESTS, Group, changed_here, files_here, git
+from campaigns.groups import CLIENTS, FIRST_SEED, MEASURES, STARTS, TESTS, Group, changed_since, files_here, git
 from campaigns.results import FAILED, NOT_RUN, PASSED, Result
 from common.needs import APART, ROOT, may_be_apart
 
@@ -26,7 +25,6 @@ TAIL, KEPT, CLEARING, SMALLEST = 12, 400, 60, 1 / 6
 FAULT, LEFT_OUT = re.compile(r"(?:FAILED|ERROR) (\S+ - .*)"), re.compile(r"SKIPPED \[\d+\] \S+: (.*)")
 MISSED, STOPPED = re.compile(r"(.*, missed)"), (124, 137)
 COUNT = re.compile(r"\b(\d+) (passed|failed|skipped|xfailed|errors?|refused|not|tests)\b")
-ALONE = ("--collect-only", "--help")
 
 
 def ended(words: Sequence[str], folder: Path, hours: float, is_measure: bool) -> int:
@@ -94,11 +92,11 @@ def about_here(program: Path) -> dict[str, Any]:
 
 def tried(group: Group, size: str, program: Path, seed: int) -> Result:
     """Runs a group at a size, and says what became of it. A missed goal fails."""
-    own, begun = re.search(r" --seed (\d+)", group.run), time.monotonic()
+    digest, own, begun = group.digest(size, files_here()), re.search(r" --seed (\d+)", group.run), time.monotonic()
     seed = int(own[1]) if own else seed
-    is_changed = any(re.match(group.of, name) for name in changed_here())
+    is_changed = any(re.match(group.of, name) for name in changed_since("HEAD"))
     commit = git("log", "-1", "--abbrev=8", "--format=%h of %cs").strip() + " and changed files" * is_changed
-    digest, about = group.digest(size, files_here()), about_here(program)
+    about = about_here(program)
     status, said, counts = run(group, group.words(size) or "", group.most_hours(size), program, seed)
     if missed := found_by(MISSED, said):
         status, said = FAILED, [*missed, *said]
@@ -106,20 +104,12 @@ def tried(group: Group, size: str, program: Path, seed: int) -> Result:
     return Result(group.name, size, group.command(size), commit, digest, status, said, counts, seconds, seed, about)
 
 
-def as_started(groups: Sequence[Group]) -> list[Group]:
-    """The groups as they are started: those of tests that have no smallest run are one, whose tests are collected."""
-    rest = [it for it in groups if it.run.startswith(f"{TESTS} ") and it.starts is None]
-    files = dict.fromkeys(word for it in rest for word in it.run.split()[1:] if ".py" in word)
-    one = [replace(it, name=f"{len(rest)} of tests", run=" ".join([TESTS, *files])) for it in rest[:1]]
-    return [it for it in groups if it not in rest] + one
-
-
 def started(group: Group, program: Path) -> tuple[str, str]:
-    """What became of a group's smallest run, and what there is to say of it."""
-    begun, is_pytest = time.monotonic(), group.run.startswith(f"{TESTS} ") or "pytest" in group.run
-    words = ALONE[not is_pytest] if group.starts is None else group.starts
-    if lacking := group.lacks() if words not in ALONE else "":
-        return NOT_RUN, lacking
-    status, said, _ = run(group, words, SMALLEST, program, 7)
-    took = f"{words} in {time.monotonic() - begun:.1f} s"
-    return status, took if status == PASSED else "\n".join([words, *said]) if status == FAILED else "; ".join(said)
+    """What becomes of a group's smallest run, or of its help, or of its tests that are collected."""
+    begun, alone = time.monotonic(), "--collect-only" if re.search(r"tests/all|pytest", group.run) else "--help"
+    words = group.words(STARTS) or alone
+    lacking = group.lacks() if words != alone else ""
+    status, said, _ = (NOT_RUN, [lacking], {}) if lacking else run(group, words, SMALLEST, program, FIRST_SEED)
+    took = [f"{words} in {time.monotonic() - begun:.1f} s"] if status != NOT_RUN else []
+    told = "; ".join([*took, *(said if status != PASSED else [])])
+    return status, f"{group.name}: {status if status == PASSED else status.upper()}: {told}"

@@ -28,8 +28,8 @@ second = {run = "tests/second", short = "", of = "clients"}
 absent = {run = "tests/first", short = "--of absent", of = "clients", needs = "no-such-command"}
 
 [starts]
-second = ""
-absent = ""
+second = "now"
+absent = "now"
 """
 FIRST = '#!/bin/sh\necho "tried with $*"\n'
 FILES = {
@@ -89,7 +89,7 @@ def tree(tmp_path: Path) -> Tree:
 def test_results_are_kept(tree: Tree) -> None:
     """With all that is owed of each, and not run again at the same size."""
     assert tree.ran("--only", "first", "absent") == (0, [
-        "first: passed: tried with --size 2", "absent: NOT RUN: there is no no-such-command",
+        "first: passed: tried with --size 2", "absent: NOT RUN: this machine lacks no-such-command",
         "1 passed, 0 failed, 1 not run",
     ])  # fmt: skip
     kept = tree.kept()["first"]
@@ -170,7 +170,7 @@ def test_a_kill(tree: Tree, sign: int) -> None:
     assert is_gone(own) and tree.kept().keys() == {"first"}
     tree.put("tests/second", "#!/bin/sh\nexit 77\n")
     assert tree.ran()[1] == [
-        "first: passed: before", "second: NOT RUN: ", "absent: NOT RUN: there is no no-such-command",
+        "first: passed: before", "second: NOT RUN: ", "absent: NOT RUN: this machine lacks no-such-command",
         "1 passed, 0 failed, 2 not run",
     ]  # fmt: skip
 
@@ -180,7 +180,7 @@ def test_starts(tree: Tree) -> None:
     tree.put("tests/second", "#!/bin/sh\nexit 1\n")
     status, said = tree.ran("--starts")
     assert (status, said[-1]) == (1, "1 passed, 1 failed, 1 not run")
-    assert "absent: NOT RUN: there is no no-such-command" in said
+    assert "absent: NOT RUN: this machine lacks no-such-command" in said
     assert not (tree.top / "docs/proof/tried.json").exists()
 
 
@@ -196,9 +196,9 @@ def test_absent():
 
 
 @pytest.mark.parametrize(("word", "said"), [
-    ("good", "one: passed: 12345 tried"), ("bad", "one: FAILED: some/test_some.py::test_bad - assert 1 == 2"),
+    ("good", "one: passed: 12,345 tried"), ("bad", "one: FAILED: some/test_some.py::test_bad - assert 1 == 2"),
     ("none", "one: FAILED: it ended with status 5"), ("'good or bad'", "one: FAILED: some/test_some.py::test_bad - "),
-    ("'good or absent'", "one: passed: 12345 tried"), ("absent", "one: NOT RUN: there is no no-such-command"),
+    ("'good or absent'", "one: passed: 12,345 tried"), ("absent", "one: NOT RUN: there is no no-such-command"),
 ])  # fmt: skip
 def test_counts(tree: Tree, word: str, said: str) -> None:
     """Those of tests are what they say: pytest's numbers, and the lines that they tell."""
