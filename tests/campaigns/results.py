@@ -15,8 +15,7 @@ from common.needs import ROOT
 FILE = ROOT / "docs/proof/tried.json"
 PAGE, SHOWN = FILE.with_suffix(".md"), "docs/proof/tried.md"
 PASSED, FAILED, NOT_RUN = "passed", "failed", "not run"
-# The most characters of what was said that a row has.
-LONGEST = 400
+LONGEST = 400  # characters of what was said, in a row
 GOAL, NUMBER = re.compile(r".*, (?:met|missed)$"), re.compile(r"(?<![\w.,:-])\d{4,}(?![\w:-])")
 HEAD = """# What was tried, and when
 

@@ -4,7 +4,6 @@ import hashlib
 import os
 import re
 import shlex
-import shutil
 import signal
 import subprocess
 import tempfile
@@ -22,8 +21,7 @@ from common.needs import APART, ROOT, may_be_apart
 # The lines that are kept of what failed, and of what a measure said; how many seconds a group that is stopped has to
 # clear away; and the most hours of a smallest run.
 TAIL, KEPT, CLEARING, SMALLEST = 12, 400, 60, 1 / 6
-FAULT, LEFT_OUT = re.compile(r"(?:FAILED|ERROR) (\S+ - .*)"), re.compile(r"SKIPPED \[\d+\] \S+: (.*)")
-MISSED, STOPPED = re.compile(r"(.*, missed)"), (124, 137)
+FAULT, LEFT_OUT = re.compile(r"(?m)^(?:FAILED|ERROR) (\S+ - .*)$"), re.compile(r"(?m)^SKIPPED \[\d+\] \S+: (.*)$")
 COUNT = re.compile(r"\b(\d+) (passed|failed|skipped|xfailed|errors?|refused|not|tests)\b")
 
 
@@ -47,11 +45,6 @@ def ended(words: Sequence[str], folder: Path, hours: float, is_measure: bool) ->
                 os.killpg(process.pid, signal.SIGKILL)
 
 
-def found_by(pattern: re.Pattern[str], lines: Sequence[str]) -> list[str]:
-    """What stands in a pattern's group in the lines that fit it, each once."""
-    return list(dict.fromkeys(it[1] for it in map(pattern.fullmatch, lines) if it))
-
-
 def run(group: Group, words: str, hours: float, program: Path, seed: int) -> tuple[str, list[str], dict[str, int]]:
     """What becomes of a group: passed, failed or not run; what it said, or why; its counts."""
     first, *others = shlex.split(group.run)
@@ -66,8 +59,8 @@ def run(group: Group, words: str, hours: float, program: Path, seed: int) -> tup
         output, errors, found = (it.read_text("utf-8", "replace").splitlines() if it.exists() else [] for it in files)
     said, lines = found if first == TESTS else output[-KEPT:], output + errors
     counts = {name: int(count) for line in lines[-3:] for count, name in COUNT.findall(line)}
-    faults, left_out = found_by(FAULT, output)[:TAIL], found_by(LEFT_OUT, output)
-    if status in STOPPED:
+    faults, left_out = FAULT.findall("\n".join(output))[:TAIL], [*dict.fromkeys(LEFT_OUT.findall("\n".join(output)))]
+    if status in (124, 137):
         return FAILED, [f"stopped behind {hours:g} hours", *faults], counts
     if status == 77:
         return NOT_RUN, lines[-1:], counts
@@ -77,12 +70,12 @@ def run(group: Group, words: str, hours: float, program: Path, seed: int) -> tup
 
 
 def about_here(program: Path) -> dict[str, Any]:
-    """When and where a run begins: the toolchain, the program, and the machine with its load."""
-    asked = subprocess.run(["rt", "version"], capture_output=True, text=True).stdout if shutil.which("rt") else "none"
+    """When and where a run begins: the tree's toolchain, the program, and the machine with its load."""
+    toolchain = re.search(r"rattle-kit-\S+ logic \w+", (ROOT / "docs/proof/trust.md").read_text("utf-8"))
     model = re.search(r"(?m)^model name\s*: (.*)$", Path("/proc/cpuinfo").read_text())
     return {
         "began": datetime.now(UTC).isoformat(timespec="seconds"),
-        "toolchain": asked.strip(),
+        "toolchain": toolchain[0] if toolchain else "unknown",
         "program": hashlib.sha256(program.read_bytes()).hexdigest(),
         "machine": f"{os.cpu_count()} processors {model[1] if model else ''}, Linux {os.uname().release}",
         "processors": sorted(os.sched_getaffinity(0)),
@@ -98,7 +91,7 @@ def tried(group: Group, size: str, program: Path, seed: int) -> Result:
     commit = git("log", "-1", "--abbrev=8", "--format=%h of %cs").strip() + " and changed files" * is_changed
     about = about_here(program)
     status, said, counts = run(group, group.words(size) or "", group.most_hours(size), program, seed)
-    if missed := found_by(MISSED, said):
+    if missed := [line for line in said if line.endswith(", missed")]:
         status, said = FAILED, [*missed, *said]
     seconds = round(time.monotonic() - begun, 1)
     return Result(group.name, size, group.command(size), commit, digest, status, said, counts, seconds, seed, about)

@@ -34,7 +34,8 @@ absent = "now"
 FIRST = '#!/bin/sh\necho "tried with $*"\n'
 FILES = {
     "tests/campaign.toml": TABLE, "tests/first": FIRST, "tests/second": '#!/bin/sh\nexec tail -f "$0"\n',
-    "crates/a/src/lib.rt": "one\n", "crates/a_tests/src/lib.rt": "one\n", "clients/page": "one\n", "docs/proof/a": "",
+    "crates/a/src/lib.rt": "one\n", "crates/a_tests/src/lib.rt": "one\n", "clients/page": "one\n",
+    "docs/proof/trust.md": "",
 }  # fmt: skip
 COPIED = "common/needs.py", "common/ports.py", "campaign", "all", "conftest.py", "pytest.ini"
 
