@@ -66,7 +66,8 @@ def why_old(result: Result, group: Group | None, files: Mapping[str, str]) -> st
 def told(result: Result) -> str:
     """What failed, a measure's goals, or what was said; of much, the counts and its end."""
     is_failed, counts = result.status == FAILED, ", ".join(f"{it} {name}" for name, it in result.counts.items())
-    said = [line.strip() for line in result.said if GOAL.fullmatch(line) and not is_failed] or result.said
+    goals = dict.fromkeys(line.strip() for line in result.said if GOAL.fullmatch(line))
+    said = [*goals] if goals and (not is_failed or GOAL.fullmatch(result.said[0])) else result.said
     text = f"{'FAILED: ' * is_failed}{'; '.join(said) or counts}"
     text = f"{counts or f'{len(said)} lines'}; the last: {said[-1]}" if len(text) > LONGEST and not is_failed else text
     return NUMBER.sub(lambda number: f"{int(number[0]):,}", text[:LONGEST])
