@@ -20,14 +20,12 @@ COMMON = {
     TESTS: r"tests/(common/|conftest\.py|pytest\.ini|all$)",
     MEASURES: r"tests/common/|bench/(run$|common|[\w.]+\.(py|c)$|rust_station/)",
 }
-# The most hours of a short size and of a release's, and the first of seeds.
-SHORT_HOURS, HOURS, FIRST_SEED = 1, 5, 7
+HOURS, FIRST_SEED = 5, 7
 
 
 def git(*words: str, given: str = "") -> str:
     """What git says of this repository; nothing where it fails."""
-    words = ("git", "-C", str(ROOT), *words)
-    return subprocess.run(words, input=given, capture_output=True, text=True, check=False).stdout
+    return subprocess.run(["git", "-C", str(ROOT), *words], input=given, capture_output=True, text=True).stdout
 
 
 @functools.cache
@@ -65,7 +63,7 @@ class Group:
         return (f"--size {size}" if is_sized else None) if size.isdigit() else self.sizes.get(size)
 
     def most_hours(self, size: str) -> float:
-        return SHORT_HOURS if size == SHORT else self.hours
+        return 1 if size == SHORT else self.hours
 
     def command(self, size: str) -> str:
         return f"{self.run} {self.words(size) or ''}".strip()
@@ -77,9 +75,9 @@ class Group:
 
     def lacks(self) -> str:
         """Why it can't run here, or nothing."""
-        there, many = len(os.sched_getaffinity(0)), [it for it in self.needs if it.isdigit()]
-        lacking = missing(it for it in self.needs if it not in many)
-        lacking += [f"{it} processors" for it in many if int(it) > there]
+        many, there = [it for it in self.needs if it.isdigit()], len(os.sched_getaffinity(0))
+        few = [f"{it} processors" for it in many if int(it) > there]
+        lacking = missing(it for it in self.needs if it not in many) + few
         return f"this machine lacks {', '.join(lacking)}" if lacking else ""
 
 

@@ -31,8 +31,7 @@ that a group said: `jq -r '.[] | select(.group == "serving") | .said[]' tried.js
 
 @dataclass
 class Result:
-    """What became of a group: `digest` is of its command and files, `about` has when and where it ran, `failures` what
-    failed before at this group and size."""
+    """What became of a group: `digest` is of its command and files, `failures` has what failed before at this size."""
 
     group: str
     size: str
@@ -75,10 +74,10 @@ def told(result: Result) -> str:
 
 def row_of(result: Result) -> str:
     """A row of the page."""
-    minutes = (result.seconds or 0) / 60
-    found = "; ".join([told(result), *([f"in {minutes:.0f} min"] if minutes >= 1 else []), *result.failures])
+    minutes, skipped = (result.seconds or 0) / 60, result.counts.get("skipped")
+    more = [f"in {minutes:.0f} min"] * (minutes >= 1) + [f"{skipped} left out"] * bool(skipped)
     seed = f" --seed {result.seed}" * (result.command.startswith("tests/all") and " --seed " not in result.command)
-    cells = (f"`{result.command}{seed}`", found, result.commit)
+    cells = (f"`{result.command}{seed}`", "; ".join([told(result), *more, *result.failures]), result.commit)
     return "".join(f"| {cell.replace('|', '/')} " for cell in cells) + "|\n"
 
 

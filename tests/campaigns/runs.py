@@ -18,8 +18,7 @@ from campaigns.groups import CLIENTS, FIRST_SEED, MEASURES, STARTS, TESTS, Group
 from campaigns.results import FAILED, NOT_RUN, PASSED, Result
 from common.needs import APART, ROOT, may_be_apart
 
-# The lines that are kept of what failed, and of what a measure said; how many seconds a group that is stopped has to
-# clear away; and the most hours of a smallest run.
+# The lines that are kept of a failure, and of a measure; the seconds to clear away; the hours of a smallest run.
 TAIL, KEPT, CLEARING, SMALLEST = 12, 400, 60, 1 / 6
 FAULT, LEFT_OUT = re.compile(r"(?m)^(?:FAILED|ERROR) (\S+ - .*)$"), re.compile(r"(?m)^SKIPPED \[\d+\] \S+: (.*)$")
 COUNT = re.compile(r"\b(\d+) (passed|failed|skipped|xfailed|errors?|refused|not|tests)\b")
@@ -59,13 +58,12 @@ def run(group: Group, words: str, hours: float, program: Path, seed: int) -> tup
         output, errors, found = (it.read_text("utf-8", "replace").splitlines() if it.exists() else [] for it in files)
     said, lines = found if first == TESTS else output[-KEPT:], output + errors
     counts = {name: int(count) for line in lines[-3:] for count, name in COUNT.findall(line)}
-    faults, left_out = FAULT.findall("\n".join(output))[:TAIL], [*dict.fromkeys(LEFT_OUT.findall("\n".join(output)))]
+    faults, skipped = (list(dict.fromkeys(it.findall("\n".join(output)))) for it in (FAULT, LEFT_OUT))
+    left_out = (lines or ["it says no reason"])[-1:] if status == 77 else skipped
     if status in (124, 137):
-        return FAILED, [f"stopped behind {hours:g} hours", *faults], counts
-    if status == 77:
-        return NOT_RUN, lines[-1:], counts
-    if faults or status:
-        return FAILED, faults or [f"it ended with status {status}", *lines[-TAIL:]], counts
+        return FAILED, [f"stopped behind {hours:g} hours", *faults[:TAIL]], counts
+    if faults or status not in (0, 77):
+        return FAILED, faults[:TAIL] or [f"it ended with status {status}", *lines[-TAIL:]], counts
     return (NOT_RUN, left_out, counts) if left_out and not counts.get(PASSED) else (PASSED, said, counts)
 
 
@@ -77,16 +75,15 @@ def about_here(program: Path) -> dict[str, Any]:
         "began": datetime.now(UTC).isoformat(timespec="seconds"),
         "toolchain": toolchain[0] if toolchain else "unknown",
         "program": hashlib.sha256(program.read_bytes()).hexdigest(),
-        "machine": f"{os.cpu_count()} processors {model[1] if model else ''}, Linux {os.uname().release}",
-        "processors": sorted(os.sched_getaffinity(0)),
+        "machine": f"{len(os.sched_getaffinity(0))} of {os.cpu_count()} {model[1] if model else ''}, {os.uname().release}",
         "load": [round(it, 2) for it in os.getloadavg()],
     }
 
 
 def tried(group: Group, size: str, program: Path, seed: int) -> Result:
     """Runs a group at a size, and says what became of it. A missed goal fails."""
-    digest, own, begun = group.digest(size, files_here()), re.search(r" --seed (\d+)", group.run), time.monotonic()
-    seed = int(own[1]) if own else seed
+    digest, begun = group.digest(size, files_here()), time.monotonic()
+    seed = int(next(iter(re.findall(r" --seed (\d+)", group.run)), seed))
     is_changed = any(re.match(group.of, name) for name in changed_since("HEAD"))
     commit = git("log", "-1", "--abbrev=8", "--format=%h of %cs").strip() + " and changed files" * is_changed
     about = about_here(program)
@@ -101,8 +98,8 @@ def started(group: Group, program: Path) -> tuple[str, str]:
     """What becomes of a group's smallest run, or of its help, or of its tests that are collected."""
     begun, alone = time.monotonic(), "--collect-only" if re.search(r"tests/all|pytest", group.run) else "--help"
     words = group.words(STARTS) or alone
-    lacking = group.lacks() if words != alone else ""
-    status, said, _ = (NOT_RUN, [lacking], {}) if lacking else run(group, words, SMALLEST, program, FIRST_SEED)
-    took = [f"{words} in {time.monotonic() - begun:.1f} s"] if status != NOT_RUN else []
-    told = "; ".join([*took, *(said if status != PASSED else [])])
+    if lacking := group.lacks() if words != alone else "":
+        return NOT_RUN, f"{group.name}: NOT RUN: {lacking}"
+    status, said, _ = run(group, words, SMALLEST, program, FIRST_SEED)
+    told = "; ".join([f"{words} in {time.monotonic() - begun:.1f} s", *(said if status != PASSED else [])])
     return status, f"{group.name}: {status if status == PASSED else status.upper()}: {told}"
