@@ -75,8 +75,8 @@ def about_here(program: Path) -> dict[str, Any]:
         "began": datetime.now(UTC).isoformat(timespec="seconds"),
         "toolchain": toolchain[0] if toolchain else "unknown",
         "program": hashlib.sha256(program.read_bytes()).hexdigest(),
-        "machine": f"{len(os.sched_getaffinity(0))} of {os.cpu_count()} {model[1] if model else ''}, {os.uname().release}",
-        "load": [round(it, 2) for it in os.getloadavg()],
+        "machine": f"{os.cpu_count()} {model[1] if model else 'processors'}, Linux {os.uname().release}",
+        "processors, load": [len(os.sched_getaffinity(0)), *os.getloadavg()],
     }
 
 

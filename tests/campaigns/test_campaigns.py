@@ -87,7 +87,7 @@ def test_results_are_kept(tree: Tree) -> None:
     said = ["first: passed: tried with --size 2", ABSENT, "1 passed, 0 failed, 1 not run"]
     assert tree.ran("--only", "first", "absent") == (0, said)
     kept = tree.kept()["first"]
-    assert {"began", "toolchain", "program", "machine", "load"} == kept["about"].keys()
+    assert {"began", "toolchain", "program", "machine", "processors, load"} == kept["about"].keys()
     assert (kept["status"], kept["said"], kept["seed"]) == ("passed", ["tried with --size 2"], 7)
     assert "| `tests/first --size 2` | tried with --size 2 |" in tree.page.read_text("utf-8")
     assert tree.ran("--only", "first")[1][0] == "first: passed: before"
