@@ -143,7 +143,7 @@ def is_gone(name: str) -> bool:
     return not [it for it in done.stdout.splitlines() if "/self/" not in it]
 
 
-@pytest.mark.parametrize("sign", [signal.SIGKILL, signal.SIGTERM])
+@pytest.mark.parametrize("sign", [signal.SIGKILL, signal.SIGTERM, signal.SIGINT])
 def test_a_kill(tree: Tree, sign: int) -> None:
     """Nothing is lost but the group under way, which ends too. Meanwhile another one is refused. The next goes on."""
     own, until = str(tree.top / "tests/second"), time.monotonic() + 60
