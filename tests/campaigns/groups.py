@@ -15,11 +15,6 @@ from common.needs import ROOT, missing
 
 SHORT, RELEASE, STARTS = "short", "release", "starts"
 TESTS, MEASURES, CLIENTS = "tests/all", "bench/run", "bench/client"
-# What all of a kind stand on, as patterns of names.
-COMMON = {
-    TESTS: r"tests/(common/|conftest\.py|pytest\.ini|all$)",
-    MEASURES: r"tests/common/|bench/(run$|common|[\w.]+\.(py|c)$|rust_station/)",
-}
 HOURS, FIRST_SEED = 5, 7
 
 
@@ -83,12 +78,13 @@ class Group:
 
 def group_of(name: str, row: Mapping[str, Any], sets: Mapping[str, str]) -> Group:
     """A row of the table. It is of the program if it gets it, of what it runs, and of what it names."""
-    run = {"tests": f"{TESTS} ", "bench": f"{MEASURES} "}.get(next(iter(row)), "") + next(iter(row.values()))
+    kind = next(iter(row))
+    run = {"tests": f"{TESTS} ", "bench": f"{MEASURES} "}.get(kind, "") + row[kind]
     first, *words = shlex.split(run)
-    files = [it.partition("::")[0] for it in words if ".py" in it] if first == TESTS else []
+    files = [it.partition("::")[0] for it in words if ".py" in it] if kind == "tests" else []
     own = [f"tests/({it}$|{it.partition('/')[0]}/(?!test_))" for it in files]
-    own += [COMMON.get(first, f"{first}$"), *([f"bench/{words[0]}$"] if first == MEASURES else [])]
-    named = ["program"] * (first in (TESTS, MEASURES, CLIENTS)) + row.get("of", "").split()
+    own += [f"bench/{words[0]}$" if kind == "bench" else f"{first}$"]
+    named = ["program"] * (first in (TESTS, MEASURES, CLIENTS)) + [kind] * (kind != "run") + row.get("of", "").split()
     sizes = {RELEASE: ""} | {size: row[size] for size in (SHORT, RELEASE, STARTS) if size in row}
     pattern, needs = "|".join([*own, *map(sets.__getitem__, named)]), tuple(row.get("needs", "").split())
     return Group(name, run, pattern, sizes, row.get("hours", HOURS), needs, row.get("quiet", first == MEASURES))

@@ -20,6 +20,7 @@ from common.needs import ROOT
 TABLE = r"""
 [files]
 program = 'crates/(?!test_)\w+(?<!_tests)/src/'
+tests = 'tests/all$'
 clients = 'clients/'
 
 [groups]
@@ -188,7 +189,7 @@ def test_counts(tree: Tree, word: str, said: str) -> None:
     """Those of tests are what they say: pytest's numbers, and the lines that they tell."""
     tree.put("tests/some/test_some.py", SOME)
     group = f'[groups]\none = {{tests = "some/test_some.py", short = "-k {word}"}}\n'
-    tree.put("tests/campaign.toml", f"[files]\nprogram = 'none'\n{group}[starts]\n")
+    tree.put("tests/campaign.toml", f"[files]\nprogram = 'none'\ntests = 'none'\n{group}[starts]\n")
     assert tree.ran()[1][0].startswith(f"one: {said}")
     if word not in ("absent", "none"):
         counted = {"passed": "good" in word, "failed": "bad" in word, "skipped": "absent" in word}
