@@ -85,8 +85,8 @@ def page_of(results: Sequence[Result], groups: Mapping[str, Group]) -> str:
     """The page of these results, in the order of the groups; its last row is what is left of a release's size."""
     places = list(groups)
     rows = sorted(results, key=lambda it: (places.index(it.group) if it.group in groups else -1, it.size.zfill(9)))
-    done = {it.group for it in results if (it.size, it.status) == (RELEASE, PASSED)}
-    left = [f"{name} {it.words(RELEASE)}".strip() for name, it in groups.items() if name not in done]
+    done = {it.command for it in results if it.status == PASSED and it.digest}
+    left = [f"{name} {it.words(RELEASE)}".strip() for name, it in groups.items() if it.command(RELEASE) not in done]
     last = f"| `tests/campaign --size release` | left, {len(left)} of {len(groups)}: {'; '.join(left)} | |\n"
     return HEAD + "".join(map(row_of, rows)) + last
 

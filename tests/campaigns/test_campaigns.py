@@ -95,7 +95,10 @@ def test_results_are_kept(tree: Tree) -> None:
     assert tree.ran("--size", "5", "--only", "first")[1][0] == "first: passed: tried with --size 5"
     assert "| left, 3 of 3: first --size 20; second; absent |" in tree.page.read_text("utf-8")
     assert tree.ran("--left", "--size", "release")[1][0] == "first: NOT RUN: left, 5 h at most"
-    assert tree.ran("--hours", "0.01", "--size", "release")[1][-1] == "0 passed, 0 failed, 3 not run"
+    assert tree.ran("--size", "20", "--only", "first")[1][0] == "first: passed: tried with --size 20"
+    assert tree.ran("--left", "--size", "release", "--only", "first")[1][0] == "first: passed: before"
+    assert "| left, 2 of 3: second; absent |" in tree.page.read_text("utf-8")
+    assert tree.ran("--hours", "0.01", "--size", "release")[1][-1] == "1 passed, 0 failed, 2 not run"
 
 
 def test_a_line_that_is_changed(tree: Tree) -> None:
