@@ -94,7 +94,7 @@ def is_written(request: pytest.FixtureRequest) -> bool:
     return request.config.option.write
 
 
-@pytest.fixture
+@pytest.fixture(scope="session")
 def found(request: pytest.FixtureRequest) -> Callable[[str], None]:
     """Tells a line of what a test measured or counted; it goes to the end of --found too."""
 

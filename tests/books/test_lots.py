@@ -4,8 +4,7 @@ Two customers have two orders each: devices that are identified, shipped, scrapp
 customer's engineer, who has a token that looks, lists all of it. The list has to be the rows of a SELECT over a copy of
 the store, byte by byte. Killed half way and begun again it has to be the same, with fewer requests. Digest and
 signatures have to hold by the commands of the page. The goal is 10 seconds for 10,000 records, where nginx gives the
-caller another rate than its usual one. With that one a hundred records are timed. With --write docs/proof/tried.md
-has both times.
+caller another rate than its usual one. With that one a hundred records are timed.
 """
 
 import signal
@@ -17,7 +16,6 @@ import pytest
 from books.lots_place import FAST, SEATS, USUAL, csv_of, opened_lots, rows_of
 from common.commands import PROJECT, PYTHON
 from common.deployed import ran
-from common.page_rows import put_row
 
 pytestmark = [pytest.mark.root, pytest.mark.nginx, pytest.mark.sizes(250, 5000)]
 GOAL, TIMED = 10.0, 100
@@ -31,18 +29,15 @@ def place(program, size):
 
 
 @pytest.mark.parametrize("seat", SEATS)
-def test_the_list(place, seat, size, found, is_written):
+def test_the_list(place, seat, size, found):
     """Byte by byte as by a SELECT, in time."""
     expected, before = csv_of(rows_of(place.copy(), SEATS[seat][0])), place.requests()
     status, _, told, seconds = place.ran(seat, "manifest", "--all", "--out", f"{seat}.csv")
     asked, records = place.requests() - before, expected.count(b"\n") - 1
-    line = f"a list of {records} records by {asked} requests: {seconds:.1f} s"
-    found(f"lots: {line}")
+    found(f"lots: a list of {records} records by {asked} requests: {seconds:.1f} s")
     assert (status, told.count("warning")) == (0, records and 1), told
     assert (place.folder / f"{seat}.csv").read_bytes() == expected
     assert seconds <= GOAL * max(1, records / 10_000)
-    if is_written:
-        put_row(f"books/test_lots.py -k 'the_list and {seat}'", f"--size {size}", line)
 
 
 @pytest.mark.needs("jq")
@@ -129,15 +124,12 @@ print(time.monotonic() - begun)
 """
 
 
-def test_usual_shares(program, found, is_written):
+def test_usual_shares(program, found):
     """With nginx's usual rate: how long a hundred records take, of an order that is asked for by a script."""
     with opened_lots(program, USUAL, {}, TIMED) as place:
         given = [f"https://localhost:{place.port}", place.folder / "a1", place.folder / "etc/cert.pem"]
         done = ran([PYTHON, "-B", "-c", ASKING, *given], PROJECT)
     assert done.returncode == 0, done.stderr
     seconds = float(done.stdout)
-    line = f"{TIMED} records by nginx's usual shares: {seconds:.1f} s, so 10,000 in {seconds * 100 / 60:.0f} min"
-    found(f"lots: {line}")
+    found(f"lots: {TIMED} records by nginx's usual shares: {seconds:.1f} s, so 10,000 in {seconds * 100 / 60:.0f} min")
     assert abs(seconds - (2 * TIMED - 40) / USUAL) < 4, "20 requests a second"
-    if is_written:
-        put_row("books/test_lots.py -k usual_shares", "", line)

@@ -163,7 +163,8 @@ def order(port, number):
 
 @contextlib.contextmanager
 def nginx(folder, port, upstream):
-    """nginx with the deployed file, but for its ports, its certificate and the page's place."""
+    """nginx with the deployed file, but for its ports, its certificate, the page's place and the rate of reports, of
+    which these tests ask more in a minute than a customer has."""
     certify(Path(folder))
     pairs = [
         ("listen 8443", f"listen 127.0.0.1:{port}"),
@@ -172,6 +173,7 @@ def nginx(folder, port, upstream):
         ("/usr/share/wanekupo/yield.html", str(PAGE)),
         ("/var/lib/nginx/", f"{folder}/"),
         ("/var/log/nginx/", f"{folder}/"),
+        ("zone=reports:1m  rate=6r/m", "zone=reports:1m  rate=600r/m"),
     ]
     text = replaced(CONF, pairs)
     Path(folder, "nginx.conf").write_text(text, encoding="utf-8")

@@ -8,8 +8,7 @@ the request that got no reply, or its last one. At the end the same requests are
 new file, which nobody disturbs: each reply, each order, device and ledger, and the tables of both files
 have to be equal. What a station asks for depends on the seed and on its own replies alone.
 
-The requests are those of the seed; the moments are the seed's and the machine's. With --write the row of
-docs/proof/tried.md says what was found.
+The requests are those of the seed; the moments are the seed's and the machine's.
 """
 
 import hashlib
@@ -23,7 +22,6 @@ from collections import Counter
 
 import pytest
 
-from common.page_rows import put_row
 from common.registrations import MAP, blocks_of, key_of
 from common.served import Caller, Server, station
 
@@ -327,7 +325,7 @@ def counts_of(stations, shown):
 
 
 @pytest.mark.sizes(4, 200)
-def test_kills(program, tmp_path, port, size, seed, is_written):
+def test_kills(program, tmp_path, port, size, seed, found):
     """`lost` are requests whose reply came and that the books don't have; `twice` those that they have too often."""
     site, db, calm_db = (str(tmp_path / name) for name in ("site.toml", "killed.db", "calm.db"))
     (tmp_path / "site.toml").write_text(site_text(), encoding="utf-8")
@@ -340,11 +338,9 @@ def test_kills(program, tmp_path, port, size, seed, is_written):
     faults += differences(stations, (shown, tables(db)), (others, tables(calm_db)))
     assert (faults[:20], counts["lost"], counts["twice"]) == ([], 0, 0)
     assert counts["requests"] and counts["repeated"]
-    line = (
+    found(
         f"{size} kills, {counts['requests']} requests ({counts['refused']} refused), "
         f"{counts['repeated']} without a reply and repeated, {counts['done']} of them done before the kill; "
         f"lost {counts['lost']}, twice {counts['twice']}; {counts['serials']} serial numbers and "
         f"{counts['macs']} addresses given; {len(faults)} differences; seed {seed}"
     )
-    if is_written:
-        put_row("faults/test_kill.py", f"--size {size} --seed {seed}", line)

@@ -47,7 +47,6 @@ import pytest
 
 from common.chip import Failed, empty_page, replay_words, replies_in, rows_of, served, shows, store_at, undisturbed
 from common.chip import without_release
-from common.page_rows import put_row
 
 pytestmark = pytest.mark.needs("strace")
 
@@ -442,18 +441,16 @@ def folder():
 
 
 @pytest.mark.sizes(40, 3000)
-def test_cuts(program, folder, tmp_path, size, seed, is_written):
+def test_cuts(program, folder, tmp_path, size, seed, found):
     bench = Bench(program, folder, seed, tmp_path)
     counts, wrong = cut_all(bench, size)
     assert wrong[:20] == []
     assert counts["before"] and counts["after"] and counts["more"]
-    line = (
+    found(
         f"{size} runs cut at {len(bench.starts[0][1]) + 1} places, {counts['more']} of them again after it, "
         f"{counts['all']} cuts: {counts['before']} left the books before the request, {counts['after']} after it; "
         f"{len(wrong)} wrong; seed {seed}"
     )
-    if is_written:
-        put_row("faults/test_powercut.py", f"--size {size} --seed {seed}", line)
 
 
 def test_a_disk_that_lies_is_found(program, folder, tmp_path, seed):

@@ -39,8 +39,6 @@ the store is made, upgraded or grown, those of behind it, whole. The next start 
 has to show the books of an undisturbed one; a map or a site that was refused is read again. A making that was refused
 ends with `station: store fault 3`. It leaves what was there until the renaming is done, and behind it an empty
 database; nothing has the name `STORE-new` behind the next start.
-
-With --write and -k 'not 97' the row of docs/proof/tried.md says what was found.
 """
 
 import collections
@@ -58,7 +56,6 @@ from pathlib import Path
 import pytest
 
 from common.chip import MAP, SITE, Failed, replay_words, rows_of, served, shows, sights, store_at, undisturbed
-from common.page_rows import put_row
 from common.schemas import take_back
 from faults.refusing import (
     DONE, NO_MEMORY, STORE_FAULT, Talk, alone, calls_in, compiled, environment, is_unkept, outcome_of,
@@ -445,8 +442,7 @@ def test_allocations(bench, target, every):
     expect_none_wrong(bench, bench.sweep(target, every, *TARGETS[target](bench)))
 
 
-def test_making(bench, is_written):
-    """Behind all others, as it writes the row."""
+def test_making(bench, found):
+    """Behind all others, as it tells their counts."""
     expect_none_wrong(bench, bench.refuse_making(is_empty=False) and bench.refuse_making(is_empty=True))
-    if is_written and bench.counts.targets == len(TARGETS) + 2:
-        put_row("faults/test_refuse.py", f"-k 'not {FEW}'", bench.counts.line())
+    found(bench.counts.line())

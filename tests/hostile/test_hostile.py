@@ -296,7 +296,7 @@ def judge(attack, known, short, missed):
     """Fails where the attack did less than it says, or a goal is missed that isn't known to be."""
     expect("what it did less of than it says", short, [])
     if missed and attack.name in known:
-        pytest.xfail(f"bench/RESULTS.md has that this goal is missed: {missed}")
+        pytest.xfail(f"a goal that is known to be missed: {missed}")
     expect("goals that are missed", missed, [])
 
 

@@ -33,7 +33,6 @@ from pathlib import Path
 
 import pytest
 
-from common.page_rows import put_row
 from machines.standby import words
 from machines.standby.guests import cut_all
 from machines.standby.image import Packages, python_files
@@ -74,13 +73,13 @@ def made(program: Path, packages: Packages, folder: Path) -> Made:
 
 
 @pytest.fixture(scope="module")
-def runs(request: pytest.FixtureRequest) -> Iterator[list[Run]]:
-    """All runs, whose table is printed at the end. With --write the row of docs/proof/tried.md has their total."""
-    found: list[Run] = []
-    yield found
-    print("", HEAD, *rows(found), total(found), sep="\n")
-    if found and request.config.option.write:
-        put_row("machines/test_standby.py -k scenario", f"--seed {found[0].seed}", total(found))
+def runs(found: Callable[[str], None]) -> Iterator[list[Run]]:
+    """All runs, whose table is printed at the end."""
+    these: list[Run] = []
+    yield these
+    print("", HEAD, *rows(these), sep="\n")
+    if these:
+        found(total(these))
 
 
 def tell_run(run: Run, found: Callable[[str], None]) -> None:

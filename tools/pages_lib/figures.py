@@ -26,11 +26,6 @@ MARK = re.compile(rf"(?P<number>{NUMBER}|\b[a-z]+)<!-- =(?P<name>\w+) -->")
 TESTS = ["crates/*_tests", "crates/test_*"]
 KIT = re.compile(r"rattle-kit-\S+ logic (?P<logic>\w+)")
 
-# A row of what was tried on the built program: the command, the commit, and whether files were changed. Its sources.
-TRIED = "docs/proof/tried.md"
-DISTURBED = r"^\| `(tests/all [^`]*)` .* \| ([0-9a-f]{7,40}) of [\d-]{10}( and [^|]*)? \|$"
-SOURCES = ("crates/*/src/*", ":!crates/*_tests", ":!crates/test_*")
-
 # A page or a crate's first lines, the words around a number, and which figure it is.
 PLACES = [
     ("CONTRIBUTING.md", "The gate tries {} edits", "tried"),
@@ -177,20 +172,6 @@ def leads_at_fault() -> Iterator[str]:
             found = [it["number"] for it in pattern_of(words).finditer(lead_of(crate))]
             if [shown(name, it) for it in found] != found or len(found) != 1:
                 yield f"{place}: '{words}' is {figure(name)}, and the page has {found or 'nothing'}"
-
-
-def asked_git(*words: str) -> "subprocess.CompletedProcess[str]":
-    return subprocess.run(["git", "-C", str(TOP), *words], capture_output=True, text=True, check=False)
-
-
-def rows_of_other_sources() -> Iterator[str]:
-    """The rows of what was disturbed that are of other sources than those of this commit. A clone without its history
-    can't tell."""
-    if asked_git("rev-parse", "--is-shallow-repository").stdout.strip() != "false":
-        return
-    for name, commit, more in re.findall(DISTURBED, page_text(TRIED), re.MULTILINE):
-        if more or asked_git("diff", "--quiet", commit, "HEAD", "--", *SOURCES).returncode:
-            yield f"{TRIED}: {name} is of {commit}{more}, of other sources: it takes --write"
 
 
 def others_at_fault() -> Iterator[str]:

@@ -11,7 +11,7 @@ from pages_lib.promises_page import PROMISES_PAGE
 from pages_lib.rattle import TOP, text_of, tracked
 
 # Pages that say what was once: no name in them has to be there.
-OF_THE_PAST = ("CHANGELOG.md", "bench/RESULTS.md")
+OF_THE_PAST = ("CHANGELOG.md", "bench/RESULTS.md", "docs/proof/tried.md")
 
 # A page that a file names, by its path from the top, or in an error from the folder of the package's pages.
 POINTER = re.compile(r"(?:\bdocs|\{PAGES\})/[\w/-]+\.(?:md|toml|yaml|png|svg)(?:#[\w-]+)?")
