@@ -29,8 +29,8 @@ const FIXED_PORTS: &[u16] = &[80, 65_535];
 /// How many clients come, one after another.
 const MANY: usize = 70_000;
 
-/// How long a remark in a site's text is, that makes it one of more than 100,000 bytes.
-const LONG_REMARK: usize = 100_000;
+/// How long a remark behind a site's text is, that makes it one of 1,048,576 bytes, as many as it may have.
+const LONG_REMARK: usize = 1_048_576 - SITE.len() - 3;
 
 /// A site without a manager.
 const SITE_ALONE: &str =
