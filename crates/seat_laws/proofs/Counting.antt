@@ -17,7 +17,7 @@ use Rattle.seat_core.specs.declared.station.Waiting.{Waiting}
 use Rattle.seat_core.specs.declared.station.Waiting.TheVariants.{Nothing, Once, Again, Kept, Number}
 use Rattle.seat_core.specs.Aside.{aside_with}
 use Rattle.seat_core.specs.Steps.{Step, number_after}
-use Rattle.seat_core.specs.Starts.{number_step, request_step, start_step}
+use Rattle.seat_core.specs.Starts.{number_at, number_step, request_step, start_step}
 use Rattle.seat_core.specs.Replies.{completion, late_copy, patience_step, probe_reply, probe_silence, reply_step, silence_step, untried_request}
 use Rattle.seat_core.specs.Refusals.{aside_step, probe_of, probe_refusal, probe_step, refusal_at, request_refusal, stop_step}
 use Rattle.seat_core.specs.Events.{step_of}
@@ -28,13 +28,13 @@ use Rattle.seat_laws.specs.Runs.{after_moves, beginning, befalls, last_sent, not
 use Rattle.seat_laws.specs.Concludes.{IsDoneOnce}
 use Rattle.std.proofs.lemmas.List.Elements.{All-from_recursion, recursion_from_All, All-weaker}
 use Rattle.seat_laws.proofs.Among.{all_at, at_index}
-use Rattle.seat_laws.proofs.Standing.{first_next, in_order}
+use Rattle.seat_laws.proofs.Standing.{in_order}
 use Rattle.seat_laws.proofs.Serving.{probed_number}
 use Rattle.seat_laws.proofs.Acting.{Keeps, cut_holds, either, quiet, shows, step_holds}
 use Rattle.seat_laws.proofs.Counts.{CountsAt, CountsIn, HasEntry, HasGrown, answers_grow}
-use Rattle.seat_laws.proofs.Counts.{aside_among, counted_after, counted_first, counted_less, counted_once, counted_sent}
-use Rattle.seat_laws.proofs.Counts.{counted_wanted, counts_noted, counts_served, counts_taken, has_grows, next_grows}
-use Rattle.seat_laws.proofs.Counts.{next_stays, one_entry, order_grows}
+use Rattle.seat_laws.proofs.Counts.{aside_among, counted_after, counted_first, counted_less, counted_once, counted_resumed}
+use Rattle.seat_laws.proofs.Counts.{counted_sent, counted_wanted, counts_next, counts_noted, counts_served, counts_taken, has_grows}
+use Rattle.seat_laws.proofs.Counts.{least_next, next_grows, next_stays, one_entry, order_grows}
 use Rattle.seat_laws.proofs.Running.{same_books}
 
 -- the number was accepted with another request
@@ -51,13 +51,13 @@ abbrev TellsOf : ℕ → List Entry → Option Sent → Reply → Type 0
 TellsOf first books question reply = (sent : Sent) → question ≡ Some sent → reply.to ≡ Some sent
     → Tells first books sent reply.answer
 
-abbrev SaysNext : ℕ → List Entry → Answer → Type 0
-SaysNext first books (accepts reply) = Unit {0}
-SaysNext first books (refuses code expected) =
-    code ≡ 11 → (first ≤ expected) × (expected ≤ next_number first books)
+abbrev SaysNext : ℕ → ℕ → List Entry → Answer → Type 0
+SaysNext first least books (accepts reply) = Unit {0}
+SaysNext first least books (refuses code expected) =
+    code ≡ 11 → (least ≤ expected) × (expected ≤ next_number first books)
 
-abbrev SaysNextOf : ℕ → List Entry → Reply → Type 0
-SaysNextOf first books reply = reply.to ≡ None → SaysNext first books reply.answer
+abbrev SaysNextOf : ℕ → ℕ → List Entry → Reply → Type 0
+SaysNextOf first least books reply = reply.to ≡ None → SaysNext first least books reply.answer
 
 -- what holds of what the station waits for
 abbrev WaitsAt : ℕ → Waiting → Place → List ℕ → List Entry → List Reply → Type 0
@@ -66,7 +66,7 @@ WaitsAt first Once (UnderWay sent) aside books since = AllByRecursion (TellsOf f
 WaitsAt first Again (UnderWay sent) aside books since = AllByRecursion (TellsOf first books (Some sent)) since
 WaitsAt first (Kept untried again) (UnderWay sent) aside books since = IsOthers books sent
     × AllByRecursion (TellsOf first books (probed sent.number (untried_request aside untried))) since
-WaitsAt first Number Unknown aside books since = AllByRecursion (SaysNextOf first books) since
+WaitsAt first Number place aside books since = AllByRecursion (SaysNextOf first (least_next first place) books) since
 WaitsAt first waiting place aside books since = ⊥
 
 abbrev AwaitsIn : ℕ → Station → World → Type 0
@@ -138,13 +138,13 @@ tells_served first books sent answer after question since order from answered te
           subst (λ s. Tells first after s answer) same
           (tells_now first books sent answer after order (omega arith) answered)
 
-says_later : (first : ℕ) (books after : List Entry) (since : List Reply)
+says_later : (first least : ℕ) (books after : List Entry) (since : List Reply)
     → ((n : ℕ) → n ≤ next_number first books → n ≤ next_number first after)
-    → AllByRecursion (SaysNextOf first books) since → AllByRecursion (SaysNextOf first after) since
-says_later first books after since grows said =
-    recursion_from_All _ _ (All-weaker (SaysNextOf first books) (SaysNextOf first after)
+    → AllByRecursion (SaysNextOf first least books) since → AllByRecursion (SaysNextOf first least after) since
+says_later first least books after since grows said =
+    recursion_from_All _ _ (All-weaker (SaysNextOf first least books) (SaysNextOf first least after)
     (λ reply say to. later reply.answer (say to)) _ (All-from_recursion _ since said)) where
-      later : (answer : Answer) → SaysNext first books answer → SaysNext first after answer
+      later : (answer : Answer) → SaysNext first least books answer → SaysNext first least after answer
       later (accepts reply) say = tt
       later (refuses code expected) say = λ e. let s = say e in (s.0, grows expected s.1)
 
@@ -160,14 +160,14 @@ waits_grow first (Kept untried again) (UnderWay sent) aside books after since gr
   others_grow first books after sent grown waits.0,
   tells_later first books after (probed sent.number (untried_request aside untried)) since grown waits.1,
 )
-waits_grow first Number Unknown aside books after since grown waits =
-    says_later first books after since (λ n le. next_stays first books after n grown le) waits
+waits_grow first Number place aside books after since grown waits =
+    says_later first (least_next first place) books after since (λ n le. next_stays first books after n grown le) waits
 waits_grow first waiting place aside books after since grown waits = elim waits [ ]
 
-says_served : (first : ℕ) (books : List Entry) (sent : Sent) (answer : Answer) (since : List Reply)
-    → AllByRecursion (SaysNextOf first books) since
-    → AllByRecursion (SaysNextOf first books) (record { to = Some sent; answer = answer } ∷ since)
-says_served first books sent answer since said = ((λ to. absurd (cc)), said)
+says_served : (first least : ℕ) (books : List Entry) (sent : Sent) (answer : Answer) (since : List Reply)
+    → AllByRecursion (SaysNextOf first least books) since
+    → AllByRecursion (SaysNextOf first least books) (record { to = Some sent; answer = answer } ∷ since)
+says_served first least books sent answer since said = ((λ to. absurd (cc)), said)
 
 from_sent : (first : ℕ) (sent : Sent) → first ≤ sent.number → (q : Sent) → ◌≡◌ {A = Option Sent} (Some sent) (Some q)
     → first ≤ q.number
@@ -194,8 +194,8 @@ waits_answered first (Kept untried again) (UnderWay sent) aside books copy answe
   tells_served first books copy answer after (probed sent.number (untried_request aside untried)) since order
       (from_probed first sent.number (untried_request aside untried) counts.from) answered waits.1,
 )
-waits_answered first Number Unknown aside books copy answer after since order sents wanted counts answered waits =
-    says_served first after copy answer since (says_later first books after since
+waits_answered first Number place aside books copy answer after since order sents wanted counts answered waits =
+    says_served first (least_next first place) after copy answer since (says_later first (least_next first place) books after since
     (λ n le. next_stays first books after n (answers_grow first books copy answer after answered) le) waits)
 waits_answered first waiting place aside books copy answer after since order sents wanted counts answered waits = elim waits [ ]
 
@@ -205,26 +205,24 @@ tells_said : (first : ℕ) (books : List Entry) (question : Option Sent) (answer
 tells_said first books question answer since tells = ((λ sent e to. absurd (cc)), tells)
 
 waits_told : (first : ℕ) (waiting : Waiting) (place : Place) (aside : List ℕ) (books : List Entry)
-    (code expected : ℕ) (since : List Reply) → IsInOrder first books → (code ≡ 11 → expected ≡ next_number first books)
-    → WaitsAt first waiting place aside books since
+    (code expected : ℕ) (since : List Reply) → least_next first place ≤ next_number first books
+    → (code ≡ 11 → expected ≡ next_number first books) → WaitsAt first waiting place aside books since
     → WaitsAt first waiting place aside books (record { to = None; answer = refuses code expected } ∷ since)
-waits_told first Nothing place aside books code expected since order said waits = tt
-waits_told first Once (UnderWay sent) aside books code expected since order said waits =
+waits_told first Nothing place aside books code expected since least said waits = tt
+waits_told first Once (UnderWay sent) aside books code expected since least said waits =
     tells_said first books (Some sent) (refuses code expected) since waits
-waits_told first Again (UnderWay sent) aside books code expected since order said waits =
+waits_told first Again (UnderWay sent) aside books code expected since least said waits =
     tells_said first books (Some sent) (refuses code expected) since waits
-waits_told first (Kept untried again) (UnderWay sent) aside books code expected since order said waits = (
+waits_told first (Kept untried again) (UnderWay sent) aside books code expected since least said waits = (
   waits.0,
   tells_said first books (probed sent.number (untried_request aside untried)) (refuses code expected) since
       waits.1,
 )
-waits_told first Number Unknown aside books code expected since order said waits = (
-  (λ to e.
-      let s = said e in
-      let le = first_next first books order in (omega arith, omega arith)),
+waits_told first Number place aside books code expected since least said waits = (
+  (λ to e. let s = said e in (omega arith, omega arith)),
   waits,
 )
-waits_told first waiting place aside books code expected since order said waits = elim waits [ ]
+waits_told first waiting place aside books code expected since least said waits = elim waits [ ]
 
 -- it starts
 starts : (first : ℕ) (place : Place) (aside : List ℕ) (last : Option Answered) (stop : Option Stop)
@@ -340,7 +338,7 @@ silences first (UnderWay sent) aside last stop (Kept untried again) w counts wai
         lasts = (counts, (counts, counted_sent request (inr (at_index request aside (length aside - untried) e)) counts));
         waits = (waits.0, tt);
       }
-silences first Unknown aside last stop Number w counts waits = record { lasts = (counts, (counts, counts)); waits = tt }
+silences first place aside last stop Number w counts waits = record { lasts = (counts, (counts, counts)); waits = tt }
 silences first place aside last stop waiting w counts waits = elim waits [ ]
 
 replies : (first : ℕ) (place : Place) (aside : List ℕ) (last : Option Answered) (stop : Option Stop)
@@ -359,8 +357,8 @@ replies first (UnderWay sent) aside last stop Again w reply order counts waits a
 replies first (UnderWay sent) aside last stop (Kept untried again) w reply order counts waits among =
     probe_replies first sent aside last stop untried again w reply (untried_request aside untried) order counts waits
     refl among
-replies first Unknown aside last stop Number w reply order counts waits among =
-    silences first Unknown aside last stop Number w counts waits
+replies first place aside last stop Number w reply order counts waits among =
+    silences first place aside last stop Number w counts waits
 replies first place aside last stop waiting w reply order counts waits among = elim waits [ ]
 
 -- one more is kept aside
@@ -438,24 +436,49 @@ refuses_probe first sent aside last stop untried again w code expected counts wa
     (λ t. probes first sent aside last stop (Kept untried again) w again (untried - 1) counts waits.0)
     (λ t. halts first sent aside last stop (Kept untried again) w again 12 refusal counts))
 
-numbers : (first : ℕ) (aside : List ℕ) (last : Option Answered) (stop : Option Stop) (w : World)
-    (code expected : ℕ) → CountsIn first (of_parts Unknown aside last stop Number).file w
-    → AwaitsIn first (of_parts Unknown aside last stop Number) w
-    → IsAmong (record { to = None; answer = refuses code expected }) w.since
-    → Lasting first (of_parts Unknown aside last stop Number) w
-    (number_step (of_parts Unknown aside last stop Number) code expected)
-numbers first aside last stop w code expected counts waits among =
-    let said : SaysNext first w.books (refuses code expected) = all_at (SaysNextOf first w.books)
-    (record { to = None; answer = refuses code expected }) w.since waits among refl in
-    either (CountsIn first) (AwaitsIn first) (of_parts Unknown aside last stop Number) w (code == 11) _ _
-    (λ t. record {
+-- it goes on with the number that the server expects
+resumes : (first : ℕ) (place : Place) (aside : List ℕ) (last : Option Answered) (stop : Option Stop) (w : World)
+    (expected : ℕ) → CountsIn first (of_parts place aside last stop Number).file w
+    → (least_next first place ≤ expected) × (expected ≤ next_number first w.books)
+    → Lasting first (of_parts place aside last stop Number) w
+    (number_at (of_parts place aside last stop Number) place expected)
+resumes first Unknown aside last stop w expected counts said = record {
+  lasts = (counts, counted_first first expected aside w.sent w.books w.wanted said.0 said.1 counts);
+  waits = tt;
+}
+resumes first (Free number) aside last stop w expected counts said = record {
+  lasts = (
+    counts,
+    (counts, counted_resumed first number expected aside w.sent w.books w.wanted said.0 said.1 counts),
+  );
+  waits = tt;
+}
+resumes first (UnderWay sent) aside last stop w expected counts said =
+    let now = counted_less (aside_with sent.request aside) (λ x among. aside_among sent.request x aside among) counts in
+    record {
       lasts = (
         counts,
-        counted_first first expected aside w.sent w.books w.wanted
-            (said (eqb-true code 11 t)).0 (said (eqb-true code 11 t)).1 counts,
+        (
+          counts,
+          counted_resumed first sent.number expected (aside_with sent.request aside) w.sent w.books w.wanted
+              said.0 said.1 now,
+        ),
       );
       waits = tt;
-    })
+    }
+
+numbers : (first : ℕ) (place : Place) (aside : List ℕ) (last : Option Answered) (stop : Option Stop) (w : World)
+    (code expected : ℕ) → CountsIn first (of_parts place aside last stop Number).file w
+    → AwaitsIn first (of_parts place aside last stop Number) w
+    → IsAmong (record { to = None; answer = refuses code expected }) w.since
+    → Lasting first (of_parts place aside last stop Number) w
+    (number_step (of_parts place aside last stop Number) code expected)
+numbers first place aside last stop w code expected counts waits among =
+    let said : SaysNext first (least_next first place) w.books (refuses code expected) =
+    all_at (SaysNextOf first (least_next first place) w.books)
+    (record { to = None; answer = refuses code expected }) w.since waits among refl in
+    either (CountsIn first) (AwaitsIn first) (of_parts place aside last stop Number) w (code == 11) _ _
+    (λ t. resumes first place aside last stop w expected counts (said (eqb-true code 11 t)))
     (λ t. shows (Unsure code) counts waits)
 
 refusals_at : (first : ℕ) (place : Place) (aside : List ℕ) (last : Option Answered) (stop : Option Stop)
@@ -475,8 +498,8 @@ refusals_at first (UnderWay sent) aside last stop Again w code expected counts w
     (told_of first w.books (Some sent) sent (refuses code expected) w.since refl waits among)
 refusals_at first (UnderWay sent) aside last stop (Kept untried again) w code expected counts waits among =
     refuses_probe first sent aside last stop untried again w code expected counts waits
-refusals_at first Unknown aside last stop Number w code expected counts waits among =
-    numbers first aside last stop w code expected counts waits among
+refusals_at first place aside last stop Number w code expected counts waits among =
+    numbers first place aside last stop w code expected counts waits among
 refusals_at first place aside last stop waiting w code expected counts waits among = elim waits [ ]
 
 patience : (first : ℕ) (place : Place) (aside : List ℕ) (last : Option Answered) (stop : Option Stop)
@@ -507,7 +530,8 @@ events first place aside last stop waiting w Miss order counts waits heard =
     silences first place aside last stop waiting w counts waits
 events first place aside last stop waiting w GiveUp order counts waits heard =
     patience first place aside last stop waiting w counts waits
-events first place aside last stop waiting w Look order counts waits heard = elim heard [ ]
+events first place aside last stop waiting w Look order counts waits heard =
+    record { lasts = (counts, counts); waits = tt }
 
 -- what holds between two moves
 record IsCounting (first : ℕ) (w : World) : Type 0 where
@@ -550,7 +574,7 @@ move_counts first w (says code expected) is may = record {
   order = is.order;
   counts = is.counts;
   waits = waits_told first w.station.waiting w.station.file.place w.station.file.aside w.books code expected w.since
-      is.order may is.waits;
+      (counts_next first w.station.file.place w.station.file.aside w.sent w.books w.wanted is.order is.counts) may is.waits;
 }
 move_counts first w (takes entry) is may = record {
   order = order_grows first w.books entry may is.order;

@@ -18,6 +18,7 @@ use Rattle.seat_laws.specs.Runs.{IsAmong, World}
 use Rattle.seat_laws.specs.Concludes.{own_requests, times}
 use Rattle.std.proofs.lemmas.List.Elements.{All-from_recursion, recursion_from_All, All-weaker}
 use Rattle.seat_laws.proofs.Among.{all_at}
+use Rattle.seat_laws.proofs.Standing.{first_next}
 
 -- a request of this name was accepted with this number
 abbrev pub HasEntry : List Entry → ℕ → ℕ → Type 0
@@ -251,10 +252,10 @@ counted_sent request among is = record {
 step_number : (number : ℕ) → nat_le number 9007199254740991 ≡ true → number_after number ≡ number + 1
 step_number number t = rw t refl
 
-older_after : (number : ℕ) (all others : List ℕ) (sent : Sent) → IsOlder number all sent
-    → IsOlder (number + 1) others sent
-older_after number all others sent (inl lt) = inl (omega arith)
-older_after number all others sent (inr is) = let e = is.0 in inl (omega arith)
+older_after : (number later : ℕ) (all others : List ℕ) → number < later → (sent : Sent) → IsOlder number all sent
+    → IsOlder later others sent
+older_after number later all others past sent (inl lt) = inl (omega arith)
+older_after number later all others past sent (inr is) = let e = is.0 in inl (omega arith)
 
 -- what was done with older numbers, and with this one
 abbrev base_after : (first number : ℕ) (all base : List ℕ) (books : List Entry)
@@ -290,27 +291,76 @@ more_after first number all base books wanted x (inl clear) undone more = more
 more_after first number all base books wanted x (inr here) undone more =
     rw (times_other x here.request base (λ e. undone (subst (HasEntry books number) e here.has))) more
 
--- The number was accepted: the next one has these pending, which weren't done with this one.
+-- The number was accepted: a later one has these pending, which weren't done with this one.
+pub counted_past : {first number : ℕ} {pending : List ℕ} {sents : List Sent} {books : List Entry}
+    {wanted : List ℕ} → (later : ℕ) (others : List ℕ) → number < later → later ≤ next_number first books
+    → ((x : ℕ) → IsAmong x others → IsAmong x pending)
+    → ((x : ℕ) → IsAmong x others → HasEntry books number x → ⊥)
+    → IsCounted first number pending sents books wanted → IsCounted first later others sents books wanted
+counted_past {first} {number} {pending} {sents} {books} {wanted} later others past next less undone is =
+    let le = is.from in
+    record {
+      from = omega arith;
+      all = others;
+      covers = λ x among. among;
+      old = recursion_from_All _ _
+          (All-weaker _ _ (older_after number later is.all others past) _ (All-from_recursion _ sents is.old));
+      base = base_after first number is.all is.base books is.stands;
+      stands = inl (record { next = next; own = own_base first number is.all is.base books is.stands });
+      fits = fits_after first number is.all is.base books wanted is.stands is.fits is.more;
+      more = λ x among. more_after first number is.all is.base books wanted x is.stands (undone x among)
+          (is.more x (is.covers x (less x among)));
+    }
+
 pub counted_after : {first number : ℕ} {pending : List ℕ} {sents : List Sent} {books : List Entry}
     {wanted : List ℕ} → (others : List ℕ) → nat_le number 9007199254740991 ≡ true
     → number < next_number first books → ((x : ℕ) → IsAmong x others → IsAmong x pending)
     → ((x : ℕ) → IsAmong x others → HasEntry books number x → ⊥)
     → IsCounted first number pending sents books wanted
     → IsCounted first (number_after number) others sents books wanted
-counted_after {first} {number} {pending} {sents} {books} {wanted} others bound past less undone is =
-    let le = is.from in
-    rw (step_number number bound) (record {
-      from = omega arith;
-      all = others;
-      covers = λ x among. among;
-      old = recursion_from_All _ _
-          (All-weaker _ _ (older_after number is.all others) _ (All-from_recursion _ sents is.old));
-      base = base_after first number is.all is.base books is.stands;
-      stands = inl (record { next = omega arith; own = own_base first number is.all is.base books is.stands });
-      fits = fits_after first number is.all is.base books wanted is.stands is.fits is.more;
-      more = λ x among. more_after first number is.all is.base books wanted x is.stands (undone x among)
-          (is.more x (is.covers x (less x among)));
-    })
+counted_after {first} {number} others bound past less undone is =
+    rw (step_number number bound) (counted_past (number + 1) others (omega arith) (omega arith) less undone is)
+
+-- the station goes on with the number that the server expects
+pub counted_resumed : (first number expected : ℕ) (pending : List ℕ) (sents : List Sent) (books : List Entry)
+    (wanted : List ℕ) → number ≤ expected → expected ≤ next_number first books
+    → IsCounted first number pending sents books wanted
+    → IsCounted first expected (if number == expected then pending else []) sents books wanted
+counted_resumed first number expected pending sents books wanted from next is = by (eqb_tells number expected) where
+  none : (x : ℕ) → IsAmong x [] → ⊥
+  none x among = elim among [ ]
+
+  by : ((eqb number expected ≡ true) × (number ≡ expected)) ⊎ ((eqb number expected ≡ false) × (number ≢ expected))
+      → IsCounted first expected (if number == expected then pending else []) sents books wanted
+  by (inl same) = rw same.0 (subst (λ n. IsCounted first n pending sents books wanted) same.1 is)
+  by (inr other) = rw other.0 (counted_past expected [] (below (other.1)) next (λ x among. absurd (none x among))
+      (λ x among has. none x among) is)
+    where
+      below : (number ≢ expected) → number < expected
+      below ne = omega arith
+
+-- the least number that the server may expect
+abbrev pub least_next : ℕ → Place → ℕ
+least_next first Unknown = first
+least_next first (Free number) = number
+least_next first (UnderWay sent) = sent.number
+
+counted_next : (first number : ℕ) (pending : List ℕ) (sents : List Sent) (books : List Entry) (wanted : List ℕ)
+    → IsCounted first number pending sents books wanted → number ≤ next_number first books
+counted_next first number pending sents books wanted is = by is.stands where
+  by : IsClear first number is.base books ⊎ IsHere first number is.all is.base books
+      → number ≤ next_number first books
+  by (inl clear) = clear.next
+  by (inr here) = let lt = here.past in omega arith
+
+pub counts_next : (first : ℕ) (place : Place) (aside : List ℕ) (sents : List Sent) (books : List Entry)
+    (wanted : List ℕ) → IsInOrder first books → CountsAt first place aside sents books wanted
+    → least_next first place ≤ next_number first books
+counts_next first Unknown aside sents books wanted order is = first_next first books order
+counts_next first (Free number) aside sents books wanted order is =
+    counted_next first number aside sents books wanted is
+counts_next first (UnderWay sent) aside sents books wanted order is =
+    counted_next first sent.number (sent.request ∷ aside) sents books wanted is
 
 -- the server answers a copy
 clear_served : (first number : ℕ) (all base : List ℕ) (books : List Entry) (sent : Sent) (answer : Answer)

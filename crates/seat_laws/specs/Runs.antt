@@ -122,14 +122,12 @@ last_sent waiting place aside = None
 abbrev pub last_question : Station → Option Sent
 last_question s = last_sent s.waiting s.file.place s.file.aside
 
--- What is heard as an answer is one, to what was sent last, and since then. No person has the
--- station go on.
+-- what is heard as an answer is one, to what was sent last, and since then
 abbrev pub MayBefall : World → Event → Type 0
 MayBefall w (Accept reply) =
     IsAmong (record { to = last_question w.station; answer = accepts reply }) w.since
 MayBefall w (Refuse code expected) =
     IsAmong (record { to = last_question w.station; answer = refuses code expected }) w.since
-MayBefall w Look = ⊥
 MayBefall w event = Unit {0}
 
 -- The server gets what was sent, any number of times and as late as one likes.
@@ -149,6 +147,18 @@ after_moves (move ∷ moves) w = after_moves moves (after_move move w)
 abbrev pub IsRun : ℕ → World → List Move → Type 0
 IsRun first w [] = Unit {0}
 IsRun first w (move ∷ moves) = MayHappen first w move × IsRun first (after_move move w) moves
+
+-- this isn't that a person has the station go on
+abbrev pub IsNoLook : Event → Type 0
+IsNoLook Look = ⊥
+IsNoLook event = Unit {0}
+
+-- no person ever has the station go on
+abbrev pub IsUnaided : List Move → Type 0
+IsUnaided [] = Unit {0}
+IsUnaided (befalls event ∷ moves) = IsNoLook event × IsUnaided moves
+IsUnaided (stops event count ∷ moves) = IsNoLook event × IsUnaided moves
+IsUnaided (move ∷ moves) = IsUnaided moves
 
 -- nobody else has the seat's token
 abbrev pub IsAlone : List Move → Type 0

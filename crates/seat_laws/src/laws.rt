@@ -1,20 +1,22 @@
 // The laws of a station and its server.
 ghost use Rattle.std.specs.Prelude.{ℕ, List};
-ghost use Rattle.seat_laws.specs.Prelude.{Concludes, IsAlone, IsDoneOnce, IsRun, KeepsAll, Move};
+ghost use Rattle.seat_laws.specs.Prelude.{Concludes, IsAlone, IsDoneOnce, IsRun, IsUnaided, KeepsAll, Move};
 ghost use Rattle.seat_laws.specs.Prelude.{after_moves, beginning};
 
-/// A station that begins with a seat of which nothing is under way, and nobody else has its token:
-/// its log is the seat's accepted requests, but for at most one, which it has under way or aside.
-/// Each reply that it told is that of an execution of its own. It hasn't stopped. The network
-/// loses, repeats, delays and reorders what the station sends; the station is stopped between any
-/// two of its acts; and never more requests are to be kept aside than it keeps.
+/// A station that begins with a seat of which nothing is under way; nobody else has its token, and
+/// no person has it go on. Its log is the seat's accepted requests, but for at most one, which it
+/// has under way or aside. Each reply that it told is that of an execution of its own. It hasn't
+/// stopped. The network loses, repeats, delays and reorders what the station sends; the station is
+/// stopped between any two of its acts; and never more requests are to be kept aside than it keeps.
 pub fn a_station_concludes_what_was_done()
     ensures { (first : ℕ) (moves : List Move) → IsRun first beginning moves → IsAlone moves
-        → KeepsAll beginning moves → Concludes first (after_moves moves beginning) }
+        → IsUnaided moves → KeepsAll beginning moves
+        → Concludes first (after_moves moves beginning) }
 {}
 
-/// The same where somebody else has the token, and however many are to be kept aside: what the
-/// station sent of a request was done at most as often as the request was wanted.
+/// The same where somebody else has the token, where persons have the station go on, and however
+/// many are to be kept aside: what the station sent of a request was done at most as often as the
+/// request was wanted.
 pub fn a_wanted_request_is_done_once()
     ensures { (first : ℕ) (moves : List Move) → IsRun first beginning moves
         → IsDoneOnce (after_moves moves beginning) }

@@ -9,10 +9,11 @@
 //!
 //! Laws over the definitions alone:
 //!
-//! - `a_station_concludes_what_was_done`: where nobody else has the seat's token (`IsAlone`), and
-//!   none of those that are kept aside is forgotten (`KeepsAll`), the station's log is what was
-//!   done, but for at most one request, which it has under way or aside. Each reply that it told is
-//!   that of an execution of its own, and it hasn't stopped (`Concludes`).
+//! - `a_station_concludes_what_was_done`: where nobody else has the seat's token (`IsAlone`), no
+//!   person has the station go on (`IsUnaided`), and none of those that are kept aside is forgotten
+//!   (`KeepsAll`), the station's log is what was done, but for at most one request, which it has
+//!   under way or aside. Each reply that it told is that of an execution of its own, and it hasn't
+//!   stopped (`Concludes`).
 //! - `a_wanted_request_is_done_once`: over any run, what the station sent of a request was done at
 //!   most as often as the request was wanted (`IsDoneOnce`).
 #![tactic(auto)]

@@ -22,7 +22,7 @@ use Rattle.seat_laws.specs.Prelude.{IsAmong, after_act, after_acts, entry_of, ne
 use Rattle.seat_core.specs.declared.event.Event.{Event}
 use Rattle.seat_core.specs.declared.request.Sent.{Sent}
 use Rattle.seat_core.specs.Prelude.{step_of}
-use Rattle.seat_laws.specs.Prelude.{Answer, Concludes, Entry, HasRoom, MayBefall, MayHappen, World, accepts}
+use Rattle.seat_laws.specs.Prelude.{Answer, Concludes, Entry, HasRoom, IsNoLook, MayBefall, MayHappen, World, accepts}
 use Rattle.seat_laws.specs.Prelude.{after_move, beginning, noted, refuses}
 use Rattle.seat_laws.specs.Runs.{befalls, says, serves, stops}
 use Rattle.seat_laws.proofs.Serving.{IsSettled}
@@ -179,9 +179,9 @@ said_settled : (first : ℕ) (w : World) (answer : Answer) → IsSettled first w
     → HasRoom w.station.file.place w.station.file.aside → Expects first w.books answer
     → IsSettled first (after_move (number_said answer) w)
 said_settled first w (accepts reply) is room expects =
-    move_settled first w (says 0 0) is room (λ e. absurd (omega arith)) tt
+    move_settled first w (says 0 0) is room (λ e. absurd (omega arith)) tt tt
 said_settled first w (refuses code expected) is room expects =
-    move_settled first w (says code expected) is room expects tt
+    move_settled first w (says code expected) is room expects tt tt
 
 pub said_books : (answer : Answer) (w : World) → (after_move (number_said answer) w).books ≡ w.books
 said_books (accepts reply) w = refl
@@ -271,7 +271,7 @@ follow_copy v customer seat first sent x ys w s s2 step holding room kept may fe
     let follows = by step.step in
     record {
       settled = move_settled first w (serves sent (v.read x.1) (with_accepted first sent (v.read x.1) w.books))
-          holding.settled room (may.0, follows.answers) tt;
+          holding.settled room (may.0, follows.answers) tt tt;
       row = follows.row_of;
       are_sent = added_sent first sent (v.read x.1) w.sent w.books may.0 holding.are_sent;
     }
@@ -330,10 +330,10 @@ follow_other v customer seat first x ys w s s2 step holding may = record {
 
 -- something befalls the station, or stops it
 pub meet : (v : Names) (seat : List ℕ) (first : ℕ) (event : Event) (w : World) (s : SoloState)
-    → Holding v seat first w s → HasRoom w.station.file.place w.station.file.aside → MayBefall w event
+    → Holding v seat first w s → HasRoom w.station.file.place w.station.file.aside → MayBefall w event × IsNoLook event
     → Holding v seat first (after_turn v first (meets event) w) s
 meet v seat first event w s holding room may = record {
-  settled = move_settled first w (befalls event) holding.settled room may tt;
+  settled = move_settled first w (befalls event) holding.settled room may.0 tt (may.1, tt);
   row = rw (same_books (step_of w.station event).acts (noted event w)) holding.row;
   are_sent = rw (same_books (step_of w.station event).acts (noted event w))
       (more_sent w.sent _ w.books (λ sent among. acts_sent sent (step_of w.station event).acts (noted event w) among)
@@ -341,10 +341,10 @@ meet v seat first event w s holding room may = record {
 }
 
 pub halt : (v : Names) (seat : List ℕ) (first : ℕ) (event : Event) (count : ℕ) (w : World) (s : SoloState)
-    → Holding v seat first w s → HasRoom w.station.file.place w.station.file.aside → MayBefall w event
+    → Holding v seat first w s → HasRoom w.station.file.place w.station.file.aside → MayBefall w event × IsNoLook event
     → Holding v seat first (after_turn v first (halts event count) w) s
 halt v seat first event count w s holding room may = record {
-  settled = move_settled first w (stops event count) holding.settled room may tt;
+  settled = move_settled first w (stops event count) holding.settled room may.0 tt (may.1, tt);
   row = rw (same_books (take count (step_of w.station event).acts) (noted event w)) holding.row;
   are_sent = rw (same_books (take count (step_of w.station event).acts) (noted event w))
       (more_sent w.sent _ w.books
@@ -358,13 +358,13 @@ pub turn_away : (v : Names) (customer seat : List ℕ) (first : ℕ) (what : Opt
     → Holding v seat first (after_turn v first (turned_away what code) w) s
 turn_away v customer seat first (Some sent) code w s holding room may = record {
   settled = move_settled first w (serves sent (refuses code 0) w.books) holding.settled room
-      (may.0, (came_refused v first sent w.books (seat_named seat s) code 0 may.1 holding.row).answers) tt;
+      (may.0, (came_refused v first sent w.books (seat_named seat s) code 0 may.1 holding.row).answers) tt tt;
   row = holding.row;
   are_sent = holding.are_sent;
 }
 turn_away v customer seat first None code w s holding room may = record {
   settled = move_settled first w (says code 0) holding.settled room
-      (λ e. absurd (low_not code 11 may.1 (omega arith) (omega arith) e)) tt;
+      (λ e. absurd (low_not code 11 may.1 (omega arith) (omega arith) e)) tt tt;
   row = holding.row;
   are_sent = holding.are_sent;
 }

@@ -5,7 +5,7 @@ use Rattle.office_commands.specs.Prelude.{largest_whole}
 use Rattle.office_laws.specs.Prelude.{Exchange, SeatRun, last_number_of_seat, seat_named, view, writes}
 use Rattle.seat_core.specs.declared.event.Event.{Event}
 use Rattle.seat_core.specs.declared.request.Sent.{Sent}
-use Rattle.seat_laws.specs.Prelude.{Answer, Entry, HasRoom, IsAmong, MayBefall, Move, World, accepts, after_move}
+use Rattle.seat_laws.specs.Prelude.{Answer, Entry, HasRoom, IsAmong, IsNoLook, MayBefall, Move, World, accepts, after_move}
 use Rattle.seat_laws.specs.Prelude.{beginning, entry_of, next_number, refuses}
 use Rattle.seat_laws.specs.Runs.{befalls, says, serves, stops}
 use Rattle.seat_runs.specs.Names.{AreApart, IsCopy, IsQuestion, Names}
@@ -69,11 +69,11 @@ WasSent (Some sent) w = IsAmong sent w.sent
 WasSent None w = Unit {0}
 
 -- each request of the seat that writes is a copy of what the station sent, any number of times and
--- as late as one likes, or its question; and what the station hears is an answer to what it sent
--- last
+-- as late as one likes, or its question; what the station hears is an answer to what it sent last;
+-- and no person has it go on
 abbrev pub MayTurn : Names → List ℕ → List ℕ → World → Turn → Type 0
-MayTurn v customer seat w (meets event) = MayBefall w event
-MayTurn v customer seat w (halts event count) = MayBefall w event
+MayTurn v customer seat w (meets event) = MayBefall w event × IsNoLook event
+MayTurn v customer seat w (halts event count) = MayBefall w event × IsNoLook event
 MayTurn v customer seat w (copies sent x) =
     IsAmong sent w.sent × IsOf customer seat x × IsCopy v sent x.0.wanted
 MayTurn v customer seat w (questions x) = IsOf customer seat x × IsQuestion v x.0.wanted
