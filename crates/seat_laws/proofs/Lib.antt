@@ -9,3 +9,4 @@ pub mod Refused
 pub mod Running
 pub mod Counts
 pub mod Counting
+pub mod Lines

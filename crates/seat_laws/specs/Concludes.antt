@@ -75,6 +75,10 @@ pub record Concludes (first : ℕ) (w : World) : Type 0 where
   pub told : AreToldOf w.books w.told
   pub goes_on : w.station.file.stop ≡ None
 
+-- What was sent has a line in the log. It is so at each moment: the line is there before.
+pub record IsLogged (w : World) : Type 0 where
+  pub line : (sent : Sent) → IsAmong sent w.sent → IsAmong (LogRequest sent) w.log
+
 -- how many times it is there
 abbrev pub times : ℕ → List ℕ → ℕ
 times request [] = 0
