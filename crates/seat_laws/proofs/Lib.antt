@@ -10,3 +10,4 @@ pub mod Running
 pub mod Counts
 pub mod Counting
 pub mod Lines
+pub mod Refusals
