@@ -34,25 +34,25 @@ use Rattle.seat_laws.proofs.Counting.{of_parts}
 use Rattle.seat_laws.proofs.Running.{unaided_first}
 
 -- each of these has a line with this number
-abbrev HaveLines : ℕ → List ℕ → List Act → Type 0
+abbrev pub HaveLines : ℕ → List ℕ → List Act → Type 0
 HaveLines number aside log = (x : ℕ) → IsAmong x aside
     → IsAmong (LogRequest (record { number = number; request = x })) log
 
-abbrev AsideAt : Place → List ℕ → List Act → Type 0
+abbrev pub AsideAt : Place → List ℕ → List Act → Type 0
 AsideAt Unknown aside log = aside ≡ []
 AsideAt (Free number) aside log = HaveLines number aside log
 AsideAt (UnderWay sent) aside log = HaveLines sent.number aside log
 
 -- what was sent, and what is kept aside, has its line
-record HasLines (place : Place) (aside : List ℕ) (sents : List Sent) (log : List Act) : Type 0 where
-  sent : (s : Sent) → IsAmong s sents → IsAmong (LogRequest s) log
-  kept : AsideAt place aside log
+pub record HasLines (place : Place) (aside : List ℕ) (sents : List Sent) (log : List Act) : Type 0 where
+  pub sent : (s : Sent) → IsAmong s sents → IsAmong (LogRequest s) log
+  pub kept : AsideAt place aside log
 
-abbrev LinesIn : SeatFile → World → Type 0
+abbrev pub LinesIn : SeatFile → World → Type 0
 LinesIn f w = HasLines f.place f.aside w.sent w.log
 
 -- what a reply is waited for has its line
-abbrev WaitsAt : Waiting → Place → List Act → Type 0
+abbrev pub WaitsAt : Waiting → Place → List Act → Type 0
 WaitsAt Nothing place log = Unit {0}
 WaitsAt Once (UnderWay sent) log = IsAmong (LogRequest sent) log
 WaitsAt Again (UnderWay sent) log = IsAmong (LogRequest sent) log
@@ -60,7 +60,7 @@ WaitsAt (Kept untried again) (UnderWay sent) log = IsAmong (LogRequest sent) log
 WaitsAt Number Unknown log = Unit {0}
 WaitsAt waiting place log = ⊥
 
-abbrev AwaitsIn : Station → World → Type 0
+abbrev pub AwaitsIn : Station → World → Type 0
 AwaitsIn s w = WaitsAt s.waiting s.file.place w.log
 
 abbrev Lasting : Station → World → Step → Type 0
@@ -333,43 +333,44 @@ events place aside last stop waiting w GiveUp has waits no_look = patience place
 events place aside last stop waiting w Look has waits no_look = elim no_look [ ]
 
 -- what holds between two moves
-record IsKept (w : World) : Type 0 where
-  lines : LinesIn w.station.file w
-  waits : AwaitsIn w.station w
+pub record HasAllLines (w : World) : Type 0 where
+  pub lines : LinesIn w.station.file w
+  pub waits : AwaitsIn w.station w
 
-lasting_of : (w : World) (event : Event) → IsKept w → IsNoLook event
+lasting_of : (w : World) (event : Event) → HasAllLines w → IsNoLook event
     → Lasting w.station (noted event w) (step_of w.station event)
 lasting_of w event is no_look = events w.station.file.place w.station.file.aside w.station.file.last
     w.station.file.stop w.station.waiting w event is.lines is.waits no_look
 
-move_kept : (w : World) (move : Move) → IsKept w → IsUnaided (move ∷ []) → IsKept (after_move move w)
-move_kept w (befalls event) is unaided =
+pub lines_kept : (w : World) (move : Move) → HasAllLines w → IsUnaided (move ∷ []) → HasAllLines (after_move move w)
+lines_kept w (befalls event) is unaided =
     let lasting = lasting_of w event is unaided.0 in
     record {
       lines = step_holds LinesIn AwaitsIn w.station (noted event w) (step_of w.station event)
           (step_safe w.station event) lasting;
       waits = lasting.waits;
     }
-move_kept w (stops event count) is unaided =
+lines_kept w (stops event count) is unaided =
     let step = step_of w.station event in
     let lasting = lasting_of w event is unaided.0 in
     record {
       lines = cut_holds LinesIn w.station.file step.left.file step.acts (noted event w) count lasting.lasts;
       waits = tt;
     }
-move_kept w (serves sent answer books) is unaided = record { lines = is.lines; waits = is.waits }
-move_kept w (says code expected) is unaided = record { lines = is.lines; waits = is.waits }
-move_kept w (takes entry) is unaided = record { lines = is.lines; waits = is.waits }
+lines_kept w (serves sent answer books) is unaided = record { lines = is.lines; waits = is.waits }
+lines_kept w (says code expected) is unaided = record { lines = is.lines; waits = is.waits }
+lines_kept w (takes entry) is unaided = record { lines = is.lines; waits = is.waits }
 
-moves_kept : (w : World) (moves : List Move) → IsKept w → IsUnaided moves → IsKept (after_moves moves w)
+pub lines_begin : HasAllLines beginning
+lines_begin = record { lines = record { sent = λ s among. elim among [ ]; kept = refl }; waits = tt }
+
+moves_kept : (w : World) (moves : List Move) → HasAllLines w → IsUnaided moves → HasAllLines (after_moves moves w)
 moves_kept w [] is unaided = is
 moves_kept w (move ∷ moves) is unaided =
     let own = unaided_first move moves unaided in
-    moves_kept (after_move move w) moves (move_kept w move is own.0) own.1
+    moves_kept (after_move move w) moves (lines_kept w move is own.0) own.1
 
 -- the law
 pub moves_logged : (moves : List Move) → IsUnaided moves → IsLogged (after_moves moves beginning)
 moves_logged moves unaided =
-    let is = moves_kept beginning moves
-    (record { lines = record { sent = λ s among. elim among [ ]; kept = refl }; waits = tt }) unaided in
-    record { line = is.lines.sent }
+    let is = moves_kept beginning moves lines_begin unaided in record { line = is.lines.sent }

@@ -32,20 +32,20 @@ use Rattle.seat_laws.proofs.Acting.{Keeps, cut_holds, either, quiet, shows, step
 use Rattle.seat_laws.proofs.Counting.{of_parts}
 
 -- an answer to a request is one of these
-abbrev AreGiven : List Reply → List Reply → Type 0
+abbrev pub AreGiven : List Reply → List Reply → Type 0
 AreGiven answers since = (reply : Reply) (sent : Sent) → IsAmong reply since → reply.to ≡ Some sent
     → IsAmong reply answers
 
 -- the refusals in the log were answers, and what the station may hear is one
-record HasRefusals (answers : List Reply) (log : List Act) (since : List Reply) : Type 0 where
-  lines : WereRefused answers log
-  given : AreGiven answers since
+pub record HasRefusals (answers : List Reply) (log : List Act) (since : List Reply) : Type 0 where
+  pub lines : WereRefused answers log
+  pub given : AreGiven answers since
 
-abbrev HoldsIn : List Reply → SeatFile → World → Type 0
+abbrev pub HoldsIn : List Reply → SeatFile → World → Type 0
 HoldsIn answers f w = HasRefusals answers w.log w.since
 
 -- the newest line is of the request under way, of which a reply is waited for
-abbrev WaitsAt : List Reply → Waiting → Place → List Act → Type 0
+abbrev pub WaitsAt : List Reply → Waiting → Place → List Act → Type 0
 WaitsAt answers Nothing place log = Unit {0}
 WaitsAt answers Once (UnderWay sent) log = line_of_request log ≡ Some sent
 WaitsAt answers Again (UnderWay sent) log = line_of_request log ≡ Some sent
@@ -54,7 +54,7 @@ WaitsAt answers (Kept untried again) (UnderWay sent) log =
 WaitsAt answers Number place log = Unit {0}
 WaitsAt answers waiting place log = ⊥
 
-abbrev AwaitsIn : List Reply → Station → World → Type 0
+abbrev pub AwaitsIn : List Reply → Station → World → Type 0
 AwaitsIn answers s w = WaitsAt answers s.waiting s.file.place w.log
 
 abbrev Lasting : List Reply → Station → World → Step → Type 0
@@ -315,47 +315,60 @@ events answers place aside last stop waiting w Look has waits heard =
     record { lasts = (has, sends has); waits = tt }
 
 -- what holds between two moves
-record IsKept (answers : List Reply) (w : World) : Type 0 where
-  holds : HoldsIn answers w.station.file w
-  waits : AwaitsIn answers w.station w
+pub record HasAllRefusals (answers : List Reply) (w : World) : Type 0 where
+  pub holds : HoldsIn answers w.station.file w
+  pub waits : AwaitsIn answers w.station w
 
-lasting_of : (answers : List Reply) (w : World) (event : Event) → IsKept answers w → MayBefall w event
+lasting_of : (answers : List Reply) (w : World) (event : Event) → HasAllRefusals answers w → MayBefall w event
     → Lasting answers w.station (noted event w) (step_of w.station event)
 lasting_of answers w event is heard = events answers w.station.file.place w.station.file.aside w.station.file.last
     w.station.file.stop w.station.waiting w event is.holds is.waits heard
 
-move_kept : (answers : List Reply) (first : ℕ) (w : World) (move : Move)
-    → ((reply : Reply) → IsAmong reply (answers_in (move ∷ [])) → IsAmong reply answers) → IsKept answers w
-    → MayHappen first w move → IsKept answers (after_move move w)
-move_kept answers first w (befalls event) gives is may =
+-- what is heard, if something is, is an answer
+abbrev pub Hears : World → Move → Type 0
+Hears w (befalls event) = MayBefall w event
+Hears w (stops event count) = MayBefall w event
+Hears w move = Unit {0}
+
+hears : (first : ℕ) (w : World) (move : Move) → MayHappen first w move → Hears w move
+hears first w (befalls event) may = may
+hears first w (stops event count) may = may
+hears first w (serves sent answer books) may = tt
+hears first w (says code expected) may = tt
+hears first w (takes entry) may = tt
+
+pub refusals_kept : (answers : List Reply) (w : World) (move : Move)
+    → ((reply : Reply) → IsAmong reply (answers_in (move ∷ [])) → IsAmong reply answers) → HasAllRefusals answers w
+    → Hears w move → HasAllRefusals answers (after_move move w)
+refusals_kept answers w (befalls event) gives is may =
     let lasting = lasting_of answers w event is may in
     record {
       holds = step_holds (HoldsIn answers) (AwaitsIn answers) w.station (noted event w) (step_of w.station event)
           (step_safe w.station event) lasting;
       waits = lasting.waits;
     }
-move_kept answers first w (stops event count) gives is may =
+refusals_kept answers w (stops event count) gives is may =
     let step = step_of w.station event in
     let lasting = lasting_of answers w event is may in
     record {
       holds = cut_holds (HoldsIn answers) w.station.file step.left.file step.acts (noted event w) count lasting.lasts;
       waits = tt;
     }
-move_kept answers first w (serves sent answer books) gives is may = record {
+refusals_kept answers w (serves sent answer books) gives is may = record {
   holds = record { lines = is.holds.lines; given = given };
   waits = is.waits;
 } where
   given : AreGiven answers (record { to = Some sent; answer = answer } ∷ w.since)
   given reply to (inl e) is_to = gives reply (inl e)
   given reply to (inr among) is_to = is.holds.given reply to among is_to
-move_kept answers first w (says code expected) gives is may = record {
+refusals_kept answers w (says code expected) gives is may = record {
   holds = record { lines = is.holds.lines; given = given };
   waits = is.waits;
 } where
   given : AreGiven answers (record { to = None; answer = refuses code expected } ∷ w.since)
   given reply to (inl e) is_to = absurd (cc)
   given reply to (inr among) is_to = is.holds.given reply to among is_to
-move_kept answers first w (takes entry) gives is may = record { holds = is.holds; waits = is.waits }
+refusals_kept answers w (takes entry) gives is may = record { holds = is.holds; waits = is.waits }
 
 -- an answer at first is one of all, and a later one
 first_given : (move : Move) (moves : List Move) (reply : Reply) → IsAmong reply (answers_in (move ∷ []))
@@ -375,19 +388,23 @@ later_given (stops event count) moves reply among = among
 later_given (says code expected) moves reply among = among
 later_given (takes entry) moves reply among = among
 
+pub refusals_begin : (answers : List Reply) → HasAllRefusals answers beginning
+refusals_begin answers =
+    record { holds = record { lines = tt; given = λ reply sent among. elim among [ ] }; waits = tt }
+
 moves_kept : (answers : List Reply) (first : ℕ) (w : World) (moves : List Move)
-    → ((reply : Reply) → IsAmong reply (answers_in moves) → IsAmong reply answers) → IsKept answers w
-    → IsRun first w moves → IsKept answers (after_moves moves w)
+    → ((reply : Reply) → IsAmong reply (answers_in moves) → IsAmong reply answers) → HasAllRefusals answers w
+    → IsRun first w moves → HasAllRefusals answers (after_moves moves w)
 moves_kept answers first w [] gives is run = is
 moves_kept answers first w (move ∷ moves) gives is run =
     moves_kept answers first (after_move move w) moves
     (λ reply among. gives reply (later_given move moves reply among))
-    (move_kept answers first w move (λ reply among. gives reply (first_given move moves reply among)) is run.0) run.1
+    (refusals_kept answers w move (λ reply among. gives reply (first_given move moves reply among)) is
+    (hears first w move run.0)) run.1
 
 -- the law
 pub run_refused : (first : ℕ) (moves : List Move) → IsRun first beginning moves
     → WereRefused (answers_in moves) (after_moves moves beginning).log
 run_refused first moves run =
-    let is = moves_kept (answers_in moves) first beginning moves (λ reply among. among)
-    (record { holds = record { lines = tt; given = λ reply sent among. elim among [ ] }; waits = tt }) run in
+    let is = moves_kept (answers_in moves) first beginning moves (λ reply among. among) (refusals_begin (answers_in moves)) run in
     is.holds.lines
