@@ -1,0 +1,238 @@
+// The text of a station's file, read.
+ghost use Rattle.std.specs.Prelude.{◌≡◌, IfOk, codes, map, option_map};
+ghost use Rattle.serde_json.specs.Find.{get};
+ghost use Rattle.serde_json.specs.View.{view};
+ghost use Rattle.text_core.specs.Prelude.{◌>>=◌, all_of, result_map};
+ghost use Rattle.seat_ask.specs.Prelude.{GivesUnlessMemory, aside_of, asked_in, last_in, list_in, number_at, number_in};
+ghost use Rattle.seat_ask.specs.Prelude.{pair_in, place_in, state_in, state_of, stop_in, text_at, value_of};
+ghost use Rattle.seat_ask.specs.declared.reading.StateFault.TheVariants.{NoMemory};
+
+use crate::reading::StateFault::NotState;
+use crate::state::{Asked, SeatState};
+use members::DocumentFault;
+use members::in_json::read_json;
+use members::read_all;
+use seat_core::{Answered, KeptAside, Place, SeatFile, Sent, Stop};
+use serde_json::Value;
+use std::alloc::{AllocError, Global};
+use text_core::Text;
+use thiserror::Error;
+
+/// Why there is no state.
+#[derive(Clone, Copy, Debug, PartialEq, Eq, Error)]
+pub enum StateFault {
+    /// The text is no station's file.
+    #[error("the text is no station's file")]
+    NotState,
+    /// Memory ran out.
+    #[error("no memory")]
+    NoMemory,
+}
+
+impl From<AllocError> for StateFault {
+    ghost from_gives = { λ _ fault. fault ≡ NoMemory };
+
+    fn from(_error: AllocError) -> StateFault {
+        StateFault::NoMemory
+    }
+}
+
+/// The number that a value is.
+fn number_in(value: &Value) -> Option<u64>
+    ensures { result ≡ number_in (view value.now) }
+{
+    value.as_u64()
+}
+
+/// The number at an index of an array.
+fn number_at(value: &Value, index: usize) -> Option<u64>
+    ensures { result ≡ number_at index (view value.now) }
+{
+    value.get(index)?.as_u64()
+}
+
+/// The text at an index of an array.
+fn text_at(value: &Value, index: usize) -> Option<&str>
+    ensures { option_map (λ text. text.now) result ≡ text_at index (view value.now) }
+{
+    value.get(index)?.as_str()
+}
+
+/// The first two numbers of an array.
+fn pair_in(value: &Value) -> Option<(u64, u64)>
+    ensures { result ≡ pair_in (view value.now) }
+{
+    let first = number_at(value, 0)?;
+    let second = number_at(value, 1)?;
+    Some((first, second))
+}
+
+/// Where a seat's requests stand.
+fn place_in(value: &Value) -> Option<Place>
+    ensures { result ≡ place_in (view value.now) }
+{
+    if value.is_null() {
+        return Some(Place::Unknown);
+    }
+    if let Some(number) = number_in(value) {
+        return Some(Place::Free(number));
+    }
+    let (number, request) = pair_in(value)?;
+    Some(Place::UnderWay(Sent { number, request }))
+}
+
+/// The last request that was done, if one was.
+fn last_in(value: &Value) -> Option<Option<Answered>>
+    ensures { result ≡ last_in (view value.now) }
+{
+    if value.is_null() {
+        return Some(None);
+    }
+    let (request, reply) = pair_in(value)?;
+    Some(Some(Answered { request, reply }))
+}
+
+/// Why the station stopped, if it did.
+fn stop_in(value: &Value) -> Option<Option<Stop>>
+    ensures { result ≡ stop_in (view value.now) }
+{
+    if value.is_null() {
+        return Some(None);
+    }
+    let (code, expected) = pair_in(value)?;
+    if code >= 256 {
+        return None;
+    }
+    let code = code as u8;
+    Some(Some(Stop { code, expected }))
+}
+
+/// The place that a state has.
+fn place_member(value: &Value) -> Option<Place>
+    ensures { result ≡ get (codes "place") (view value.now) >>= place_in }
+{
+    place_in(value.get("place")?)
+}
+
+/// The last request of a state.
+fn last_member(value: &Value) -> Option<Option<Answered>>
+    ensures { result ≡ get (codes "last") (view value.now) >>= last_in }
+{
+    last_in(value.get("last")?)
+}
+
+/// The stop of a state.
+fn stop_member(value: &Value) -> Option<Option<Stop>>
+    ensures { result ≡ get (codes "stop") (view value.now) >>= stop_in }
+{
+    stop_in(value.get("stop")?)
+}
+
+/// The numbers of a member that is an array of numbers.
+#[tactic(auto, using(members::proofs::Lists::json_list))]
+fn numbers_member(alloc: Global, value: &Value, name: &str) -> Result<Vec<u64>, StateFault>
+    ensures { GivesUnlessMemory (result_map (λ numbers. numbers.items) result)
+        (get name.now (view value.now) >>= list_in >>= all_of number_in) }
+{
+    let member = value.get(name).ok_or(NotState)?;
+    let values = member.as_array().ok_or(NotState)?;
+    read_all(alloc, values.as_slice(), number_in)?.ok_or(NotState)
+}
+
+/// The request that a value is, with its name.
+fn asked_in(alloc: Global, value: &Value) -> Result<Asked, StateFault>
+    ensures { GivesUnlessMemory result (asked_in (view value.now)) }
+{
+    let name = number_at(value, 0).ok_or(NotState)?;
+    let path = text_at(value, 1).ok_or(NotState)?;
+    let members = text_at(value, 2).ok_or(NotState)?;
+    let path = Text::copy_of(alloc, path)?;
+    let members = Text::copy_of(alloc, members)?;
+    Ok(Asked {
+        name,
+        path,
+        members,
+    })
+}
+
+/// The requests that values are.
+fn all_asked(alloc: Global, values: &[Value]) -> Result<Vec<Asked>, StateFault>
+    ensures { GivesUnlessMemory (result_map (λ requests. requests.items) result)
+        (all_of asked_in (map view values.now)) }
+{
+    let mut requests = Vec::new(alloc);
+    for value in values {
+        let asked = asked_in(alloc, value)?;
+        requests.push(asked)?;
+    }
+    Ok(requests)
+}
+
+/// The requests of a state.
+#[tactic(auto, using(members::proofs::Lists::json_list))]
+fn requests_member(alloc: Global, value: &Value) -> Result<Vec<Asked>, StateFault>
+    ensures { GivesUnlessMemory (result_map (λ requests. requests.items) result)
+        (get (codes "requests") (view value.now) >>= list_in >>= all_of asked_in) }
+{
+    let member = value.get("requests").ok_or(NotState)?;
+    let values = member.as_array().ok_or(NotState)?;
+    all_asked(alloc, values.as_slice())
+}
+
+/// These names, kept aside one after another.
+fn aside_of(alloc: Global, names: &[u64]) -> Result<KeptAside, AllocError>
+    ensures { IfOk result (λ aside. aside ≡ aside_of names.now) }
+{
+    let mut aside = KeptAside::new(alloc)?;
+    for name in names {
+        aside.keep(*name);
+    }
+    Ok(aside)
+}
+
+/// The state that a value is.
+#[tactic(auto, unfolding(crate::specs::States::state_in))]
+fn state_in(alloc: Global, value: &Value) -> Result<SeatState, StateFault>
+    ensures { GivesUnlessMemory (result_map value_of result) (state_in (view value.now)) }
+{
+    let place = place_member(value).ok_or(NotState)?;
+    let last = last_member(value).ok_or(NotState)?;
+    let stop = stop_member(value).ok_or(NotState)?;
+    let named = named_member(value).ok_or(NotState)?;
+    let names = numbers_member(alloc, value, "aside")?;
+    let requests = requests_member(alloc, value)?;
+    let aside = aside_of(alloc, names.as_slice())?;
+    Ok(SeatState {
+        file: SeatFile {
+            place,
+            aside,
+            last,
+            stop,
+        },
+        requests,
+        named,
+    })
+}
+
+/// How many requests of a state got a name.
+fn named_member(value: &Value) -> Option<u64>
+    ensures { result ≡ get (codes "named") (view value.now) >>= number_in }
+{
+    value.get("named")?.as_u64()
+}
+
+/// The state that the text of a station's file says.
+///
+/// # Errors
+///
+/// `NotState` where it says none, or `NoMemory`.
+pub fn read_state(alloc: Global, text: &[u8]) -> Result<SeatState, StateFault>
+    ensures { GivesUnlessMemory (result_map value_of result) (state_of text.now) }
+{
+    let value = match read_json(alloc, text) {
+        Ok(value) => value,
+        Err(DocumentFault::NotDocument) => return Err(NotState),
+        Err(DocumentFault::OutOfMemory) => return Err(StateFault::NoMemory),
+    };
+    state_in(alloc, &value)
+}
