@@ -29,9 +29,9 @@ numbers_again : (ns : List ℕ) → all_of number_in (json_items (items_of (map 
 numbers_again [] = refl
 numbers_again (n ∷ ns) = rw (numbers_again ns) refl
 
-requests_again : (as : List Asked) → all_of asked_in (json_items (items_of (map asked_data as))) ≡ Some as
+requests_again : (rs : List Asked) → all_of asked_in (json_items (items_of (map asked_data rs))) ≡ Some rs
 requests_again [] = refl
-requests_again (a ∷ as) = rw (requests_again as) refl
+requests_again (r ∷ rs) = rw (requests_again rs) refl
 
 pub state_again : (s : StateValue) → IsWritable s → state_in (state_data s) ≡ Some s
 unfolding state_in

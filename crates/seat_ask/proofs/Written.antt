@@ -14,9 +14,9 @@ numbers_float : (ns : List ℕ) → items_have_float (items_of (map number_data 
 numbers_float [] = refl
 numbers_float (n ∷ ns) = numbers_float ns
 
-requests_float : (as : List Asked) → items_have_float (items_of (map asked_data as)) ≡ false
+requests_float : (rs : List Asked) → items_have_float (items_of (map asked_data rs)) ≡ false
 requests_float [] = refl
-requests_float (a ∷ as) = requests_float as
+requests_float (r ∷ rs) = requests_float rs
 
 place_float : (p : Place) → has_float (place_data p) ≡ false
 place_float Unknown = refl
@@ -45,9 +45,9 @@ numbers_depth : (ns : List ℕ) → items_depth (items_of (map number_data ns)) 
 numbers_depth [] = omega arith
 numbers_depth (n ∷ ns) = omega (arith, numbers_depth ns)
 
-requests_depth : (as : List Asked) → items_depth (items_of (map asked_data as)) ≤ 1
+requests_depth : (rs : List Asked) → items_depth (items_of (map asked_data rs)) ≤ 1
 requests_depth [] = omega arith
-requests_depth (a ∷ as) = omega (arith, requests_depth as)
+requests_depth (r ∷ rs) = omega (arith, requests_depth rs)
 
 place_depth : (p : Place) → depth (place_data p) ≤ 1
 place_depth Unknown = omega arith

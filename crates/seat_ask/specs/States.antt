@@ -14,9 +14,10 @@ use Rattle.seat_core.specs.declared.station.Place.{Place}
 use Rattle.seat_core.specs.declared.station.Place.TheVariants.{Unknown, Free, UnderWay}
 use Rattle.seat_core.specs.declared.station.SeatFile.{SeatFile}
 use Rattle.seat_ask.specs.declared.state.Asked.{Asked}
+use Rattle.seat_ask.specs.declared.state.Names.{Names}
 use Rattle.seat_ask.specs.declared.state.SeatState.{SeatState}
-use Rattle.seat_ask.specs.declared.reading.StateFault.{StateFault}
-use Rattle.seat_ask.specs.declared.reading.StateFault.TheVariants.{NoMemory, NotState}
+use Rattle.seat_ask.specs.declared.reading.TextFault.{TextFault}
+use Rattle.seat_ask.specs.declared.reading.TextFault.TheVariants.{NoMemory, OtherForm}
 
 -- a station's file, and the requests that it has names for
 pub record StateValue : Type 0 where
@@ -24,9 +25,12 @@ pub record StateValue : Type 0 where
   pub requests : List Asked
   pub named : ℕ
 
--- the same of a value in memory
+-- the same of values in memory
+abbrev pub value_with : SeatFile → Names → StateValue
+value_with file names = record { file = file; requests = names.requests.items; named = names.named }
+
 abbrev pub value_of : SeatState → StateValue
-value_of s = record { file = s.file; requests = s.requests.items; named = s.named }
+value_of s = value_with s.file s.names
 
 -- ---- as JSON
 
@@ -133,11 +137,11 @@ state_in d = do
 abbrev pub state_of : List ℕ → Option StateValue
 state_of text = json_of text >>= state_in
 
--- The value is what the definition reads, and the fault is `NotState` where it reads nothing. Memory
+-- The value is what the definition reads, and the fault is `OtherForm` where it reads nothing. Memory
 -- may run out in place of either.
-abbrev pub GivesUnlessMemory : {T : Type 0} → Result T StateFault → Option T → Type 0
+abbrev pub GivesUnlessMemory : {T : Type 0} → Result T TextFault → Option T → Type 0
 GivesUnlessMemory (Ok found) wanted = Some found ≡ wanted
-GivesUnlessMemory (Err fault) wanted = ((None ≡ wanted) × (fault ≡ NotState)) ⊎ (fault ≡ NoMemory)
+GivesUnlessMemory (Err fault) wanted = ((None ≡ wanted) × (fault ≡ OtherForm)) ⊎ (fault ≡ NoMemory)
 
 -- ---- what is written whole
 

@@ -2,13 +2,14 @@
 ghost use Rattle.std.specs.Prelude.{◌≡◌, IfOk, codes, map, option_map};
 ghost use Rattle.serde_json.specs.Find.{get};
 ghost use Rattle.serde_json.specs.View.{view};
+ghost use Rattle.members.specs.Prelude.{json_of};
 ghost use Rattle.text_core.specs.Prelude.{◌>>=◌, all_of, result_map};
 ghost use Rattle.seat_ask.specs.Prelude.{GivesUnlessMemory, aside_of, asked_in, last_in, list_in, number_at, number_in};
 ghost use Rattle.seat_ask.specs.Prelude.{pair_in, place_in, state_in, state_of, stop_in, text_at, value_of};
-ghost use Rattle.seat_ask.specs.declared.reading.StateFault.TheVariants.{NoMemory};
+ghost use Rattle.seat_ask.specs.declared.reading.TextFault.TheVariants.{NoMemory};
 
-use crate::reading::StateFault::NotState;
-use crate::state::{Asked, SeatState};
+use crate::reading::TextFault::OtherForm;
+use crate::state::{Asked, Names, SeatState};
 use members::DocumentFault;
 use members::in_json::read_json;
 use members::read_all;
@@ -18,22 +19,33 @@ use std::alloc::{AllocError, Global};
 use text_core::Text;
 use thiserror::Error;
 
-/// Why there is no state.
+/// Why nothing is read of a text.
 #[derive(Clone, Copy, Debug, PartialEq, Eq, Error)]
-pub enum StateFault {
-    /// The text is no station's file.
-    #[error("the text is no station's file")]
-    NotState,
+pub enum TextFault {
+    /// The text has another form.
+    #[error("the text has another form")]
+    OtherForm,
     /// Memory ran out.
     #[error("no memory")]
     NoMemory,
 }
 
-impl From<AllocError> for StateFault {
+impl From<AllocError> for TextFault {
     ghost from_gives = { λ _ fault. fault ≡ NoMemory };
 
-    fn from(_error: AllocError) -> StateFault {
-        StateFault::NoMemory
+    fn from(_error: AllocError) -> TextFault {
+        TextFault::NoMemory
+    }
+}
+
+/// The JSON that a text is.
+pub(crate) fn read_value(alloc: Global, text: &[u8]) -> Result<Value, TextFault>
+    ensures { GivesUnlessMemory (result_map view result) (json_of text.now) }
+{
+    match read_json(alloc, text) {
+        Ok(value) => Ok(value),
+        Err(DocumentFault::NotDocument) => Err(OtherForm),
+        Err(DocumentFault::OutOfMemory) => Err(TextFault::NoMemory),
     }
 }
 
@@ -130,22 +142,22 @@ fn stop_member(value: &Value) -> Option<Option<Stop>>
 
 /// The numbers of a member that is an array of numbers.
 #[tactic(auto, using(members::proofs::Lists::json_list))]
-fn numbers_member(alloc: Global, value: &Value, name: &str) -> Result<Vec<u64>, StateFault>
+fn numbers_member(alloc: Global, value: &Value, name: &str) -> Result<Vec<u64>, TextFault>
     ensures { GivesUnlessMemory (result_map (λ numbers. numbers.items) result)
         (get name.now (view value.now) >>= list_in >>= all_of number_in) }
 {
-    let member = value.get(name).ok_or(NotState)?;
-    let values = member.as_array().ok_or(NotState)?;
-    read_all(alloc, values.as_slice(), number_in)?.ok_or(NotState)
+    let member = value.get(name).ok_or(OtherForm)?;
+    let values = member.as_array().ok_or(OtherForm)?;
+    read_all(alloc, values.as_slice(), number_in)?.ok_or(OtherForm)
 }
 
 /// The request that a value is, with its name.
-fn asked_in(alloc: Global, value: &Value) -> Result<Asked, StateFault>
+fn asked_in(alloc: Global, value: &Value) -> Result<Asked, TextFault>
     ensures { GivesUnlessMemory result (asked_in (view value.now)) }
 {
-    let name = number_at(value, 0).ok_or(NotState)?;
-    let path = text_at(value, 1).ok_or(NotState)?;
-    let members = text_at(value, 2).ok_or(NotState)?;
+    let name = number_at(value, 0).ok_or(OtherForm)?;
+    let path = text_at(value, 1).ok_or(OtherForm)?;
+    let members = text_at(value, 2).ok_or(OtherForm)?;
     let path = Text::copy_of(alloc, path)?;
     let members = Text::copy_of(alloc, members)?;
     Ok(Asked {
@@ -156,7 +168,7 @@ fn asked_in(alloc: Global, value: &Value) -> Result<Asked, StateFault>
 }
 
 /// The requests that values are.
-fn all_asked(alloc: Global, values: &[Value]) -> Result<Vec<Asked>, StateFault>
+fn all_asked(alloc: Global, values: &[Value]) -> Result<Vec<Asked>, TextFault>
     ensures { GivesUnlessMemory (result_map (λ requests. requests.items) result)
         (all_of asked_in (map view values.now)) }
 {
@@ -170,12 +182,12 @@ fn all_asked(alloc: Global, values: &[Value]) -> Result<Vec<Asked>, StateFault>
 
 /// The requests of a state.
 #[tactic(auto, using(members::proofs::Lists::json_list))]
-fn requests_member(alloc: Global, value: &Value) -> Result<Vec<Asked>, StateFault>
+fn requests_member(alloc: Global, value: &Value) -> Result<Vec<Asked>, TextFault>
     ensures { GivesUnlessMemory (result_map (λ requests. requests.items) result)
         (get (codes "requests") (view value.now) >>= list_in >>= all_of asked_in) }
 {
-    let member = value.get("requests").ok_or(NotState)?;
-    let values = member.as_array().ok_or(NotState)?;
+    let member = value.get("requests").ok_or(OtherForm)?;
+    let values = member.as_array().ok_or(OtherForm)?;
     all_asked(alloc, values.as_slice())
 }
 
@@ -192,13 +204,13 @@ fn aside_of(alloc: Global, names: &[u64]) -> Result<KeptAside, AllocError>
 
 /// The state that a value is.
 #[tactic(auto, unfolding(crate::specs::States::state_in))]
-fn state_in(alloc: Global, value: &Value) -> Result<SeatState, StateFault>
+fn state_in(alloc: Global, value: &Value) -> Result<SeatState, TextFault>
     ensures { GivesUnlessMemory (result_map value_of result) (state_in (view value.now)) }
 {
-    let place = place_member(value).ok_or(NotState)?;
-    let last = last_member(value).ok_or(NotState)?;
-    let stop = stop_member(value).ok_or(NotState)?;
-    let named = named_member(value).ok_or(NotState)?;
+    let place = place_member(value).ok_or(OtherForm)?;
+    let last = last_member(value).ok_or(OtherForm)?;
+    let stop = stop_member(value).ok_or(OtherForm)?;
+    let named = named_member(value).ok_or(OtherForm)?;
     let names = numbers_member(alloc, value, "aside")?;
     let requests = requests_member(alloc, value)?;
     let aside = aside_of(alloc, names.as_slice())?;
@@ -209,8 +221,7 @@ fn state_in(alloc: Global, value: &Value) -> Result<SeatState, StateFault>
             last,
             stop,
         },
-        requests,
-        named,
+        names: Names { requests, named },
     })
 }
 
@@ -225,14 +236,10 @@ fn named_member(value: &Value) -> Option<u64>
 ///
 /// # Errors
 ///
-/// `NotState` where it says none, or `NoMemory`.
-pub fn read_state(alloc: Global, text: &[u8]) -> Result<SeatState, StateFault>
+/// `OtherForm` where it is no station's file, or `NoMemory`.
+pub fn read_state(alloc: Global, text: &[u8]) -> Result<SeatState, TextFault>
     ensures { GivesUnlessMemory (result_map value_of result) (state_of text.now) }
 {
-    let value = match read_json(alloc, text) {
-        Ok(value) => value,
-        Err(DocumentFault::NotDocument) => return Err(NotState),
-        Err(DocumentFault::OutOfMemory) => return Err(StateFault::NoMemory),
-    };
+    let value = read_value(alloc, text)?;
     state_in(alloc, &value)
 }

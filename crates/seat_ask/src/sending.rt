@@ -5,37 +5,33 @@ ghost use Rattle.text_core.specs.Prelude.{◌>>=◌};
 ghost use Rattle.members.specs.Prelude.{json_of};
 ghost use Rattle.seat_ask.specs.Prelude.{IsTextOf, numbered, request_bytes};
 
-use members::DocumentFault;
-use members::in_json::read_json;
+use crate::reading::TextFault::{self, OtherForm};
+use crate::reading::read_value;
 use serde_json::Value;
 use std::alloc::{AllocError, Global};
 
-/// The body of a request with this number, by the text of its members; none where the text is no JSON
-/// object. A number that is among the members gives way to this one.
-pub fn body_text(
-    alloc: Global,
-    number: u64,
-    members: &[u8],
-) -> Result<Option<String>, AllocError>
-    ensures { IfOk result (IsTextOf (json_of members.now >>= numbered number)) }
+/// The body of a request with this number, by the text of its members. A number that is among them
+/// gives way to this one.
+///
+/// # Errors
+///
+/// `OtherForm` where the text is no JSON object, or `NoMemory`.
+pub fn body_text(alloc: Global, number: u64, members: &[u8]) -> Result<String, TextFault>
+    ensures { IsTextOf (json_of members.now >>= numbered number) result }
 {
-    let value = match read_json(alloc, members) {
-        Ok(value) => value,
-        Err(DocumentFault::NotDocument) => return Ok(None),
-        Err(DocumentFault::OutOfMemory) => return Err(AllocError),
-    };
+    let value = read_value(alloc, members)?;
     numbered_text(alloc, number, value)
 }
 
-/// The text of an object with this number among its members; none of anything else.
-fn numbered_text(alloc: Global, number: u64, value: Value) -> Result<Option<String>, AllocError>
-    ensures { IfOk result (IsTextOf (numbered number (view value))) }
+/// The text of an object with this number among its members.
+fn numbered_text(alloc: Global, number: u64, value: Value) -> Result<String, TextFault>
+    ensures { IsTextOf (numbered number (view value)) result }
 {
     let Value::Object(mut members) = value else {
-        return Ok(None);
+        return Err(OtherForm);
     };
     serde_json::put(&mut members, alloc, "nr", Value::from(number))?;
-    Ok(Some(Value::Object(members).to_string(alloc)?))
+    Ok(Value::Object(members).to_string(alloc)?)
 }
 
 /// A request as it is sent, over a connection that ends behind its reply.
@@ -50,5 +46,6 @@ pub fn request_text(
         ≡ request_bytes host.now token.now path.now body.now) }
 {
     let size = body.len();
-    format!(in alloc; "POST {path} HTTP/1.1\r\nHost: {host}\r\nAuthorization: Bearer {token}\r\nContent-Type: application/json\r\nContent-Length: {size}\r\nConnection: close\r\n\r\n{body}")
+    format!(in alloc; "POST {path} HTTP/1.1\r\nHost: {host}\r\nAuthorization: Bearer {token}\r\n\
+        Content-Type: application/json\r\nContent-Length: {size}\r\nConnection: close\r\n\r\n{body}")
 }

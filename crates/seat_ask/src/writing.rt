@@ -4,10 +4,10 @@ ghost use Rattle.serde_json.specs.Data.{array};
 ghost use Rattle.serde_json.specs.Read.{read};
 ghost use Rattle.serde_json.specs.View.{items_of, view};
 ghost use Rattle.serde_json.specs.Written.{compact_text};
-ghost use Rattle.seat_ask.specs.Prelude.{asked_data, last_data, number_data, pair_data, place_data, state_data, stop_data, value_of};
+ghost use Rattle.seat_ask.specs.Prelude.{asked_data, last_data, number_data, pair_data, place_data, state_data, stop_data, value_with};
 
-use crate::state::{Asked, SeatState};
-use seat_core::{Answered, Place, Stop};
+use crate::state::{Asked, Names};
+use seat_core::{Answered, Place, SeatFile, Stop};
 use serde_json::{Value, json};
 use std::alloc::{AllocError, Global};
 
@@ -80,15 +80,15 @@ fn requests_value(alloc: Global, requests: &[Asked]) -> Result<Value, AllocError
 }
 
 /// What a station's file says, as JSON.
-fn state_value(alloc: Global, state: &SeatState) -> Result<Value, AllocError>
-    ensures { IfOk result (λ value. view value ≡ state_data (value_of state.now)) }
+fn state_value(alloc: Global, file: &SeatFile, names: &Names) -> Result<Value, AllocError>
+    ensures { IfOk result (λ value. view value ≡ state_data (value_with file.now names.now)) }
 {
-    let aside = numbers_value(alloc, state.file.aside.as_slice())?;
-    let last = last_value(alloc, state.file.last)?;
-    let place = place_value(alloc, state.file.place)?;
-    let requests = requests_value(alloc, state.requests.as_slice())?;
-    let stop = stop_value(alloc, state.file.stop)?;
-    let named = state.named;
+    let aside = numbers_value(alloc, file.aside.as_slice())?;
+    let last = last_value(alloc, file.last)?;
+    let place = place_value(alloc, file.place)?;
+    let requests = requests_value(alloc, names.requests.as_slice())?;
+    let stop = stop_value(alloc, file.stop)?;
+    let named = names.named;
     json!(in alloc; {
         "aside": aside,
         "last": last,
@@ -99,14 +99,14 @@ fn state_value(alloc: Global, state: &SeatState) -> Result<Value, AllocError>
     })
 }
 
-/// The text of a station's file.
-pub fn state_text(alloc: Global, state: &SeatState) -> Result<String, AllocError>
+/// The text of a station's file: what the machine knows, and the requests that it speaks of.
+pub fn state_text(alloc: Global, file: &SeatFile, names: &Names) -> Result<String, AllocError>
     ensures text { IfOk result (λ text. string_bytes text
-        ≡ compact_text (state_data (value_of state.now))) }
+        ≡ compact_text (state_data (value_with file.now names.now))) }
 
     // It reads as what it was written of.
     ensures reads { IfOk result (λ text. read (string_bytes text)
-        ≡ Some (state_data (value_of state.now))) }
+        ≡ Some (state_data (value_with file.now names.now))) }
 {
-    state_value(alloc, state)?.to_string(alloc)
+    state_value(alloc, file, names)?.to_string(alloc)
 }
