@@ -1,5 +1,7 @@
 -- What is written of a station's file is read as the same.
-use Rattle.std.proofs.Common.{◌≡◌, ◌<◌, ℕ, List, [], ◌∷◌, map, refl, ap, arith, Option, None, Some, IfSome, lt-ltb}
+use Rattle.std.proofs.Common.{◌≡◌, ◌<◌, ℕ, List, [], ◌∷◌, map, refl, ap, arith, Option, None, Some, IfSome, true}
+use Rattle.std.proofs.lemmas.Bool.{lt-ltb}
+use Rattle.std.specs.Prelude.{nat_lt}
 use Rattle.serde_json.specs.View.{items_of}
 use Rattle.members.specs.Prelude.{json_items}
 use Rattle.text_core.specs.Prelude.{all_of}
@@ -23,7 +25,7 @@ last_again (Some l) = refl
 
 stop_again : (s : Option Stop) → IfSome s (λ stop. stop.code < 256) → stop_in (stop_data s) ≡ Some s
 stop_again None low = refl
-stop_again (Some s) low = rw (lt-ltb s.code 256 low) refl
+stop_again (Some s) low = let below : nat_lt s.code 256 ≡ true = lt-ltb s.code 256 low in rw below refl
 
 numbers_again : (ns : List ℕ) → all_of number_in (json_items (items_of (map number_data ns))) ≡ Some ns
 numbers_again [] = refl
@@ -36,10 +38,10 @@ requests_again (r ∷ rs) = rw (requests_again rs) refl
 pub state_again : (s : StateValue) → IsWritable s → state_in (state_data s) ≡ Some s
 unfolding state_in
 state_again s whole = rw (
-      place_again s.file.place,
-      last_again s.file.last,
-      stop_again s.file.stop whole.code,
-      numbers_again s.file.aside,
-      requests_again s.requests,
-      aside_of-new s.file.aside whole.once whole.few,
-    ) refl
+  place_again s.file.place,
+  last_again s.file.last,
+  stop_again s.file.stop whole.code,
+  numbers_again s.file.aside,
+  requests_again s.requests,
+  aside_of-new s.file.aside whole.once whole.few,
+) refl

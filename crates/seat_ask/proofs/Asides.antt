@@ -1,6 +1,6 @@
 -- Requests that are kept aside, each once.
 use Rattle.std.proofs.Common.{◌≡◌, ◌≤◌, ◌+◌, ◌-◌, ◌==◌, ◌&&◌, ◌∙◌, ℕ, zero, suc, List, [], ◌∷◌, ◌++◌, Bool, true, false, refl, sym, ap, arith, inl, inr}
-use Rattle.std.proofs.Common.{append-nil, append_assoc, drop, filter, fold, length, length-append, not}
+use Rattle.std.proofs.Common.{append-nil, append_assoc, drop, filter, fold, length, length-append, not, subst}
 use Rattle.std.proofs.lemmas.Bool.{and_from, and_parts, cases_Bool}
 use Rattle.std.proofs.lemmas.List.Elements.{filter-append}
 use Rattle.std.specs.List.{list_all}
@@ -32,7 +32,7 @@ kept_all before (n ∷ ns) new few =
 
 -- names that are kept aside one after another are all aside, in order
 pub aside_of-new : (names : List ℕ) → AreNew [] names → length names ≤ 16 → aside_of names ≡ names
-aside_of-new names new few = kept_all [] names new few
+aside_of-new names new few = kept_all [] names new (omega arith)
 
 -- a name that is none of some is none of those of them that pass a test
 new_filter : (test : ℕ → Bool) (name : ℕ) (names : List ℕ) → is_new name names ≡ true → is_new name (filter test names) ≡ true
@@ -95,9 +95,10 @@ new_drop (suc count) name (n ∷ ns) new = new_drop count name ns (and_parts (no
 
 -- one more behind them that is none of them
 once_more : (name : ℕ) (before names : List ℕ) → AreNew before names → is_new name (before ++ names) ≡ true → AreNew before (names ++ name ∷ [])
-once_more name before [] new alone = (rw append-nil before at alone, tt)
+once_more name before [] new alone = (subst (λ names. is_new name names ≡ true) (append-nil before) alone, tt)
 once_more name before (n ∷ ns) new alone =
-    (new.0, once_more name (before ++ n ∷ []) ns new.1 (rw sym (append_assoc before (n ∷ []) ns) at alone))
+    let all = subst (λ names. is_new name names ≡ true) (sym (append_assoc before (n ∷ []) ns)) alone in
+    (new.0, once_more name (before ++ n ∷ []) ns new.1 all)
 
 -- none of those without it
 new_without : (name : ℕ) (names : List ℕ) → is_new name (filter (λ kept. not (kept == name)) names) ≡ true

@@ -34,12 +34,12 @@ stop_float (Some s) = refl
 -- it has no float
 pub has_float-state_data : (s : StateValue) → has_float (state_data s) ≡ false
 has_float-state_data s = rw (
-      numbers_float s.file.aside,
-      last_float s.file.last,
-      place_float s.file.place,
-      requests_float s.requests,
-      stop_float s.file.stop,
-    ) refl
+  numbers_float s.file.aside,
+  last_float s.file.last,
+  place_float s.file.place,
+  requests_float s.requests,
+  stop_float s.file.stop,
+) refl
 
 numbers_depth : (ns : List ℕ) → items_depth (items_of (map number_data ns)) ≤ 0
 numbers_depth [] = omega arith
@@ -65,10 +65,10 @@ stop_depth (Some s) = omega arith
 -- it nests three levels at the most
 pub depth-state_data : (s : StateValue) → depth (state_data s) ≤ 127
 depth-state_data s = omega (
-      arith,
-      numbers_depth s.file.aside,
-      last_depth s.file.last,
-      place_depth s.file.place,
-      requests_depth s.requests,
-      stop_depth s.file.stop,
-    )
+  arith,
+  numbers_depth s.file.aside,
+  last_depth s.file.last,
+  place_depth s.file.place,
+  requests_depth s.requests,
+  stop_depth s.file.stop,
+)

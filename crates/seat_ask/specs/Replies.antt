@@ -2,7 +2,8 @@
 use Rattle.std.specs.Prelude.{◌≡◌, ◌≤◌, ◌-◌, ◌&&◌, ◌==◌, ℕ, Bool, true, false, List, [], ◌∷◌, codes, bytes_eq, drop, length, map}
 use Rattle.std.specs.Prelude.{if◌then◌else◌, is_some, Option, None, Some, Ok}
 use Rattle.std.specs.List.{list_all}
-use Rattle.httparse.specs.Grammar.{ReadsResponse, ResponseHead, name_and_value, status_code}
+use Rattle.httparse.specs.Grammar.{ReadsResponse, ResponseHead, status_code}
+use Rattle.httparse.specs.Spans.{name_and_value}
 use Rattle.http_frames.specs.Prelude.{body_size, has_field}
 use Rattle.serde_json.specs.Data.{Data}
 use Rattle.serde_json.specs.Find.{as_str, get}
@@ -71,8 +72,8 @@ is_reply_to path asked told =
 -- a refusal of 11 says which number is expected
 abbrev pub refusal_of : Option ℕ → Option ℕ → Heard
 refusal_of None expected = Nothing
-refusal_of (Some no) None = if no == 11 then Nothing else Refused no 0
-refusal_of (Some no) (Some expected) = Refused no expected
+refusal_of (Some code) None = if code == 11 then Nothing else Refused code 0
+refusal_of (Some code) (Some expected) = Refused code expected
 
 abbrev pub refusal_in : Data → Heard
 refusal_in told = refusal_of (whole_member (codes "no") 1 255 told) (whole_member (codes "expected") 1 9007199254740992 told)

@@ -4,14 +4,20 @@ use Rattle.std.specs.declared.alloc.Global.{Global}
 use Rattle.std.specs.declared.string.String.{String}
 use Rattle.serde_json.specs.Data.{Data, object, put}
 use Rattle.serde_json.specs.Written.{compact_text, has_float}
+use Rattle.members.specs.Prelude.{json_of}
+use Rattle.text_core.specs.Prelude.{◌>>=◌}
 use Rattle.seat_ask.specs.declared.reading.TextFault.{TextFault}
 use Rattle.seat_ask.specs.declared.reading.TextFault.TheVariants.{NoMemory, OtherForm}
 use Rattle.seat_ask.specs.States.{number_data}
 
 -- the members of an object, and the number in the place of any that was there
 abbrev pub numbered : ℕ → Data → Option Data
-numbered number (object members) = Some (object (put (codes "nr") (number_data number) members))
-numbered number d = None
+numbered nr (object members) = Some (object (put (codes "nr") (number_data nr) members))
+numbered nr d = None
+
+-- the same of a text
+abbrev pub numbered_in : ℕ → List ℕ → Option Data
+numbered_in nr text = json_of text >>= numbered nr
 
 -- The text is the compact JSON of what is wanted, where that has no float; and the fault is `OtherForm`
 -- where nothing is wanted. Memory may run out in place of either.

@@ -44,7 +44,7 @@ pair_data a b = array (item (number_data a) (item (number_data b) no_items))
 -- no number is known, the number of the next request, or that of the one under way and its name
 abbrev pub place_data : Place → Data
 place_data Unknown = null
-place_data (Free number) = number_data number
+place_data (Free next) = number_data next
 place_data (UnderWay sent) = pair_data sent.number sent.request
 
 -- the names of the last request that was done and of its reply
@@ -87,7 +87,7 @@ pair_in d = number_at 0 d >>= (λ a. option_map (λ b. (a, b)) (number_at 1 d))
 
 -- a number alone is that of the next request, a pair is of the one under way
 abbrev pub place_of : Option ℕ → Option (ℕ × ℕ) → Option Place
-place_of (Some number) pair = Some (Free number)
+place_of (Some next) pair = Some (Free next)
 place_of None pair = option_map (λ p. UnderWay (record { number = p.0; request = p.1 })) pair
 
 abbrev pub place_in : Data → Option Place
@@ -111,9 +111,17 @@ asked_in d = do
   members ← text_at 2 d
   Some (record { name = name; path = path; members = members })
 
+-- what is read of a member
+abbrev pub member_in : {A : Type 0} → List ℕ → (Data → Option A) → Data → Option A
+member_in name read d = get name d >>= read
+
 -- the items of an array
 abbrev pub list_in : Data → Option (List Data)
 list_in d = option_map json_items (as_array d)
+
+-- what is read of each item of an array
+abbrev pub items_in : {A : Type 0} → (Data → Option A) → Data → Option (List A)
+items_in read d = list_in d >>= all_of read
 
 -- these names, kept aside one after another
 abbrev pub aside_of : List ℕ → List ℕ
@@ -121,12 +129,12 @@ aside_of names = fold (λ aside name. aside_with name aside) [] names
 
 unfoldable pub state_in : Data → Option StateValue
 state_in d = do
-  place ← get (codes "place") d >>= place_in
-  last ← get (codes "last") d >>= last_in
-  stop ← get (codes "stop") d >>= stop_in
-  named ← get (codes "named") d >>= number_in
-  aside ← get (codes "aside") d >>= list_in >>= all_of number_in
-  requests ← get (codes "requests") d >>= list_in >>= all_of asked_in
+  place ← member_in (codes "place") place_in d
+  last ← member_in (codes "last") last_in d
+  stop ← member_in (codes "stop") stop_in d
+  named ← member_in (codes "named") number_in d
+  aside ← member_in (codes "aside") (items_in number_in) d
+  requests ← member_in (codes "requests") (items_in asked_in) d
   Some (record {
     file = record { place = place; aside = aside_of aside; last = last; stop = stop };
     requests = requests;

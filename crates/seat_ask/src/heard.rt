@@ -73,15 +73,7 @@ const ORDER_NAMES: [&str; 10] = [
 
 /// The members of the reply that is a device.
 const DEVICE_NAMES: [&str; 9] = [
-    "bits",
-    "chip",
-    "keys",
-    "map",
-    "order",
-    "pending",
-    "reason",
-    "serial",
-    "state",
+    "bits", "chip", "keys", "map", "order", "pending", "reason", "serial", "state",
 ];
 
 /// The members of the reply that is an identity.

@@ -1,21 +1,19 @@
 // The text of a station's file, read.
 ghost use Rattle.std.specs.Prelude.{◌≡◌, IfOk, codes, map, option_map};
-ghost use Rattle.serde_json.specs.Find.{get};
 ghost use Rattle.serde_json.specs.View.{view};
 ghost use Rattle.members.specs.Prelude.{json_of};
-ghost use Rattle.text_core.specs.Prelude.{◌>>=◌, all_of, result_map};
-ghost use Rattle.seat_ask.specs.Prelude.{GivesUnlessMemory, aside_of, asked_in, last_in, list_in, number_at, number_in};
+ghost use Rattle.text_core.specs.Prelude.{all_of, result_map};
+ghost use Rattle.seat_ask.specs.Prelude.{GivesUnlessMemory, aside_of, asked_in, items_in, last_in, member_in, number_at, number_in};
 ghost use Rattle.seat_ask.specs.Prelude.{pair_in, place_in, state_in, state_of, stop_in, text_at, value_of};
 ghost use Rattle.seat_ask.specs.declared.reading.TextFault.TheVariants.{NoMemory};
 
 use crate::reading::TextFault::OtherForm;
 use crate::state::{Asked, Names, SeatState};
-use members::DocumentFault;
 use members::in_json::read_json;
-use members::read_all;
+use members::{DocumentFault, read_all};
 use seat_core::{Answered, KeptAside, Place, SeatFile, Sent, Stop};
 use serde_json::Value;
-use std::alloc::{AllocError, Global};
+use std::alloc::{AllocError, AllocFailed, Global};
 use text_core::Text;
 use thiserror::Error;
 
@@ -34,6 +32,14 @@ impl From<AllocError> for TextFault {
     ghost from_gives = { λ _ fault. fault ≡ NoMemory };
 
     fn from(_error: AllocError) -> TextFault {
+        TextFault::NoMemory
+    }
+}
+
+impl<T: Drop> From<AllocFailed<T>> for TextFault {
+    ghost from_gives = { λ _ fault. fault ≡ NoMemory };
+
+    fn from(_error: AllocFailed<T>) -> TextFault {
         TextFault::NoMemory
     }
 }
@@ -121,21 +127,21 @@ fn stop_in(value: &Value) -> Option<Option<Stop>>
 
 /// The place that a state has.
 fn place_member(value: &Value) -> Option<Place>
-    ensures { result ≡ get (codes "place") (view value.now) >>= place_in }
+    ensures { result ≡ member_in (codes "place") place_in (view value.now) }
 {
     place_in(value.get("place")?)
 }
 
 /// The last request of a state.
 fn last_member(value: &Value) -> Option<Option<Answered>>
-    ensures { result ≡ get (codes "last") (view value.now) >>= last_in }
+    ensures { result ≡ member_in (codes "last") last_in (view value.now) }
 {
     last_in(value.get("last")?)
 }
 
 /// The stop of a state.
 fn stop_member(value: &Value) -> Option<Option<Stop>>
-    ensures { result ≡ get (codes "stop") (view value.now) >>= stop_in }
+    ensures { result ≡ member_in (codes "stop") stop_in (view value.now) }
 {
     stop_in(value.get("stop")?)
 }
@@ -144,7 +150,7 @@ fn stop_member(value: &Value) -> Option<Option<Stop>>
 #[tactic(auto, using(members::proofs::Lists::json_list))]
 fn numbers_member(alloc: Global, value: &Value, name: &str) -> Result<Vec<u64>, TextFault>
     ensures { GivesUnlessMemory (result_map (λ numbers. numbers.items) result)
-        (get name.now (view value.now) >>= list_in >>= all_of number_in) }
+        (member_in name.now (items_in number_in) (view value.now)) }
 {
     let member = value.get(name).ok_or(OtherForm)?;
     let values = member.as_array().ok_or(OtherForm)?;
@@ -184,7 +190,7 @@ fn all_asked(alloc: Global, values: &[Value]) -> Result<Vec<Asked>, TextFault>
 #[tactic(auto, using(members::proofs::Lists::json_list))]
 fn requests_member(alloc: Global, value: &Value) -> Result<Vec<Asked>, TextFault>
     ensures { GivesUnlessMemory (result_map (λ requests. requests.items) result)
-        (get (codes "requests") (view value.now) >>= list_in >>= all_of asked_in) }
+        (member_in (codes "requests") (items_in asked_in) (view value.now)) }
 {
     let member = value.get("requests").ok_or(OtherForm)?;
     let values = member.as_array().ok_or(OtherForm)?;
@@ -227,7 +233,7 @@ fn state_in(alloc: Global, value: &Value) -> Result<SeatState, TextFault>
 
 /// How many requests of a state got a name.
 fn named_member(value: &Value) -> Option<u64>
-    ensures { result ≡ get (codes "named") (view value.now) >>= number_in }
+    ensures { result ≡ member_in (codes "named") number_in (view value.now) }
 {
     value.get("named")?.as_u64()
 }

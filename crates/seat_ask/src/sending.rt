@@ -1,9 +1,7 @@
 // The bytes that a station sends.
 ghost use Rattle.std.specs.Prelude.{◌≡◌, IfOk, string_bytes};
 ghost use Rattle.serde_json.specs.View.{view};
-ghost use Rattle.text_core.specs.Prelude.{◌>>=◌};
-ghost use Rattle.members.specs.Prelude.{json_of};
-ghost use Rattle.seat_ask.specs.Prelude.{IsTextOf, numbered, request_bytes};
+ghost use Rattle.seat_ask.specs.Prelude.{IsTextOf, numbered, numbered_in, request_bytes};
 
 use crate::reading::TextFault::{self, OtherForm};
 use crate::reading::read_value;
@@ -17,7 +15,7 @@ use std::alloc::{AllocError, Global};
 ///
 /// `OtherForm` where the text is no JSON object, or `NoMemory`.
 pub fn body_text(alloc: Global, number: u64, members: &[u8]) -> Result<String, TextFault>
-    ensures { IsTextOf (json_of members.now >>= numbered number) result }
+    ensures { IsTextOf (numbered_in number members.now) result }
 {
     let value = read_value(alloc, members)?;
     numbered_text(alloc, number, value)
@@ -46,6 +44,8 @@ pub fn request_text(
         ≡ request_bytes host.now token.now path.now body.now) }
 {
     let size = body.len();
-    format!(in alloc; "POST {path} HTTP/1.1\r\nHost: {host}\r\nAuthorization: Bearer {token}\r\n\
-        Content-Type: application/json\r\nContent-Length: {size}\r\nConnection: close\r\n\r\n{body}")
+    format!(in alloc;
+        "POST {path} HTTP/1.1\r\nHost: {host}\r\nAuthorization: Bearer {token}\r\n\
+        Content-Type: application/json\r\nContent-Length: {size}\r\nConnection: close\r\n\r\n{body}"
+    )
 }

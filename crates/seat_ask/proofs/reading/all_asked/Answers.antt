@@ -2,7 +2,7 @@ use Rattle.text_core.proofs.Kit.{sym}
 use Rattle.serde_json.specs.View.{view}
 use Rattle.text_core.proofs.Lists.{all_of_more, all_of_stop}
 use Rattle.seat_ask.specs.Prelude.{asked_in}
-use Rattle.seat_ask.proofs.Reading.{stopped}
+use Rattle.seat_ask.proofs.Faults.{stopped}
 use Rattle.seat_ask.proofs.reading.all_asked.Goals as goal
 
 pub returns-in_err-asked : goal.returns-in_err-asked
