@@ -1,5 +1,5 @@
 -- What is written of a station's file is read as the same.
-use Rattle.std.proofs.Common.{◌≡◌, ◌<◌, ℕ, List, [], ◌∷◌, map, refl, ap, arith, Option, None, Some, IfSome, true}
+use Rattle.std.proofs.Common.{◌≡◌, ◌<◌, ℕ, List, [], ◌∷◌, map, refl, Option, None, Some, IfSome, true}
 use Rattle.std.proofs.lemmas.Bool.{lt-ltb}
 use Rattle.std.specs.Prelude.{nat_lt}
 use Rattle.serde_json.specs.View.{items_of}

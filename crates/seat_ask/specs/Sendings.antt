@@ -26,10 +26,21 @@ IsTextOf wanted (Ok text) =
     (d : Data) × (Some d ≡ wanted) × (has_float d ≡ false → string_bytes text ≡ compact_text d)
 IsTextOf wanted (Err fault) = ((None ≡ wanted) × (fault ≡ OtherForm)) ⊎ (fault ≡ NoMemory)
 
--- the head of a POST and its body (RFC 9112): the connection ends behind the reply
+-- the request line of a POST, and where it goes (RFC 9112, sections 3 and 3.2)
+abbrev pub target_bytes : List ℕ → List ℕ → List ℕ
+target_bytes path host = codes "POST " ++ path ++ codes " HTTP/1.1\r\nHost: " ++ host ++ codes "\r\n"
+
+-- whose request it is (RFC 6750, section 2.1)
+abbrev pub token_bytes : List ℕ → List ℕ
+token_bytes token = codes "Authorization: Bearer " ++ token ++ codes "\r\n"
+
+-- how long the JSON of its body is, and the end of the head: the connection ends behind the reply
+abbrev pub size_bytes : ℕ → List ℕ
+size_bytes size =
+    codes "Content-Type: application/json\r\nContent-Length: " ++ decimal size
+    ++ codes "\r\nConnection: close\r\n\r\n"
+
+-- the head and the body
 abbrev pub request_bytes : List ℕ → List ℕ → List ℕ → List ℕ → List ℕ
 request_bytes host token path body =
-    codes "POST " ++ path ++ codes " HTTP/1.1\r\nHost: " ++ host
-    ++ codes "\r\nAuthorization: Bearer " ++ token
-    ++ codes "\r\nContent-Type: application/json\r\nContent-Length: " ++ decimal (length body)
-    ++ codes "\r\nConnection: close\r\n\r\n" ++ body
+    (target_bytes path host ++ token_bytes token) ++ (size_bytes (length body) ++ body)
