@@ -2,7 +2,7 @@
 ghost use Rattle.std.specs.Prelude.{◌≡◌};
 ghost use Rattle.seat_client.specs.declared.failure.AskFailure.TheVariants.{NoMemory};
 
-use std::alloc::AllocError;
+use std::alloc::{AllocError, AllocFailed};
 use thiserror::Error;
 
 /// Why no request was made. What was under way is as it was.
@@ -47,6 +47,14 @@ impl From<AllocError> for AskFailure {
     ghost from_gives = { λ _ failure. failure ≡ NoMemory };
 
     fn from(_error: AllocError) -> AskFailure {
+        AskFailure::NoMemory
+    }
+}
+
+impl<T: Drop> From<AllocFailed<T>> for AskFailure {
+    ghost from_gives = { λ _ failure. failure ≡ NoMemory };
+
+    fn from(_error: AllocFailed<T>) -> AskFailure {
         AskFailure::NoMemory
     }
 }

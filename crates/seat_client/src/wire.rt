@@ -42,7 +42,9 @@ fn sent(rt: &HostRuntime, host: &str, request: &str) -> Option<TcpStream> {
     let wait = Some(Duration::from_secs(READ_SECONDS));
     stream.set_nodelay(true).ok()?;
     stream.set_read_timeout(wait).ok()?;
-    stream.set_write_timeout(Some(Duration::from_secs(WHOLE_SECONDS))).ok()?;
+    stream
+        .set_write_timeout(Some(Duration::from_secs(WHOLE_SECONDS)))
+        .ok()?;
     stream.write_all(request.as_bytes()).ok()?;
     Some(stream)
 }
