@@ -1,0 +1,187 @@
+// The words of `station ask`.
+
+use crate::asking::{Door, ask};
+use crate::failure::AskFailure;
+use crate::request::{Wanted, read_wanted};
+use clap::builder::ValueParser;
+use clap::error::ErrorKind;
+use clap::{Arg, ArgAction, ArgMatches, Command, Error};
+use seat_ask::End;
+use std::alloc::{AllocError, Global};
+use std::io::{Read, Write};
+use std::rt::Env;
+use std::time::Duration;
+use std::{env, fs, io, str};
+
+/// The most seconds for which a reply is asked for.
+const PATIENCE_LIMIT: u64 = 86_400;
+
+/// The most bytes of a token's file.
+const TOKEN_LIMIT: u64 = 4096;
+
+/// Whether the program was started to ask.
+pub fn is_asked(rt: &(impl Env + AllocGlobal)) -> bool {
+    let Ok(mut args) = env::args(rt) else {
+        return false;
+    };
+    let _name = args.next();
+    match args.next() {
+        Some(word) => word.as_str() == "ask",
+        None => false,
+    }
+}
+
+/// The words that `station ask` takes.
+fn command<'a>(alloc: Global) -> Result<Command<'a>, AllocError> {
+    let url = Arg::new(alloc, "url")
+        .long("url")
+        .required(true)
+        .value_name("U")
+        .help("The server, as http://127.0.0.1:880");
+    let token = Arg::new(alloc, "token-file")
+        .long("token-file")
+        .required(true)
+        .value_name("F")
+        .help("The file with the seat's token");
+    let state = Arg::new(alloc, "state")
+        .long("state")
+        .required(true)
+        .value_name("F")
+        .help("The station's file, made where there is none; F.journal beside it is its log");
+    let patience = Arg::new(alloc, "patience")
+        .long("patience")
+        .value_name("S")
+        .value_parser(ValueParser::unsigned(1, PATIENCE_LIMIT))
+        .help("For how many seconds a reply is asked for, 120 without it");
+    let looked = Arg::new(alloc, "looked")
+        .long("looked")
+        .action(ArgAction::SetTrue)
+        .help("A person has looked why the station stopped: go on with the expected number");
+    Command::new(alloc, "station ask")
+        .about("Makes one request of a seat, once: a line POST and its path, then a JSON object")
+        .arg(url)?
+        .arg(token)?
+        .arg(state)?
+        .arg(patience)?
+        .arg(looked)
+}
+
+/// The host and the port of an address.
+fn host_of(url: &str) -> Option<&str> {
+    let rest = url.strip_prefix("http://")?;
+    let host = rest.strip_suffix("/").unwrap_or(rest);
+    let is_plain = host.bytes().all(|byte| {
+        byte.is_ascii_alphanumeric() || byte == b'.' || byte == b':' || byte == b'-'
+    });
+    let (name, port) = host.rsplit_once(':')?;
+    if is_plain && !name.is_empty() && !port.is_empty() {
+        Some(host)
+    } else {
+        None
+    }
+}
+
+/// The token of a file: its one line.
+fn token_of(rt: &HostRuntime, alloc: Global, name: &str) -> Result<String, AskFailure> {
+    let Ok(file) = fs::open(rt, name) else {
+        return Err(AskFailure::NoToken);
+    };
+    let mut bytes = Vec::new(alloc);
+    if file.take(TOKEN_LIMIT).read_to_end(&mut bytes).is_err() {
+        return Err(AskFailure::NoToken);
+    }
+    let Ok(text) = str::from_utf8(&bytes) else {
+        return Err(AskFailure::NoToken);
+    };
+    let token = text.trim_end();
+    if token.is_empty() || !token.bytes().all(|byte| byte.is_ascii_graphic()) {
+        return Err(AskFailure::NoToken);
+    }
+    Ok(String::from_str(alloc, token)?)
+}
+
+/// Has done what the options ask for.
+fn ask_by<R: Read + Drop, W: Write>(
+    rt: &HostRuntime,
+    alloc: Global,
+    options: &ArgMatches<'_>,
+    input: R,
+    output: &mut W,
+) -> Result<End, AskFailure> {
+    let Some(host) = options.get_str("url").and_then(host_of) else {
+        return Err(AskFailure::OtherUrl);
+    };
+    let Some(state) = options.get_str("state") else {
+        return Err(AskFailure::CannotRead);
+    };
+    let token = token_of(rt, alloc, options.get_str("token-file").unwrap_or(""))?;
+    let patience = match options.get_str("patience") {
+        Some(text) => text.parse::<u64>().unwrap_or(120),
+        None => 120,
+    };
+    let door = Door {
+        host,
+        token: token.as_str(),
+        patience: Duration::from_secs(patience),
+    };
+    let is_look = options.get_str("looked") == Some("true");
+    if is_look {
+        return ask(rt, alloc, door, state, None, output);
+    }
+    let wanted: Wanted = read_wanted(alloc, input)?;
+    ask(rt, alloc, door, state, Some(&wanted), output)
+}
+
+/// What a person reads where a request wasn't done.
+fn words_of(end: End) -> &'static str {
+    match end {
+        End::Done => "",
+        End::Refused(_) => "station: refused\n",
+        End::Stopped => "station: stopped: look why, then give --looked\n",
+        End::Unsure => "station: unsure: the request stays under way\n",
+        End::Waits => "station: no reply: the request stays under way\n",
+    }
+}
+
+/// Has done what the program's words ask for, from standard input to standard output. Answers the
+/// status with which the program ends.
+pub fn ask_from_env(rt: &HostRuntime) -> u8 {
+    let alloc = rt.alloc();
+    match asked(rt, alloc) {
+        Ok(status) => status,
+        Err(failure) => {
+            let _ = writeln!(&mut rt.stderr(), "station: {failure}");
+            1
+        }
+    }
+}
+
+/// Shows help, or why words are refused. Answers the status.
+fn shown(rt: &HostRuntime, error: &Error, text: &str) -> u8 {
+    if error.kind() == ErrorKind::DisplayHelp {
+        let _ = write!(&mut io::writer(rt), "{text}");
+        return 0;
+    }
+    let _ = write!(&mut rt.stderr(), "{text}");
+    2
+}
+
+/// The status with which asking ends.
+fn asked(rt: &HostRuntime, alloc: Global) -> Result<u8, AskFailure> {
+    let Ok(args) = env::args(rt) else {
+        return Err(AskFailure::NoMemory);
+    };
+    let args: Vec<String> = args.collect(alloc)?;
+    let words: Vec<&str> = args.iter().skip(1).map(|arg| arg.as_str()).collect(alloc)?;
+    let command = command(alloc)?;
+    let options = match command.try_get_matches_from(words.as_slice()) {
+        Ok(options) => options,
+        Err(error) => {
+            let text = error.to_string(alloc)?;
+            return Ok(shown(rt, &error, text.as_str()));
+        }
+    };
+    let end = ask_by(rt, alloc, &options, rt.reader(), &mut io::writer(rt))?;
+    let _ = write!(&mut rt.stderr(), "{}", words_of(end));
+    Ok(end.status())
+}
