@@ -6,6 +6,7 @@
 #![tactic(auto)]
 
 mod asking;
+mod choices;
 mod failure;
 mod files;
 mod known;

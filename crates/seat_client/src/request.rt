@@ -1,9 +1,13 @@
 // The request that standard input has.
+ghost use Rattle.std.specs.Prelude.{◌≡◌, ◌++◌, ◌∷◌, codes, false, IfOk, IfSome, None, Some, string_bytes};
+ghost use Rattle.serde_json.specs.Data.{Data};
+ghost use Rattle.serde_json.specs.Find.{get};
+ghost use Rattle.serde_json.specs.Written.{compact_text, has_float};
+ghost use Rattle.members.specs.Prelude.{json_of};
+ghost use Rattle.seat_client.specs.Prelude.{IsWanted};
 
-use crate::failure::AskFailure;
-use members::DocumentFault;
-use members::in_json::read_json;
-use serde_json::Value;
+use crate::choices::read_text;
+use crate::failure::AskFailure::{self, NoRequest};
 use std::alloc::Global;
 use std::io::Read;
 use std::str;
@@ -31,45 +35,55 @@ pub struct Wanted {
     pub members: String,
 }
 
-/// The path of a first line, if it is one of these.
-fn path_of(line: &str) -> Option<&'static str> {
+/// The path that a text begins with, if it is one of these and the line ends there, and what comes
+/// behind that line.
+fn path_in(text: &str) -> Option<(&'static str, &str)>
+    ensures { IfSome result (λ found. text.now ≡ found.0.now ++ 10 ∷ found.1.now) }
+{
     for path in PATHS {
-        if line.strip_prefix("POST ") == Some(path) {
-            return Some(path);
+        if let Some(rest) = text.strip_prefix(path)
+            && let Some(body) = rest.strip_prefix("\n")
+        {
+            return Some((path, body));
         }
     }
     None
 }
 
-/// The request that an input has: a line `POST`, a space and the path, and behind it a JSON object
-/// without a number.
-pub fn read_wanted<R: Read + Drop>(alloc: Global, input: R) -> Result<Wanted, AskFailure> {
-    let mut bytes = Vec::new(alloc);
-    if input.take(INPUT_LIMIT).read_to_end(&mut bytes).is_err() {
-        return Err(AskFailure::NoRequest);
+/// The compact JSON of an object without a number.
+fn compact_members(alloc: Global, body: &str) -> Result<String, AskFailure>
+    ensures { IfOk result (λ text. (value : Data) × (json_of body.now ≡ Some value)
+        × (get (codes "nr") value ≡ None)
+        × (has_float value ≡ false → string_bytes text ≡ compact_text value)) }
+{
+    let value = read_text(alloc, body.as_bytes())?.ok_or(NoRequest)?;
+    if !value.is_object() || value.get("nr").is_some() {
+        return Err(NoRequest);
     }
-    let Ok(text) = str::from_utf8(&bytes) else {
-        return Err(AskFailure::NoRequest);
-    };
-    let Some((line, body)) = text.split_once('\n') else {
-        return Err(AskFailure::NoRequest);
-    };
-    let Some(path) = path_of(line.trim_end()) else {
-        return Err(AskFailure::NoRequest);
-    };
+    Ok(value.to_string(alloc)?)
+}
+
+/// The request that a text has: a line `POST`, a space and the path, and behind it a JSON object
+/// without a number.
+fn wanted_in(alloc: Global, text: &str) -> Result<Wanted, AskFailure>
+    ensures { IfOk result (λ wanted. IsWanted text.now wanted.path.now (string_bytes wanted.members)) }
+{
+    let (path, body) = text
+        .strip_prefix("POST ")
+        .and_then(path_in)
+        .ok_or(NoRequest)?;
     let members = compact_members(alloc, body)?;
     Ok(Wanted { path, members })
 }
 
-/// The compact JSON of an object without a number.
-fn compact_members(alloc: Global, body: &str) -> Result<String, AskFailure> {
-    let value = match read_json(alloc, body.as_bytes()) {
-        Ok(value) => value,
-        Err(DocumentFault::NotDocument) => return Err(AskFailure::NoRequest),
-        Err(DocumentFault::OutOfMemory) => return Err(AskFailure::NoMemory),
-    };
-    if !value.is_object() || value.get("nr").is_some() {
-        return Err(AskFailure::NoRequest);
+/// The request that an input has.
+pub fn read_wanted<R: Read + Drop>(alloc: Global, input: R) -> Result<Wanted, AskFailure> {
+    let mut bytes = Vec::new(alloc);
+    if input.take(INPUT_LIMIT).read_to_end(&mut bytes).is_err() {
+        return Err(NoRequest);
     }
-    Ok(value.to_string(alloc)?)
+    match str::from_utf8(&bytes) {
+        Ok(text) => wanted_in(alloc, text),
+        Err(_) => Err(NoRequest),
+    }
 }

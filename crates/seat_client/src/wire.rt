@@ -1,14 +1,24 @@
 // One request over a connection of its own, and its reply.
+ghost use Rattle.std.specs.Prelude.{◌≡◌, ◌-◌, IfOk, IfSome, Some, drop, option_map, take};
+ghost use Rattle.serde_json.specs.View.{view};
+ghost use Rattle.members.specs.Prelude.{json_of};
+ghost use Rattle.seat_ask.specs.Prelude.{IsReply};
 
+use crate::choices::read_text;
+use crate::failure::AskFailure;
 use httparse::spans::{EMPTY_HEADER_SPAN, HeaderSpan};
 use seat_ask::{ReplyCut, cut_reply};
-use std::alloc::{AllocError, Global};
+use serde_json::Value;
+use std::alloc::Global;
 use std::io::{ErrorKind, Read, Write};
 use std::net::{OpenStream, TcpStream};
 use std::time::{Duration, Instant};
 
-/// Room for a reply: a head of 8,192 bytes and a body of 65,536.
-const ROOM: usize = 73_728;
+/// The most bytes of a reply: a head of 8,192 and a body of 65,536.
+const REPLY_LIMIT: usize = 73_728;
+
+/// How many bytes one read takes at the most.
+const PIECE: usize = 4096;
 
 /// How long a whole reply is waited for, in seconds.
 const WHOLE_SECONDS: u64 = 90;
@@ -16,35 +26,34 @@ const WHOLE_SECONDS: u64 = 90;
 /// How long one read waits, in seconds.
 const READ_SECONDS: u64 = 1;
 
-/// A whole reply.
+/// A reply as it was heard: its status and its members.
 #[derive(Drop)]
-pub struct Reply {
-    pub bytes: Vec<u8>,
-    pub cut: ReplyCut,
+pub struct Told {
+    pub status: u16,
+    pub members: Value,
 }
 
-/// Sends a request and waits for its reply; none where there is no whole one.
+/// Sends a request, and gives the reply that came; none where there is no whole one.
 pub fn exchange(
     rt: &HostRuntime,
     alloc: Global,
     host: &str,
     request: &str,
-) -> Result<Option<Reply>, AllocError> {
-    let Some(stream) = sent(rt, host, request) else {
-        return Ok(None);
-    };
-    received(rt, alloc, stream)
+) -> Result<Option<Told>, AskFailure> {
+    match sent(rt, host, request) {
+        Some(stream) => received(rt, alloc, stream),
+        None => Ok(None),
+    }
 }
 
 /// The connection over which the request was sent.
 fn sent(rt: &HostRuntime, host: &str, request: &str) -> Option<TcpStream> {
     let mut stream = TcpStream::connect(rt, host).ok()?;
     let wait = Some(Duration::from_secs(READ_SECONDS));
+    let whole = Some(Duration::from_secs(WHOLE_SECONDS));
     stream.set_nodelay(true).ok()?;
     stream.set_read_timeout(wait).ok()?;
-    stream
-        .set_write_timeout(Some(Duration::from_secs(WHOLE_SECONDS)))
-        .ok()?;
+    stream.set_write_timeout(whole).ok()?;
     stream.write_all(request.as_bytes()).ok()?;
     Some(stream)
 }
@@ -54,24 +63,24 @@ fn received(
     rt: &HostRuntime,
     alloc: Global,
     mut stream: TcpStream,
-) -> Result<Option<Reply>, AllocError> {
-    let mut bytes = vec![in alloc; 0; ROOM]?;
-    let mut len = 0;
+) -> Result<Option<Told>, AskFailure> {
+    let mut bytes = Vec::new(alloc);
     let Ok(start) = Instant::now(rt) else {
         return Ok(None);
     };
     for _turn in 0..u32::MAX {
-        if len == ROOM || is_over(rt, start) {
+        if bytes.len() >= REPLY_LIMIT || is_over(rt, start) {
             return Ok(None);
         }
-        match stream.read(&mut bytes[len..]) {
+        let mut piece = [0; PIECE];
+        match stream.read(&mut piece) {
             Ok(0) => return Ok(None),
-            Ok(count) => len += count,
+            Ok(count) => bytes.extend_from_slice(&piece[..count])?,
             Err(error) if is_wait(error.kind()) => {}
             Err(_) => return Ok(None),
         }
-        if let Some(cut) = whole(&bytes[..len]) {
-            return Ok(Some(Reply { bytes, cut }));
+        if let Some(cut) = whole(bytes.as_slice()) {
+            return told(alloc, bytes.as_slice(), cut);
         }
     }
     Ok(None)
@@ -90,8 +99,27 @@ fn is_over(rt: &HostRuntime, start: Instant) -> bool {
     }
 }
 
-/// The reply at the front of what came.
-fn whole(bytes: &[u8]) -> Option<ReplyCut> {
+/// Where the reply lies at the front of what came.
+fn whole(bytes: &[u8]) -> Option<ReplyCut>
+    ensures { IfSome result (IsReply bytes.now) }
+{
     let mut spans: [HeaderSpan; 64] = [EMPTY_HEADER_SPAN; 64];
     cut_reply(bytes, &mut spans)
+}
+
+/// The status and the members of the reply at the front of what came; none where its body is no JSON.
+fn told(alloc: Global, bytes: &[u8], cut: ReplyCut) -> Result<Option<Told>, AskFailure>
+    requires { IsReply bytes.now cut }
+    ensures members { IfOk result (λ found. option_map (λ told. view told.members) found
+        ≡ json_of (take (cut.end - cut.start) (drop cut.start bytes.now))) }
+    ensures status { IfOk result (λ found. IfSome found (λ told. told.status ≡ cut.status)) }
+{
+    let body = &bytes[cut.start..cut.end];
+    match read_text(alloc, body)? {
+        Some(members) => Ok(Some(Told {
+            status: cut.status,
+            members,
+        })),
+        None => Ok(None),
+    }
 }

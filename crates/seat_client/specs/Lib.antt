@@ -1,0 +1,5 @@
+-- What the contracts of this crate are made of.
+pub mod Choices
+pub mod Known
+pub mod Wanted
+pub mod Prelude

@@ -1,0 +1,4 @@
+-- The words of this crate, passed on from one place. Declares nothing.
+pub use Rattle.seat_client.specs.Choices.{HasName, befalls, is_last, is_needed, is_same, is_under_way, logged_reply, next_pause, reply_behind, shown_end, told_end}
+pub use Rattle.seat_client.specs.Known.{IsLogged, known_block, known_in, known_members, with_blocks}
+pub use Rattle.seat_client.specs.Wanted.{IsWanted}
