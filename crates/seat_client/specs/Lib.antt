@@ -2,4 +2,5 @@
 pub mod Choices
 pub mod Known
 pub mod Wanted
+pub mod Words
 pub mod Prelude

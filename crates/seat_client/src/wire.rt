@@ -80,7 +80,7 @@ fn received(
             Err(_) => return Ok(None),
         }
         if let Some(cut) = whole(bytes.as_slice()) {
-            return told(alloc, bytes.as_slice(), cut);
+            return told_in(alloc, bytes.as_slice(), cut);
         }
     }
     Ok(None)
@@ -108,7 +108,7 @@ fn whole(bytes: &[u8]) -> Option<ReplyCut>
 }
 
 /// The status and the members of the reply at the front of what came; none where its body is no JSON.
-fn told(alloc: Global, bytes: &[u8], cut: ReplyCut) -> Result<Option<Told>, AskFailure>
+fn told_in(alloc: Global, bytes: &[u8], cut: ReplyCut) -> Result<Option<Told>, AskFailure>
     requires { IsReply bytes.now cut }
     ensures members { IfOk result (λ found. option_map (λ told. view told.members) found
         ≡ json_of (take (cut.end - cut.start) (drop cut.start bytes.now))) }

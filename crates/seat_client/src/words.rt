@@ -1,8 +1,12 @@
 // The words of `station ask`.
+ghost use Rattle.std.specs.Prelude.{◌≡◌, ◌<◌, IfSome, length, true};
+ghost use Rattle.std.specs.Char.{is_ascii_graphic};
+ghost use Rattle.std.specs.List.{list_all};
+ghost use Rattle.seat_client.specs.Prelude.{is_host_byte};
 
 use crate::asking::{Door, ask};
-use crate::failure::AskFailure;
-use crate::request::{Wanted, read_wanted};
+use crate::failure::AskFailure::{self, NoToken};
+use crate::request::read_wanted;
 use clap::builder::ValueParser;
 use clap::error::ErrorKind;
 use clap::{Arg, ArgAction, ArgMatches, Command, Error};
@@ -66,37 +70,69 @@ fn command<'a>(alloc: Global) -> Result<Command<'a>, AllocError> {
         .arg(looked)
 }
 
+/// Whether a byte may stand in a host and its port: a letter, a digit, `-`, `.` or `:`.
+fn is_host_byte(byte: u8) -> bool
+    ensures { result ≡ is_host_byte byte }
+{
+    byte.is_ascii_alphanumeric() || byte == b'-' || byte == b'.' || byte == b':'
+}
+
+/// Whether each byte may stand in a host and its port.
+fn is_host(bytes: &[u8]) -> bool
+    ensures { result ≡ list_all is_host_byte bytes.now }
+{
+    bytes.iter().all(|byte| is_host_byte(*byte))
+}
+
 /// The host and the port of an address.
-fn host_of(url: &str) -> Option<&str> {
+fn host_of(url: &str) -> Option<&str>
+    ensures { IfSome result (λ host. list_all is_host_byte host.now ≡ true) }
+{
     let rest = url.strip_prefix("http://")?;
     let host = rest.strip_suffix("/").unwrap_or(rest);
-    let is_plain = host.bytes().all(|byte| {
-        byte.is_ascii_alphanumeric() || byte == b'.' || byte == b':' || byte == b'-'
-    });
     let (name, port) = host.rsplit_once(':')?;
-    if is_plain && !name.is_empty() && !port.is_empty() {
+    if is_host(host.as_bytes()) && !name.is_empty() && !port.is_empty() {
         Some(host)
     } else {
         None
     }
 }
 
-/// The token of a file: its one line.
+/// Whether each byte is a visible one of ASCII.
+fn is_visible(bytes: &[u8]) -> bool
+    ensures { result ≡ list_all is_ascii_graphic bytes.now }
+{
+    bytes.iter().all(|byte| byte.is_ascii_graphic())
+}
+
+/// The token that the text of a file is, but for white space behind it.
+fn token_in(text: &str) -> Option<&str>
+    ensures { IfSome result (λ token. (list_all is_ascii_graphic token.now ≡ true)
+        × (0 < length token.now)) }
+{
+    let token = text.trim_end();
+    if !token.is_empty() && is_visible(token.as_bytes()) {
+        Some(token)
+    } else {
+        None
+    }
+}
+
+/// The token of a file.
 fn token_of(rt: &HostRuntime, alloc: Global, name: &str) -> Result<String, AskFailure> {
     let Ok(file) = fs::open(rt, name) else {
-        return Err(AskFailure::NoToken);
+        return Err(NoToken);
     };
     let mut bytes = Vec::new(alloc);
     if file.take(TOKEN_LIMIT).read_to_end(&mut bytes).is_err() {
-        return Err(AskFailure::NoToken);
+        return Err(NoToken);
     }
     let Ok(text) = str::from_utf8(&bytes) else {
-        return Err(AskFailure::NoToken);
+        return Err(NoToken);
     };
-    let token = text.trim_end();
-    if token.is_empty() || !token.bytes().all(|byte| byte.is_ascii_graphic()) {
-        return Err(AskFailure::NoToken);
-    }
+    let Some(token) = token_in(text) else {
+        return Err(NoToken);
+    };
     Ok(String::from_str(alloc, token)?)
 }
 
@@ -124,11 +160,10 @@ fn ask_by<R: Read + Drop, W: Write>(
         token: token.as_str(),
         patience: Duration::from_secs(patience),
     };
-    let is_look = options.get_str("looked") == Some("true");
-    if is_look {
+    if options.get_str("looked") == Some("true") {
         return ask(rt, alloc, door, state, None, output);
     }
-    let wanted: Wanted = read_wanted(alloc, input)?;
+    let wanted = read_wanted(alloc, input)?;
     ask(rt, alloc, door, state, Some(&wanted), output)
 }
 
