@@ -76,7 +76,7 @@ abbrev Lasting : ℕ → Station → World → Step → Type 0
 Lasting first s w step = Keeps (CountsIn first) (AwaitsIn first) s w step
 
 -- a station
-abbrev of_parts : Place → List ℕ → Option Answered → Option Stop → Waiting → Station
+abbrev pub of_parts : Place → List ℕ → Option Answered → Option Stop → Waiting → Station
 of_parts place aside last stop waiting = record {
   file = record { place = place; aside = aside; last = last; stop = stop };
   waiting = waiting;

@@ -9,3 +9,5 @@ pub mod Refused
 pub mod Running
 pub mod Counts
 pub mod Counting
+pub mod Lines
+pub mod Refusals

@@ -118,7 +118,7 @@ alone_first (serves sent answer books) moves alone = (tt, alone)
 alone_first (says code expected) moves alone = (tt, alone)
 
 -- no person has the station go on with this, nor later
-unaided_first : (move : Move) (moves : List Move) → IsUnaided (move ∷ moves)
+pub unaided_first : (move : Move) (moves : List Move) → IsUnaided (move ∷ moves)
     → IsUnaided (move ∷ []) × IsUnaided moves
 unaided_first (befalls event) moves unaided = ((unaided.0, tt), unaided.1)
 unaided_first (stops event count) moves unaided = ((unaided.0, tt), unaided.1)

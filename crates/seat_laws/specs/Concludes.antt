@@ -3,12 +3,12 @@ use Rattle.std.specs.Prelude.{◌≡◌, ◌⊎◌, ℕ, suc, ◌≤◌, ◌==�
 use Rattle.seat_core.specs.declared.act.Act.{Act}
 use Rattle.seat_core.specs.declared.act.Act.TheVariants.{LogRequest, LogOutcome}
 use Rattle.seat_core.specs.declared.request.Answered.{Answered}
-use Rattle.seat_core.specs.declared.request.Outcome.TheVariants.{Done}
+use Rattle.seat_core.specs.declared.request.Outcome.TheVariants.{Done, NotDone}
 use Rattle.seat_core.specs.declared.request.Sent.{Sent}
 use Rattle.seat_core.specs.declared.station.Place.{Place}
 use Rattle.seat_core.specs.declared.station.Place.TheVariants.{Unknown, Free, UnderWay}
-use Rattle.seat_laws.specs.Served.{Entry, IsInOrder, entry_of}
-use Rattle.seat_laws.specs.Runs.{IsAmong, World}
+use Rattle.seat_laws.specs.Served.{Entry, IsInOrder, entry_of, refuses}
+use Rattle.seat_laws.specs.Runs.{IsAmong, Move, Reply, World, serves}
 
 -- the newest line of a request
 abbrev pub line_of_request : List Act → Option Sent
@@ -74,6 +74,30 @@ pub record Concludes (first : ℕ) (w : World) : Type 0 where
   pub once : IsInOrder first w.books
   pub told : AreToldOf w.books w.told
   pub goes_on : w.station.file.stop ≡ None
+
+-- What was sent has a line in the log. It is so at each moment: the line is there before.
+pub record IsLogged (w : World) : Type 0 where
+  pub line : (sent : Sent) → IsAmong sent w.sent → IsAmong (LogRequest sent) w.log
+
+-- the answers to requests of the station, in a run
+abbrev pub answers_in : List Move → List Reply
+answers_in [] = []
+answers_in (serves sent answer books ∷ moves) =
+    record { to = Some sent; answer = answer } ∷ answers_in moves
+answers_in (move ∷ moves) = answers_in moves
+
+-- the request of this line was refused so, and has this number
+abbrev pub WasRefused : List Reply → Option Sent → ℕ → ℕ → Type 0
+WasRefused answers None number code = ⊥
+WasRefused answers (Some sent) number code = (sent.number ≡ number) × (expected : ℕ)
+    × IsAmong (record { to = Some sent; answer = refuses code expected }) answers
+
+-- each refusal in the log is an answer to the request whose line is the newest before it
+abbrev pub WereRefused : List Reply → List Act → Type 0
+WereRefused answers [] = Unit {0}
+WereRefused answers (LogOutcome number (NotDone code) ∷ log) =
+    WasRefused answers (line_of_request log) number code × WereRefused answers log
+WereRefused answers (act ∷ log) = WereRefused answers log
 
 -- how many times it is there
 abbrev pub times : ℕ → List ℕ → ℕ

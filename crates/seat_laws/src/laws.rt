@@ -1,6 +1,7 @@
 // The laws of a station and its server.
 ghost use Rattle.std.specs.Prelude.{ℕ, List};
-ghost use Rattle.seat_laws.specs.Prelude.{Concludes, IsAlone, IsDoneOnce, IsRun, IsUnaided, KeepsAll, Move};
+ghost use Rattle.seat_laws.specs.Prelude.{Concludes, IsAlone, IsDoneOnce, IsLogged, IsRun, IsUnaided, KeepsAll, Move};
+ghost use Rattle.seat_laws.specs.Prelude.{WereRefused, answers_in};
 ghost use Rattle.seat_laws.specs.Prelude.{after_moves, beginning};
 
 /// A station that begins with a seat of which nothing is under way; nobody else has its token, and
@@ -20,4 +21,18 @@ pub fn a_station_concludes_what_was_done()
 pub fn a_wanted_request_is_done_once()
     ensures { (first : ℕ) (moves : List Move) → IsRun first beginning moves
         → IsDoneOnce (after_moves moves beginning) }
+{}
+
+/// Whatever the network and the server do, a request that the station sent has its line in the log,
+/// before it is sent. No person has the station go on.
+pub fn what_is_sent_is_logged()
+    ensures { (moves : List Move) → IsUnaided moves → IsLogged (after_moves moves beginning) }
+{}
+
+/// Each refusal in the log is an answer that the request had, the one with the newest line before
+/// it. Others may have the token, and persons may have the station go on. By the server's rule
+/// nothing was done by that answer; a copy of the request may still be done later.
+pub fn a_logged_refusal_was_answered()
+    ensures { (first : ℕ) (moves : List Move) → IsRun first beginning moves
+        → WereRefused (answers_in moves) (after_moves moves beginning).log }
 {}

@@ -16,8 +16,15 @@
 //!   stopped (`Concludes`).
 //! - `a_wanted_request_is_done_once`: over any run, what the station sent of a request was done at
 //!   most as often as the request was wanted (`IsDoneOnce`).
+//! - `what_is_sent_is_logged`: whatever anybody answers, where no person has the station go on, what
+//!   it sent has its line in the log (`IsLogged`).
+//! - `a_logged_refusal_was_answered`: over any run, each refusal in the log is an answer to the
+//!   request of the newest line before it (`WereRefused`).
 #![tactic(auto)]
 
 mod laws;
 
-pub use laws::{a_station_concludes_what_was_done, a_wanted_request_is_done_once};
+pub use laws::{
+    a_logged_refusal_was_answered, a_station_concludes_what_was_done,
+    a_wanted_request_is_done_once, what_is_sent_is_logged,
+};

@@ -13,3 +13,4 @@ pub mod Reading
 pub mod Images
 pub mod Expecting
 pub mod Moving
+pub mod Logging

@@ -5,7 +5,7 @@ use Rattle.office_commands.specs.Prelude.{largest_whole}
 use Rattle.office_laws.specs.Prelude.{Exchange, SeatRun, last_number_of_seat, seat_named, view, writes}
 use Rattle.seat_core.specs.declared.event.Event.{Event}
 use Rattle.seat_core.specs.declared.request.Sent.{Sent}
-use Rattle.seat_laws.specs.Prelude.{Answer, Entry, HasRoom, IsAmong, IsNoLook, MayBefall, Move, World, accepts, after_move}
+use Rattle.seat_laws.specs.Prelude.{Answer, Entry, HasRoom, IsAmong, IsNoLook, MayBefall, Move, Reply, World, accepts, after_move}
 use Rattle.seat_laws.specs.Prelude.{beginning, entry_of, next_number, refuses}
 use Rattle.seat_laws.specs.Runs.{befalls, says, serves, stops}
 use Rattle.seat_runs.specs.Names.{AreApart, IsCopy, IsQuestion, Names}
@@ -113,6 +113,15 @@ pub record StationRun : Type 0 where
 -- the station and its books behind the run
 abbrev pub world_after : StationRun → World
 world_after s = after_turns s.names s.first s.turns beginning
+
+-- the answers to copies of what was sent, by the office or before it
+abbrev pub answered_in : Names → List Turn → List Reply
+answered_in v [] = []
+answered_in v (copies sent x ∷ turns) =
+    record { to = Some sent; answer = v.read x.1 } ∷ answered_in v turns
+answered_in v (turned_away (Some sent) code ∷ turns) =
+    record { to = Some sent; answer = refuses code 0 } ∷ answered_in v turns
+answered_in v (turn ∷ turns) = answered_in v turns
 
 -- the seat's row in the customer's tables behind it
 abbrev pub row_after : StationRun → Option SeatState

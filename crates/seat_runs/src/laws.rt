@@ -6,21 +6,25 @@ ghost use Rattle.fusemap_core.specs.Prelude.{Map};
 ghost use Rattle.office_rules.specs.Prelude.{map_named};
 ghost use Rattle.office_laws.specs.Prelude.{SeatRun};
 ghost use Rattle.seat_core.specs.declared.request.Answered.{Answered};
-ghost use Rattle.seat_laws.specs.Prelude.{Answer, Concludes, IsAmong};
+ghost use Rattle.seat_laws.specs.Prelude.{Answer, Concludes, IsAmong, IsLogged, WereRefused};
 ghost use Rattle.seat_runs.specs.Prelude.{IsDoneThen, IsPlanRecorded, IsRecorded, IsRowOf, IsMomentOf, Moment, MomentOf};
-ghost use Rattle.seat_runs.specs.Prelude.{ReadsRefusals, ReadsReplies};
+ghost use Rattle.seat_runs.specs.Prelude.{ReadsRefusals, ReadsReplies, answered_in};
 ghost use Rattle.seat_runs.specs.Prelude.{StationRun, StaysExpected, StaysUntilEnd, asks_for, device_of, is_plan, row_after, world_after};
 
 /// Over a run of the office, a station's log is what the office did at its seat, but for at most
 /// one request, which the station has under way or aside (`log`). The seat's row in the customer's
 /// tables is of the newest of these (`row`). What the station told as done was done at one moment
-/// of the run, with the reply that it told (`told`).
+/// of the run, with the reply that it told (`told`). The log has a request before it is sent
+/// (`logged`). Each refusal in the log is an answer that the request had (`refused`).
 pub fn a_station_concludes_what_the_office_did()
     ensures log { (s : StationRun) → Concludes s.first (world_after s) }
     ensures row { (s : StationRun)
         → IsRowOf s.names s.first (row_after s) (world_after s).books }
     ensures told { (s : StationRun) (told : Answered) → IsAmong told (world_after s).told
         → (m : MomentOf s) × IsMomentOf s told m }
+    ensures logged { (s : StationRun) → IsLogged (world_after s) }
+    ensures refused { (s : StationRun)
+        → WereRefused (answered_in s.names s.turns) (world_after s).log }
 {}
 
 /// Over a run of the office, from sound tables: behind a plan that was done, what its reply says is

@@ -46,7 +46,12 @@ LOGGED = """        if self._journal:
             self._journal.answered(number, status, body)
 """
 REFUSED = 'changes = {"under_way": None, "late": self._state.late_with(asked)}'
+COPIES = "self._journal.answered(number, refused.status, refused.body)\n            changes"
 REPEATED = "            self._complete(is_repeat=True)\n"
+ASKED = """            if self._journal:
+                self._journal.asked(asked["path"], asked["body"], asked.get("reason", ""))
+"""
+SENT = '            status, body, again = self._posted(asked["path"], asked["body"])\n'
 TOLD = """if refused.no != WRONG_NUMBER or "expected" not in refused.more:
             raise refused
         expected: int = refused.more["expected"]"""
@@ -55,7 +60,9 @@ WRONG = {
         'self._posted(late["path"], late["body"])',
         'self._posted(late["path"], _body_of(self._state.next + 1, members_of(late)))',
     ),
+    "a_look_keeps_what_is_aside": (" if number == own else []", ""),
     "a_lost_file_begins_with_1": ("self._state.next or self._number_of_new_file()", "self._state.next or 1"),
+    "a_refusal_of_a_copy_is_the_requests": (COPIES, COPIES.replace("refused", "(stop or refused)")),
     "a_repeat_takes_the_next_number": (
         REPEATED,
         """
@@ -64,6 +71,7 @@ WRONG = {
             self.post(asked["path"], members_of(asked))
 """,
     ),
+    "a_request_is_sent_before_its_line": (f"{ASKED}{SENT}", f"{SENT}{ASKED}"),
     "a_start_drops_what_is_under_way": (REPEATED, "            self._state.keep(under_way=None)\n"),
     "accepted_request_leaves_its_number": (DONE, DONE.replace("number + 1", "number")),
     "any_refusal_tells_the_number": (
