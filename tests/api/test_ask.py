@@ -146,7 +146,7 @@ def test_life(plant):
 @pytest.mark.needs("strace")
 @pytest.mark.parametrize("call", CALLS)
 def test_killed(plant, call):
-    """Killed before each such call of each request, it is started again until it ends: nothing is done twice or lost."""
+    """Killed before each such call of a request, it is started again until it ends: nothing is done twice or lost."""
     replies, kills = calm_replies(plant), 0
     for (path, members), reply in zip(life(), replies, strict=True):
         for count in range(1, 99):

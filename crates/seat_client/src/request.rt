@@ -66,7 +66,8 @@ fn compact_members(alloc: Global, body: &str) -> Result<String, AskFailure>
 /// The request that a text has: a line `POST`, a space and the path, and behind it a JSON object
 /// without a number.
 fn wanted_in(alloc: Global, text: &str) -> Result<Wanted, AskFailure>
-    ensures { IfOk result (λ wanted. IsWanted text.now wanted.path.now (string_bytes wanted.members)) }
+    ensures { IfOk result (λ wanted.
+        IsWanted text.now wanted.path.now (string_bytes wanted.members)) }
 {
     let (path, body) = text
         .strip_prefix("POST ")
