@@ -1,6 +1,7 @@
 -- What the contracts of this crate are made of.
 pub mod Choices
 pub mod Known
+pub mod Turns
 pub mod Wanted
 pub mod Words
 pub mod Prelude
