@@ -80,11 +80,10 @@ fn wanted_in(alloc: Global, text: &str) -> Result<Wanted, AskFailure>
 /// The request that an input has.
 pub fn read_wanted<R: Read + Drop>(alloc: Global, input: R) -> Result<Wanted, AskFailure> {
     let mut bytes = Vec::new(alloc);
-    if input.take(INPUT_LIMIT).read_to_end(&mut bytes).is_err() {
-        return Err(NoRequest);
-    }
-    match str::from_utf8(&bytes) {
-        Ok(text) => wanted_in(alloc, text),
-        Err(_) => Err(NoRequest),
-    }
+    input
+        .take(INPUT_LIMIT)
+        .read_to_end(&mut bytes)
+        .or(Err(NoRequest))?;
+    let text = str::from_utf8(&bytes).or(Err(NoRequest))?;
+    wanted_in(alloc, text)
 }

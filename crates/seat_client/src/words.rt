@@ -120,19 +120,13 @@ fn token_in(text: &str) -> Option<&str>
 
 /// The token of a file.
 fn token_of(rt: &HostRuntime, alloc: Global, name: &str) -> Result<String, AskFailure> {
-    let Ok(file) = fs::open(rt, name) else {
-        return Err(NoToken);
-    };
+    let file = fs::open(rt, name).or(Err(NoToken))?;
     let mut bytes = Vec::new(alloc);
-    if file.take(TOKEN_LIMIT).read_to_end(&mut bytes).is_err() {
-        return Err(NoToken);
-    }
-    let Ok(text) = str::from_utf8(&bytes) else {
-        return Err(NoToken);
-    };
-    let Some(token) = token_in(text) else {
-        return Err(NoToken);
-    };
+    file.take(TOKEN_LIMIT)
+        .read_to_end(&mut bytes)
+        .or(Err(NoToken))?;
+    let text = str::from_utf8(&bytes).or(Err(NoToken))?;
+    let token = token_in(text).ok_or(NoToken)?;
     Ok(String::from_str(alloc, token)?)
 }
 
