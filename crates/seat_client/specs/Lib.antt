@@ -1,5 +1,6 @@
 -- What the contracts of this crate are made of.
 pub mod Choices
+pub mod Failures
 pub mod Known
 pub mod Turns
 pub mod Wanted

@@ -1,7 +1,9 @@
 // Why asking fails.
 ghost use Rattle.std.specs.Prelude.{◌≡◌};
 ghost use Rattle.seat_client.specs.declared.failure.AskFailure.TheVariants.{NoMemory};
+ghost use Rattle.seat_client.specs.Failures.{failure_of};
 
+use seat_ask::TextFault;
 use std::alloc::{AllocError, AllocFailed};
 use thiserror::Error;
 
@@ -56,5 +58,16 @@ impl<T: Drop> From<AllocFailed<T>> for AskFailure {
 
     fn from(_error: AllocFailed<T>) -> AskFailure {
         AskFailure::NoMemory
+    }
+}
+
+impl From<TextFault> for AskFailure {
+    ghost from_gives = { λ fault failure. failure ≡ failure_of fault };
+
+    fn from(fault: TextFault) -> AskFailure {
+        match fault {
+            TextFault::OtherForm => AskFailure::NotState,
+            TextFault::NoMemory => AskFailure::NoMemory,
+        }
     }
 }
