@@ -75,12 +75,17 @@ class Plant:
         return [json.loads(line) for line in self.log.read_text().splitlines()]
 
     def done(self):
-        """The requests that the log has as accepted, with their replies, in order."""
+        """The requests that the log has as accepted, with their replies, in order.
+
+        A line may be there twice, one behind the other, where the request was sent again (docs/integrate/api.md, "The
+        log"): with one number and one reply it counts once.
+        """
         asked, done = None, []
         for line in self.lines():
             asked = line if "asked" in line else asked
             if line.get("status") == 200:
-                done.append((asked["path"], asked["asked"], line["reply"]))
+                accepted = (asked["path"], asked["asked"], line["reply"])
+                done += [accepted] if done[-1:] != [accepted] else []
         return done
 
     def shown(self, target, token="abc"):
