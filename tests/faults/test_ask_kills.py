@@ -5,7 +5,6 @@ requests twice, the second time up to seconds late, and closes some connections 
 has what the books have, once and in order, and each reply that a process printed is the log's. `size` is in seconds.
 """
 
-import hashlib
 import json
 import random
 import socket
@@ -108,7 +107,8 @@ class Seat(threading.Thread):
 
     def make(self, text: bytes) -> None:
         while True:
-            with subprocess.Popen(self.words, stdin=subprocess.PIPE, stdout=subprocess.PIPE, stderr=subprocess.PIPE) as it:
+            pipe = subprocess.PIPE
+            with subprocess.Popen(self.words, stdin=pipe, stdout=pipe, stderr=pipe) as it:
                 if self.random.random() < KILLED:
                     killer = threading.Timer(self.random.random() ** 2 * 0.1, it.kill)
                     killer.start()
