@@ -211,10 +211,10 @@ class Enrolling(Oem):
                 [sys.executable, "-B", "-m", "wanekupo", *map(str, command)],
                 cwd=CLIENT, stdout=subprocess.DEVNULL, stderr=subprocess.DEVNULL, start_new_session=True,
             )  # fmt: skip
-            goal = len(list(self.spool.glob("*.pem"))) + chance.randrange(12)
+            goal = len(list(self.spool.glob("*.pem"))) + chance.randrange(12 if kills else 4)
             while running.poll() is None and len(list(self.spool.glob("*.pem"))) < goal:
                 time.sleep(0.01)
-            time.sleep(chance.random() / 5)
+            time.sleep(chance.random() / (5 if kills else 50))
             if running.poll() is None:
                 (os.killpg if chance.random() < 0.5 else os.kill)(running.pid, signal.SIGKILL)
             kills += running.wait() == -signal.SIGKILL
