@@ -45,4 +45,6 @@ def test_a_page(program, name, is_written):
     if is_written:
         page.write_text(text, encoding="utf-8")
     else:
-        assert not others_than_on(told)
+        others = others_than_on(told)
+        told = ["\n".join([*step, "-- is to be", *page, "-- is", *now]) for step, page, now in others]
+        assert not others, "\n\n".join(told)

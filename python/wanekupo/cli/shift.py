@@ -4,7 +4,7 @@ from __future__ import annotations
 
 import argparse
 import os
-from datetime import datetime, timezone
+from datetime import datetime, timedelta, timezone
 from pathlib import Path
 
 from wanekupo.books.pages import write
@@ -60,7 +60,8 @@ def customers_journals(words: list[str]) -> list[Owned]:
 
 def _shift(settings: Settings, args: argparse.Namespace) -> int:
     tested_period(args.from_time, args.to_time)
-    end = min(args.to_time, datetime.now(timezone.utc))
+    # Journals have whole seconds, and a period's end isn't in it: the lines of this second count.
+    end = min(args.to_time, datetime.now(timezone.utc) + timedelta(seconds=1))
     tested_period(args.from_time, end)
     folder = Path(args.csv) if args.csv else None
     if folder and not folder.is_dir():
