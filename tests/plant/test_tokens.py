@@ -231,6 +231,8 @@ def who_may_not(place, version, body):
     asked = len(place.recorder.heads)
     for name, shown in strangers(place).items():
         for more in ([], ["-d", body]):
+            # nginx.conf lets strangers ask 20 times a second.
+            time.sleep(1 / 20)
             status, fields, text = place.ask(shown, "/v1/order?name=o1", more=[version, *more])
             got = (
                 status,
