@@ -51,7 +51,8 @@ fn stop_value(alloc: Global, stop: Option<Stop>) -> Result<Value, AllocError>
 
 /// Numbers, one after another.
 fn numbers_value(alloc: Global, numbers: &[u64]) -> Result<Value, AllocError>
-    ensures { IfOk result (λ value. view value ≡ array (items_of (map number_data numbers.now))) }
+    ensures { IfOk result (λ value. view value
+        ≡ array (items_of (map number_data numbers.now))) }
 {
     let mut values = Vec::new(alloc);
     for number in numbers {
@@ -69,7 +70,8 @@ fn asked_value(alloc: Global, asked: &Asked) -> Result<Value, AllocError>
 
 /// Requests with their names, one after another.
 fn requests_value(alloc: Global, requests: &[Asked]) -> Result<Value, AllocError>
-    ensures { IfOk result (λ value. view value ≡ array (items_of (map asked_data requests.now))) }
+    ensures { IfOk result (λ value. view value
+        ≡ array (items_of (map asked_data requests.now))) }
 {
     let mut values = Vec::new(alloc);
     for asked in requests {
