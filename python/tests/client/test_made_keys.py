@@ -142,7 +142,7 @@ class PrintedKeys(BenchCase):
         self.assertEqual((self.bench().ended("left")[1], self.holding()), ("passed", set()))
         (told,) = [it["told"] for it in self.logged() if "told" in it]
         self.assertIn(f"/v1/readback of chip {MAC}", told)
-        self.assertIn("the server has not done it", told)
+        self.assertIn("The server has not accepted that number.", told)
         known = self.asked("GET", f"/v1/device?chip={MAC}")[1]["keys"]
         self.assertEqual(known, {"BLOCK1": hashlib.sha256(self.key[::-1]).hexdigest()})
         self.assertNotIn("for ", "".join(it.get("output", "") for it in self.logged()))

@@ -94,6 +94,32 @@ class Once(StationCase):
         self.program.copied(self.folder / "copy")
         self.assertIn("Found: Nothing.", audited(self.folder / "copy/books.db", self.folder / "a1.journal", *ALWAYS)[1])
 
+    def test_words_that_went_with_a_process(self):
+        """By the next number, or the one behind it, a seat goes on, and says which; at any other it stops."""
+        told, proxy = [], self.proxy()
+        options = {"keeps_words": False, "tell": told.append, "patience": 0}
+        for others, accepted in ((0, "not accepted"), (1, "has accepted"), (2, None)):
+            station, other = self.station(proxy.url, **options), self.station(file="other.json")
+            station.import_map(MAP)
+            proxy.faults = ["lost request"]
+            with self.assertRaises(NoReply):
+                station.read_back(MAC, self.chip().read())
+            number = station.own_number()
+            station.close()
+            other.resynchronize()
+            for _ in range(others):
+                other.import_map(MAP)
+            other.close()
+            station = self.station(proxy.url, **options)
+            if accepted:
+                self.assertIsNotNone(station.finish())
+                self.assertIn(accepted, told.pop())
+            else:
+                self.out_of_step(station.finish, 11, number, number + others)
+                self.out_of_step(station.finish, 11, number, number + others)
+            station.close()
+        self.assertEqual(told, [])
+
     def killed_at_every_step(self, **options):
         """What the journal has behind it, and whether the state file ever had words of a chip."""
         with self.station() as station:

@@ -72,7 +72,8 @@ def _told_of_late_copy(late: Mapping[str, str], number: int) -> str:
 def _told_of_no_words(asked: Mapping[str, str], number: int, is_done: bool) -> str:
     return (
         f"This seat was ended while a request was under way: {_named(asked, number)}. What the chip showed is kept "
-        f"nowhere, so it isn't sent again: the server {'did it' if is_done else 'has not done it'}. This seat goes on."
+        f"nowhere, so it isn't sent again. The server has {'' if is_done else 'not '}accepted that number. This seat "
+        "goes on."
     )
 
 
