@@ -63,11 +63,13 @@ def commands_of(another):
 @NEEDS_KEYS
 class Certificates(CertificateCase):
     def test_what_is_issued(self):
-        """Each is what the record says, by openssl, and a second run issues none."""
+        """Each is what the record says, by openssl. A second run issues none, and forgets what a killed one left."""
         first, second = self.device(), self.device("o2", "shipped")
         begun = time.time()
         self.assertEqual(self.counted(2, 0, 0), "")
+        (self.ca / f"issued/{first}.asked").touch()
         self.assertEqual(self.counted(0, 2, 0), "")
+        self.assertEqual(sorted(it.name for it in self.ca.glob("issued/*")), [f"{it}.pem" for it in (first, second)])
         self.assertEqual(self.in_index(), [f"/serialNumber={it}" for it in (first, second)])
         for serial in (first, second):
             text = need(self.spool, f"openssl x509 -in {serial}.pem -noout -text -certopt no_pubkey,no_sigdump")
