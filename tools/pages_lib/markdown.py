@@ -55,11 +55,6 @@ def anchors_in(text: str) -> list[str]:
     return found + re.findall(r'<a id="([^"]+)">', FENCE.sub("", text))
 
 
-def headings_of(page: str) -> list[str]:
-    """The headings of a page."""
-    return headings_in(page_text(page))
-
-
 @functools.cache
 def anchors_of(page: str) -> list[str]:
     """The anchors of a page: those of its headings, and its own."""

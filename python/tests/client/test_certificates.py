@@ -15,7 +15,7 @@ from unittest import mock
 
 from support import HOST, free_port
 from certifying import BEGINNING, END, ORDER, CertificateCase, need, run
-from commanding import CLIENT, NEEDS_KEYS
+from commanding import CLIENT, NEEDS_KEYS, ran
 
 EXTENSIONS = [
     "X509v3 Basic Constraints: critical",
@@ -63,11 +63,13 @@ def commands_of(another):
 @NEEDS_KEYS
 class Certificates(CertificateCase):
     def test_what_is_issued(self):
-        """Each is what the record says, by openssl, and a second run issues none."""
+        """Each is what the record says, by openssl. A second run issues none, and forgets what a killed one left."""
         first, second = self.device(), self.device("o2", "shipped")
         begun = time.time()
         self.assertEqual(self.counted(2, 0, 0), "")
+        (self.ca / f"issued/{first}.asked").touch()
         self.assertEqual(self.counted(0, 2, 0), "")
+        self.assertEqual(sorted(it.name for it in self.ca.glob("issued/*")), [f"{it}.pem" for it in (first, second)])
         self.assertEqual(self.in_index(), [f"/serialNumber={it}" for it in (first, second)])
         for serial in (first, second):
             text = need(self.spool, f"openssl x509 -in {serial}.pem -noout -text -certopt no_pubkey,no_sigdump")
@@ -86,6 +88,21 @@ class Certificates(CertificateCase):
         self.assertEqual(begins[0], "notBefore=Jan  1 00:00:00 2026 GMT\n")
         issued = time.mktime(time.strptime(begins[1].strip(), "notBefore=%b %d %H:%M:%S %Y GMT")) - time.timezone
         self.assertTrue(begun - 2 < issued < time.time() + 2, begins[1])
+
+    def test_a_few(self):
+        """Of a bench's spool, which has one request, no list is read once the CA has its issuer, unless another chip is
+        said to have the number."""
+        wire, lists = self.proxy(), []
+        for subject, refused in ((None, 0), (None, 0), ("/CN=chip", 0), ("/CN=240ac4000001", 1)):
+            serial = self.device(subject=subject)
+            (alone := self.folder / serial).mkdir()
+            shutil.move(self.spool / f"{serial}.csr", alone)
+            words = ["--url", wire.url, "--token", self.folder / "look", "certify", alone, "--ca-folder", self.ca]
+            status, out, err = ran(*words)
+            self.assertEqual((status, json.loads(out)["issued"]), (refused, 1 - refused), err)
+            lists.append(sum(b"GET /v1/devices?" in asked for _, asked in wire.seen))
+            wire.seen.clear()
+        self.assertEqual(lists, [1, 0, 1, 1])
 
     # What is refused.
 

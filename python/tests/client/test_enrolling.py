@@ -191,7 +191,7 @@ class Enrolling(Oem):
             with self.subTest(way):
                 self.oem.issued.clear()
                 words, serials, chance = self.by(way), self.lot(prefix, COUNT), random.Random(prefix)
-                kills = self.killed_until_done(words, chance)
+                kills, amid = self.killed_until_done(words, chance)
                 self.assertGreaterEqual(kills, COUNT // 12)
                 if way == "local":
                     copies = map(x509.load_pem_x509_certificate, map(Path.read_bytes, self.ca.glob("newcerts/*.pem")))
@@ -200,10 +200,13 @@ class Enrolling(Oem):
                     its = [(it[0].value, copy.public_bytes(PEM)) for it, copy in zip(named, copies) if it]
                     self.oem.issued.extend(its)
                 self.each_once(serials)
+                done = f"{len(set(serials))} serial numbers, {len(self.oem.issued)} certificates"
+                print(f"{way}: {done}; {kills} kills, {amid} amid a signature", flush=True)
 
     def killed_until_done(self, words, chance):
-        """Begins again and again what is killed, until all have their certificates; how often it was killed."""
-        kills = 0
+        """Begins again and again what is killed, until all have their certificates; how often it was killed, and of how
+        many certificates that left unknown whether they were signed."""
+        kills = amid = 0
         command = ["--url", self.program.url, "--token", self.folder / "look", "certify", self.spool]
         command += ["--ca-folder", self.ca, *words]
         for _ in range(9 * COUNT):
@@ -220,7 +223,8 @@ class Enrolling(Oem):
             kills += running.wait() == -signal.SIGKILL
             self.wait_for_its_command()
             if running.returncode in (0, 1) and not self.asked():
-                return kills
+                return kills, amid
+            amid += len(self.asked())
             self.look_in_the_ca()
         self.fail(f"killed {kills} times, and not done")
 

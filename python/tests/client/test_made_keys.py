@@ -7,6 +7,7 @@ from __future__ import annotations
 
 import base64
 import hashlib
+import json
 import os
 import re
 import secrets
@@ -114,8 +115,8 @@ class PrintedKeys(BenchCase):
         return script(self.folder / "tool", f'{case}exec {words} "$@"\n')
 
     def test_it_is_in_no_file(self):
-        """Behind an unplugged chip, a kill while it is burnt, one while the server has to be told what it shows (the
-        state file alone has it, docs/reference/files.md), and a life. The key is the same each time."""
+        """Behind an unplugged chip, a kill while it is burnt, one while the server has to be told what it shows, and a
+        life. The key is the same each time."""
         self.needs_program()
         self.order()
         self.put("left", MAC)
@@ -135,9 +136,13 @@ class PrintedKeys(BenchCase):
         (self.folder / "go").touch()
         bench.until(lambda board: board["away"], "away")
         bench.kill()
-        self.assertEqual(self.holding(), {"a1.json"})
+        under_way = json.loads((self.folder / "a1.json").read_bytes())["under_way"]
+        self.assertEqual((under_way["path"], self.holding()), ("/v1/readback", set()))
         self.program.start()
         self.assertEqual((self.bench().ended("left")[1], self.holding()), ("passed", set()))
+        (told,) = [it["told"] for it in self.logged() if "told" in it]
+        self.assertIn(f"/v1/readback of chip {MAC}", told)
+        self.assertIn("The server has not accepted that number.", told)
         known = self.asked("GET", f"/v1/device?chip={MAC}")[1]["keys"]
         self.assertEqual(known, {"BLOCK1": hashlib.sha256(self.key[::-1]).hexdigest()})
         self.assertNotIn("for ", "".join(it.get("output", "") for it in self.logged()))

@@ -12,6 +12,7 @@ import unittest
 from concurrent.futures import ThreadPoolExecutor
 from unittest import mock
 
+from books_case import ALWAYS, audited
 from simulated_chip import SimulatedChip
 from support import (
     CHUNKED,
@@ -80,13 +81,55 @@ class Once(StationCase):
     def test_the_station_is_killed_at_every_step(self):
         """Before each call that the outside sees: of the state file, of the journal, of a connection, of the chip. Then
         it goes on. The journal has each request once, with its reply."""
+        asked, has_words = self.killed_at_every_step()
+        self.assertEqual((all(it.is_done() for it in asked), has_words), (True, True))
+
+    @unittest.skipUnless(hasattr(os, "fork"), "needs fork")
+    def test_no_file_has_what_a_chip_shows(self):
+        """The same without words in the state file: of what shows a chip the journal may lack a reply. An audit finds
+        nothing."""
+        asked, has_words = self.killed_at_every_step(keeps_words=False, tell=lambda _: None)
+        not_done = {it.path for it in asked if not it.is_done()}
+        self.assertEqual((not_done, has_words), ({"/v1/device", "/v1/readback"}, False))
+        self.program.copied(self.folder / "copy")
+        self.assertIn("Found: Nothing.", audited(self.folder / "copy/books.db", self.folder / "a1.journal", *ALWAYS)[1])
+
+    def test_words_that_went_with_a_process(self):
+        """By the next number, or the one behind it, a seat goes on, and says which; at any other it stops."""
+        told, proxy = [], self.proxy()
+        options = {"keeps_words": False, "tell": told.append, "patience": 0}
+        for others, accepted in ((0, "not accepted"), (1, "has accepted"), (2, None)):
+            station, other = self.station(proxy.url, **options), self.station(file="other.json")
+            station.import_map(MAP)
+            proxy.faults = ["lost request"]
+            with self.assertRaises(NoReply):
+                station.read_back(MAC, self.chip().read())
+            number = station.own_number()
+            station.close()
+            other.resynchronize()
+            for _ in range(others):
+                other.import_map(MAP)
+            other.close()
+            station = self.station(proxy.url, **options)
+            if accepted:
+                self.assertIsNotNone(station.finish())
+                self.assertIn(accepted, told.pop())
+            else:
+                self.out_of_step(station.finish, 11, number, number + others)
+                self.out_of_step(station.finish, 11, number, number + others)
+            station.close()
+        self.assertEqual(told, [])
+
+    def killed_at_every_step(self, **options):
+        """What the journal has behind it, and whether the state file ever had words of a chip."""
         with self.station() as station:
             station.make_order(**{**ORDER, "quantity": 200, "macs": 0, "first": 1})
             station.import_map(MAP)
-        step, macs = 0, []
-        while not macs or self.lives(macs[-1], step) == signal.SIGKILL:
+        step, macs, has_words = 0, [], False
+        while not macs or self.lives(macs[-1], step, **options) == signal.SIGKILL:
             if macs:
-                self.assertEqual(self.lives(macs[-1], None), 0)
+                has_words |= any(b'blocks\\":[[' in it.read_bytes() for it in self.folder.glob("a1.json*"))
+                self.assertEqual(self.lives(macs[-1], None, **options), 0)
             step, mac = step + 1, f"240ac40000{step + 1:02x}"
             macs.append(mac)
         self.assertGreater(step, 50)
@@ -98,10 +141,10 @@ class Once(StationCase):
         self.assertEqual((counts["shipped"], counts["serials_left"]), (len(macs), 200 - len(macs)))
         asked = requests_of(self.folder / "a1.journal")
         self.assertEqual([it.members["nr"] for it in asked], list(range(3, 3 + 6 * len(macs))))
-        self.assertTrue(all(it.is_done() for it in asked))
         self.assertEqual([it["serial"] for it in issued(asked)], serials)
+        return asked, has_words
 
-    def lives(self, mac, step):
+    def lives(self, mac, step, **options):
         """Brings a chip to its shipment in another process, which is killed at a step; its status, or the signal."""
         child = os.fork()
         if not child:
@@ -113,7 +156,7 @@ class Once(StationCase):
                 chip_io = Held(SimulatedChip.at(file), self.keys)
                 killed_at(step)
                 journal = Journal(self.folder / "a1.journal")
-                with Station(self.program.url, "abc", self.folder / "a1.json", journal=journal) as station:
+                with Station(self.program.url, "abc", self.folder / "a1.json", journal=journal, **options) as station:
                     life(station, chip_io, bytes.fromhex(mac))
                 status = 0
             finally:

@@ -54,7 +54,12 @@ ASKED = """            if self._journal:
 SENT = '            status, body, again = self._posted(asked["path"], asked["body"])\n'
 TOLD = """if refused.no != WRONG_NUMBER or "expected" not in refused.more:
             raise refused
-        expected: int = refused.more["expected"]"""
+        return refused
+
+    @_in_turn
+    def expected_number(self) -> int:
+        \"\"\"The number that the server expects of the seat. Nothing is changed.\"\"\"
+        expected: int = self._number_refused().more["expected"]"""
 WRONG = {
     "a_kept_one_is_tried_with_the_next_number": (
         'self._posted(late["path"], late["body"])',

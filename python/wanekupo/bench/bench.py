@@ -418,7 +418,8 @@ def main(settings: Settings, arguments: argparse.Namespace) -> int:
             return clear_old(kept, stack.enter_context(looking_station_of(settings)))
         tell: list[Callable[[str], None]] = []
         patient = replace(settings, patience=min(settings.patience, PATIENCE))
-        station = stack.enter_context(station_of(patient, tell=lambda text: tell[0](text)))
+        is_plain = not any(it.printed for it in recipe.wishes)  # else a key that has no file has none in the state
+        station = stack.enter_context(station_of(patient, tell=lambda text: tell[0](text), keeps_words=is_plain))
         bench = Bench(recipe, station, kept, settings)
         tell.append(bench.tell)
         page = Page(bench, port) if has_page else None

@@ -22,7 +22,7 @@ from wanekupo.bench.words import TYPED
 NAME = re.compile(r"[A-Za-z0-9._-]{1,32}")
 HOOKS = ("before_register", "before_identity", "before_ship", "label")
 STARTS = ("key", "scan", "chip")
-LONGEST_HOOK, LONGEST_TOOL = 60.0, 120.0
+LONGEST_HOOK = 60.0
 
 # Names of the recipe, and of each of its tables.
 TOP = ("name", "order", "map", "family", "start", "page", "folder", "keep_folder")

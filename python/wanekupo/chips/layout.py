@@ -58,9 +58,6 @@ class Layout:
         """The bits of both fields of locks, which a plan has in its second batch."""
         return frozenset(it.place(index) for it in (self._write, self._read) for index in range(it.count))
 
-    def key_fields(self) -> list[str]:
-        return [name for name, it in self.fields.items() if it.key]
-
     def names(self, places: Iterable[Place], keys: Iterable[str] = ()) -> list[str]:
         """What a person calls these bits and keys, each once."""
         return sorted({*map(self.name_of, places), *keys})

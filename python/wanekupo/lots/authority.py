@@ -133,7 +133,9 @@ class Authority:
             told = f"A record gets no second one. Only if nobody ever got that one {_taken_away(number)}."
             raise NotCertified(f"the certificate of {serial} was revoked", told)
         with contextlib.suppress(FileNotFoundError):
-            return (self.issued / f"{serial}.pem").read_bytes()
+            pem = (self.issued / f"{serial}.pem").read_bytes()
+            self._forget(serial)  # as of a run that was killed behind the file
+            return pem
         return None
 
     def keep(self, certificate: Any, record: Mapping[str, Any], told: str, faults: Sequence[str] = ()) -> bytes:

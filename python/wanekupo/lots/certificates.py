@@ -12,7 +12,7 @@ import functools
 import shlex
 from collections import defaultdict
 from pathlib import Path
-from typing import Any, Iterable, Iterator, Mapping, Optional, Sequence
+from typing import Any, Iterable, Iterator, Mapping, Optional, Sequence, Union
 
 from wanekupo.seat import listings as gathering
 from wanekupo.lots.authority import READABLE, Authority, NotCertified
@@ -25,7 +25,7 @@ from wanekupo.lots.idevid import REVOKED, TIME, chain_fault, certificate_faults,
 from wanekupo.seat.keys import library, weakness_of
 from wanekupo.seat.profiles import Profile
 from wanekupo.common.printing import Progress, print_shown, say_json, warn
-from wanekupo.seat.replies import Listed
+from wanekupo.seat.replies import Device, Listed
 from wanekupo.common.sentences import sentence_of
 from wanekupo.lots.spools import CERTIFICATE, REQUEST, SECRET, CertificateRequest, certificates_of
 from wanekupo.lots.spools import key_of_certificate, read_in, request_in, tested_crl, tested_spool
@@ -38,6 +38,10 @@ VERIFY = """: the key, the serial number, the validity and the form, and its cha
 Status 1 where one isn't."""
 
 DONE, REFUSED = 0, 1
+
+# A device as the list shows it, or by itself; and of how few serial numbers each device is asked for by itself.
+Found = Union[Device, Listed]
+FEW = 8
 
 
 def add_certify(parser: argparse.ArgumentParser) -> None:
@@ -74,10 +78,13 @@ class DevicesBySerial:
                 listed[it.serial].append(it)
         return listed
 
-    def record(self, serial: str) -> tuple[Listed, Mapping[str, Any]]:
-        """The device of a serial number, and its record."""
-        found = [(it, gathering.record(self._station, it.chip)) for it in self._listed[serial]]
-        found = [it for it in found if self._issuer in (None, it[1]["issuer"])]
+    def record(self, serial: str, chip: str = "") -> tuple[Found, Mapping[str, Any]]:
+        """The device of a serial number, and its record. The list has all devices of the customer: it isn't read for a
+        few numbers of a known issuer, where each is that of the chip which is said to have it."""
+        is_alone = chip and self._issuer and len(self._wanted) <= FEW
+        named = self._station.find_device(chip) if is_alone else None
+        found = self._recorded([named] if named and named.serial == serial else [])
+        found = found or self._recorded(self._listed[serial])
         if not found:
             of = f" of {self._issuer}" if self._issuer else ""
             told = "Look whose it is: a token sees the devices of its own customer."
@@ -90,6 +97,11 @@ class DevicesBySerial:
         if listed.state not in IN_USE:
             raise NotCertified(f"{serial} is of the chip {listed.chip}, which is {listed.state}")
         return listed, {"not_before": None, **record}
+
+    def _recorded(self, devices: Iterable[Found]) -> list[tuple[Found, Mapping[str, Any]]]:
+        """Those of devices whose record is of the issuer, with it."""
+        found = [(it, gathering.record(self._station, it.chip)) for it in devices]
+        return [it for it in found if self._issuer in (None, it[1]["issuer"])]
 
 
 # certify
@@ -153,7 +165,7 @@ def _certified(spool: Path, serial: str, authority: Authority, books: DevicesByS
     if pem is not None:
         _check_kept(request, pem, spool / f"{serial}.csr")
     if pem is None or there != pem:
-        listed, record = books.record(serial)
+        listed, record = books.record(serial, *_chips_in(request)[:1])
         _check(request, record, spool / f"{serial}.csr", authority.profile)
         authority.take(record["issuer"])
         if pem is None and there is not None:
@@ -182,17 +194,22 @@ def _check(request: CertificateRequest, record: Mapping[str, Any], file: Path, p
     if request.digest != record["key_sha256"]:
         told = "Look which chip each is of, before anything else. The device keeps its record."
         raise NotCertified(f"{file} has another key than the record of the chip {record['chip']}", told)
-    x509 = library("x509")
-    asked = x509.load_der_x509_csr(request.der)
-    weakness = ", ".join(weakness_of(asked.public_key(), profile))
+    key = library("x509").load_der_x509_csr(request.der).public_key()
+    weakness = ", ".join(weakness_of(key, profile))
     if weakness:
         told = "No CA certifies it. Scrap the device, and have the next one made with another kind of key."
         raise NotCertified(f"{file}, of the chip {record['chip']}, can't be certified: {weakness}", told)
-    names = [str(it.value) for it in asked.subject.get_attributes_for_oid(x509.NameOID.COMMON_NAME)]
-    others = [it for it in names if CHIP.fullmatch(it) and it != record["chip"]]
+    others = [it for it in _chips_in(request) if it != record["chip"]]
     if others:
         told = "Look which chip each is of, before anything else."
         raise NotCertified(f"{file} names the chip {others[0]}, and its record is of {record['chip']}", told)
+
+
+def _chips_in(request: CertificateRequest) -> list[str]:
+    """The chips that a request's subject names."""
+    x509 = library("x509")
+    names = x509.load_der_x509_csr(request.der).subject.get_attributes_for_oid(x509.NameOID.COMMON_NAME)
+    return [str(it.value) for it in names if CHIP.fullmatch(str(it.value))]
 
 
 # verify

@@ -26,8 +26,13 @@ def members_of(asked: Mapping[str, str]) -> dict[str, Any]:
     return members
 
 
+def has_words(asked: Mapping[str, Any]) -> bool:
+    """Whether a kept request is as it was sent: of what a chip showed a file may have digests alone."""
+    return not any(isinstance(block, str) for block in json.loads(asked["body"]).get("blocks", ()))
+
+
 def _kept(asked: Optional[Mapping[str, Any]]) -> Optional[dict[str, Any]]:
-    """A request that has its reply, as it is kept: what a chip showed may be a key, and isn't sent again."""
+    """A request that isn't sent again, as it is kept: what a chip showed may be a key."""
     if asked is None:
         return None
     members = json.loads(asked["body"])
@@ -37,13 +42,14 @@ def _kept(asked: Optional[Mapping[str, Any]]) -> Optional[dict[str, Any]]:
 
 
 class StateFile:
-    """What a seat keeps, and which process has it. Without a file nothing is kept, and so nothing begun.
+    """What a seat keeps, and which process has it. Without a file nothing is kept, and so nothing begun. Without
+    `keeps_words` the file has digests of what a chip showed, also of requests that this process may send again.
 
     Of the token it has the SHA-256: with another seat's its request would be another one, and might be done as that.
     """
 
-    def __init__(self, file: Optional[str | os.PathLike[str]], token: str):
-        self.token = hashlib.sha256(token.encode()).hexdigest()
+    def __init__(self, file: Optional[str | os.PathLike[str]], token: str, keeps_words: bool = True):
+        self.token, self._keeps_words = hashlib.sha256(token.encode()).hexdigest(), keeps_words
         self.file = None if file is None else own_path(file)
         self._lock: Optional[int] = None
         self._data: dict[str, Any] = {**dict.fromkeys(NAMES), "token": self.token, "late": [], "stop": None}
@@ -143,5 +149,7 @@ class StateFile:
             raise BadStateFile("without a state file nothing is sent that changes anything")
         state: dict[str, Any] = {**self._data, "late": self.late, **changes}
         state["last"] = _kept(state["last"])
-        replace_file(self.file, compact_json(state))
+        late = state["late"] if self._keeps_words else [_kept(it) for it in state["late"]]
+        under_way = state["under_way"] if self._keeps_words else _kept(state["under_way"])
+        replace_file(self.file, compact_json({**state, "late": late, "under_way": under_way}))
         self._data = state

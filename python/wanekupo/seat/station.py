@@ -28,7 +28,7 @@ from wanekupo.seat.replies import (
     entries_of, identity_of, imported_of, order_of, work_of,
 )  # fmt: skip
 from wanekupo.seat.import_rows import LONGEST_BODY, Rows, csv_of, import_parts
-from wanekupo.seat.state_file import StateFile, members_of
+from wanekupo.seat.state_file import StateFile, has_words, members_of
 
 Self = TypeVar("Self", bound="Seat")
 Words = ParamSpec("Words")
@@ -55,12 +55,25 @@ def _body_of(number: int, members: Mapping[str, Any]) -> str:
     return json.dumps({"nr": number, **members}, separators=(",", ":"), ensure_ascii=False)
 
 
-def _told_of_late_copy(late: Mapping[str, str], number: int) -> str:
-    members = members_of(late)
+def _named(asked: Mapping[str, str], number: int) -> str:
+    """A request as a sentence names it."""
+    members = members_of(asked)
     named = next((f" of {name} {members[name]}" for name in ("chip", "name", "issuer") if name in members), "")
+    return f"{asked['path']}{named}, with number {number}"
+
+
+def _told_of_late_copy(late: Mapping[str, str], number: int) -> str:
     return (
-        f"A late copy of a request was accepted, which had been refused before: {late['path']}{named}, with number "
-        f"{number}. The journal has it now. Look at what it did; this seat goes on."
+        f"A late copy of a request was accepted, which had been refused before: {_named(late, number)}. The journal "
+        "has it now. Look at what it did; this seat goes on."
+    )
+
+
+def _told_of_no_words(asked: Mapping[str, str], number: int, is_done: bool) -> str:
+    return (
+        f"This seat was ended while a request was under way: {_named(asked, number)}. What the chip showed is kept "
+        f"nowhere, so it isn't sent again. The server has {'' if is_done else 'not '}accepted that number. This seat "
+        "goes on."
     )
 
 
@@ -80,7 +93,8 @@ class Seat:
     `insecure` lets its token go over http to another machine. With `new_token` a state file of another token is gone on
     with, where the server shows that it is the same seat's, before the first request that changes anything. `tell` gets
     a sentence where the seat goes on behind a late copy, and with `tells_of_new_file` where its state file is new and
-    the seat isn't; without it that is a line on standard error.
+    the seat isn't; without it that is a line on standard error. Without `keeps_words` the state file has no words of a
+    chip: a request that shows one is sent again by this process alone, and behind it the number says what became.
 
     Its connection is kept between requests, and made anew where the other side has closed it."""
 
@@ -98,12 +112,13 @@ class Seat:
         closes_journal: bool = False,
         tell: Callable[[str], None] = warn,
         tells_of_new_file: bool = False,
+        keeps_words: bool = True,
     ):
         self._server = Server(url, token, patience, timeout, context, insecure)
         self._journal, self._closes_journal = journal, closes_journal
         self._tell, self._tells_of_new_file = tell, tells_of_new_file
         self._turn = threading.RLock()
-        self._state = StateFile(file, token)
+        self._state = StateFile(file, token, keeps_words)
         try:
             if not self._state.is_of_the_token() and not new_token:
                 told = "Name the seat's own file; or give --new-token where the token is a new one of the same seat."
@@ -151,7 +166,7 @@ class Seat:
         that it changes nothing. One whose words aren't kept can't be sent again, nor one with another number, behind
         which others were accepted: then the number has to do."""
         members = json.loads(last["body"])
-        if members["nr"] != number or "reply" in last and "blocks" in members:
+        if members["nr"] != number or not has_words(last):
             return True
         status, reply, _ = self._posted(last["path"], last["body"])
         return status == 200 and reply == last.get("reply", reply)
@@ -173,8 +188,7 @@ class Seat:
     def post(self, path: str, members: Mapping[str, Any], reason: str = "") -> dict[str, Any]:
         """Has a request done, once, and gives its reply. The same request goes on where it is under way. `reason`
         stands in the journal's line of it, and isn't sent."""
-        self._test_stop()
-        self.take_token()
+        self._make_ready()
         under_way = self._state.under_way
         if not under_way:
             self._begin(path, members, reason)
@@ -248,7 +262,7 @@ class Seat:
         its reply. Each that may be it is sent again: the server has the number as its last, so it gives the kept reply
         to that one, and refuses the others as 12. Below 11 a refusal says nothing of one. Any other is of a store in
         which the number isn't the last any more: the seat stops."""
-        for late in self._state.late:
+        for late in filter(has_words, self._state.late):
             status, reply, _ = self._posted(late["path"], late["body"])
             if status == 200:
                 return late, reply
@@ -274,20 +288,38 @@ class Seat:
     @_in_turn
     def finish(self) -> Optional[LastRequest]:
         """Sends what is under way again, as it was, and gives the last request that was accepted, if there is one."""
-        self._test_stop()
-        self.take_token()
+        self._make_ready()
         if self._state.under_way:
             self._complete(is_repeat=True)
         last = self._state.last
         return LastRequest(last["path"], members_of(last), last["reply"]) if last else None
 
-    @_in_turn
-    def expected_number(self) -> int:
-        """The number that the server expects of the seat. Nothing is changed."""
+    def _make_ready(self) -> None:
+        """Whether a request may be sent. One whose words went with an earlier process is under way no more: the number
+        says whether it was done, and where that is a third one the seat stops."""
+        self._test_stop()
+        self.take_token()
+        own, asked = self._state.next, self._state.under_way
+        if not own or not asked or has_words(asked):
+            return
+        refused = self._number_refused()
+        number = refused.more["expected"]
+        if number not in (own, own + 1):
+            self._refuse(refused, is_repeat=True)
+        self._go_on_with(number)
+        self._tell(_told_of_no_words(asked, own, number > own))
+
+    def _number_refused(self) -> Refused:
+        """The refusal that has the number which the server expects. Nothing is changed."""
         refused = Refused(*self._posted("/v1/ship", json.dumps({"nr": FAR, "chip": 12 * "0"}))[:2])
         if refused.no != WRONG_NUMBER or "expected" not in refused.more:
             raise refused
-        expected: int = refused.more["expected"]
+        return refused
+
+    @_in_turn
+    def expected_number(self) -> int:
+        """The number that the server expects of the seat. Nothing is changed."""
+        expected: int = self._number_refused().more["expected"]
         return expected
 
     def operator(self) -> str:
@@ -309,7 +341,9 @@ class Seat:
         where a person knows why the seat was out of step. Whether that request was done, its device says. Where its own
         number is the expected one, a copy of it may still come. Where the server expects a number that was already
         accepted, the last request is forgotten too: the store is an older one. A new token is taken as it is."""
-        number = self.expected_number()
+        self._go_on_with(self.expected_number())
+
+    def _go_on_with(self, number: int) -> None:
         if self._journal:
             self._journal.resynchronized(number)
         own, asked = self._state.next, self._state.under_way
