@@ -57,7 +57,6 @@ def named_row(kind: str, key: str) -> str:
 
 
 CREATED = """
-PRAGMA journal_mode = OFF; PRAGMA synchronous = OFF; PRAGMA cache_size = -16384; BEGIN;
 CREATE TABLE row (kind TEXT, key TEXT, members TEXT, place INTEGER, PRIMARY KEY (kind, key)) WITHOUT ROWID
 """
 
@@ -76,14 +75,20 @@ GIVEN_ROWS = " UNION ALL ".join(
 )
 
 
+def base_of(created: str) -> sqlite3.Connection:
+    """A base with these tables in a file of SQLite's own, in /var/tmp, which ends with it: it may be larger than the
+    memory."""
+    base = sqlite3.connect("", isolation_level=None)
+    base.text_factory = lambda data: data.decode("utf-8", "surrogatepass")
+    base.executescript(f"PRAGMA journal_mode = OFF; PRAGMA synchronous = OFF; PRAGMA cache_size = -16384; BEGIN; {created}")
+    return base
+
+
 class Text:
-    """The rows of a text by their kinds and keys, and which lines are no rows. Rows are in a file of SQLite's own, which
-    is in /var/tmp and ends with this: a text may be larger than the memory."""
+    """The rows of a text by their kinds and keys, on the disk, and which lines are no rows."""
 
     def __init__(self) -> None:
-        self._base = sqlite3.connect("", isolation_level=None)
-        self._base.text_factory = lambda data: data.decode("utf-8", "surrogatepass")
-        self._base.executescript(CREATED)
+        self._base = base_of(CREATED)
         self.bad: list[str] = []
 
     @classmethod

@@ -287,7 +287,7 @@ def _test_rows(chain: Chain, seals: list[Seal], made: Tested) -> None:
     last = ""
     for seal in seals:
         most = min(MOST_ROWS, LONGEST_ROW * (seal.rows + 1))
-        files = [RowsFile(it, most) for it in _row_files(chain, seal) if it.exists()]
+        files = [RowsFile(it, most) for it in row_files(chain, seal) if it.exists()]
         if not files:
             made.missing.append(seal.number)
             continue
@@ -318,6 +318,6 @@ def _line_faults(seal: Seal, count: int, text: Text) -> Iterator[str]:
         yield f"there are rows of {', '.join(sorted(others))}, and the seal is of {seal.whose}"
 
 
-def _row_files(chain: Chain, seal: Seal) -> list[Path]:
+def row_files(chain: Chain, seal: Seal) -> list[Path]:
     file = chain.rows_file(seal.number)
     return [file, beside(file, COMPRESSED)]
