@@ -96,7 +96,7 @@ def test_a_key_of_two_issuers(asked):
     assert (status, f"The key {KEY} stands twice" in text, "1 found" in text) == (1, True, True), text
 
 
-@pytest.mark.parametrize("word, status, told", [("bolt=acme", 1, "The chip c1 stands twice"), ("bolt", 2, "acme-2=acme")])
+@pytest.mark.parametrize("word, status, told", [("bolt=acme", 1, "The chip c1 stands twice"), ("bolt", 2, "Give it")])
 def test_a_chip_by_another_name(asked, word, status, told):
     """One customer is the other one by another name."""
     found, text = asked(FIRST, bolts(it.replace("c2", "c1") for it in SECOND), more=["--same", word])

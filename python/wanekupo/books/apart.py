@@ -26,7 +26,8 @@ CREATE TABLE span (first INTEGER, behind INTEGER, store INTEGER, kind TEXT, key 
 """
 
 # A record in front of an import, so that two records are seen.
-SORTED = "SELECT what, whose, value, mark, store, kind, key FROM given ORDER BY what, whose, value, kind DESC, store, key"
+SORTED = "SELECT * FROM given ORDER BY what, whose, value, kind DESC, store, key"
+SPANS = "SELECT * FROM span ORDER BY first, store, kind, key"
 
 # The addresses that there are, and the most bytes of a seal's line.
 ADDRESSES, LONGEST_LINE = 1 << 48, 4096
@@ -119,7 +120,7 @@ class Given:
                 if is_other or what != "key" and kind == other_kind != "import":
                     yield self._told(what, value, (store, kind, key), (place, other_kind, other))
         furthest = dict[tuple[int, str], tuple[int, str]]()
-        for first, behind, store, kind, key in self._base.execute("SELECT * FROM span ORDER BY first, store, kind, key"):
+        for first, behind, store, kind, key in self._base.execute(SPANS):
             for (place, its_kind), (end, its) in furthest.items():
                 if end > first and (place != store or its_kind == kind):
                     yield self._told("address", f"{first:012x}", (place, its_kind, its), (store, kind, key))

@@ -56,6 +56,8 @@ def named_row(kind: str, key: str) -> str:
     return NAMES[kind].format(*parts, last.lstrip("0") if kind in NUMBERED else last)
 
 
+# A base that is there for one run needs no journal, and 16 MB of its file are in memory.
+OF_BASE = "PRAGMA journal_mode = OFF; PRAGMA synchronous = OFF; PRAGMA cache_size = -16384; BEGIN;"
 CREATED = """
 CREATE TABLE row (kind TEXT, key TEXT, members TEXT, place INTEGER, PRIMARY KEY (kind, key)) WITHOUT ROWID
 """
@@ -65,14 +67,12 @@ BY_CHIP = """
 SELECT substr(key, 1, instr(key, ' ') - 1), json_extract(members, '$.chip'), members FROM row
 WHERE kind = 'record' AND json_extract(members, '$.chip') IS NOT NULL ORDER BY 1, 2, key
 """
-GIVEN_ROWS = " UNION ALL ".join(
-    f"SELECT '{name}' AS name, {whose} AS whose, json_extract(members, '$.{name}') AS value, place, kind, key FROM row {where}"
-    for name, whose, where in (
-        ("serial", "json_extract(members, '$.issuer')", "WHERE kind IN ('import', 'record')"),
-        ("key_sha256", "json_extract(members, '$.issuer')", "WHERE kind IN ('import', 'record')"),
-        ("mac", "''", "WHERE kind = 'record' AND value IS NOT NULL"),
-    )
-)
+GIVEN = "SELECT '{0}', {1}, json_extract(members, '$.{0}') AS value, place, kind, key FROM row WHERE {2}"
+ISSUER, OF_ISSUER = "json_extract(members, '$.issuer')", "kind IN ('import', 'record')"
+GIVEN_ROWS = " UNION ALL ".join((
+    GIVEN.format("serial", ISSUER, OF_ISSUER), GIVEN.format("key_sha256", ISSUER, OF_ISSUER),
+    GIVEN.format("mac", "''", "kind = 'record' AND value IS NOT NULL"),
+)) + " ORDER BY 1, 2, 3, 4"  # fmt: skip
 
 
 def base_of(created: str) -> sqlite3.Connection:
@@ -80,7 +80,7 @@ def base_of(created: str) -> sqlite3.Connection:
     memory."""
     base = sqlite3.connect("", isolation_level=None)
     base.text_factory = lambda data: data.decode("utf-8", "surrogatepass")
-    base.executescript(f"PRAGMA journal_mode = OFF; PRAGMA synchronous = OFF; PRAGMA cache_size = -16384; BEGIN; {created}")
+    base.executescript(f"{OF_BASE} {created}")
     return base
 
 
@@ -273,7 +273,7 @@ def _order_faults(
 
 def _twice(text: Text, orders: Mapping[tuple[str, ...], Members]) -> Iterator[RowDifference]:
     """Serial numbers and keys that an issuer gave twice, and addresses of two records or orders."""
-    for (name, _, value), rows in groupby(text.asked(f"{GIVEN_ROWS} ORDER BY 1, 2, 3, 4"), itemgetter(0, 1, 2)):
+    for (name, _, value), rows in groupby(text.asked(GIVEN_ROWS), itemgetter(0, 1, 2)):
         (*_, kind, key), *others = rows
         for *_, its, other in others:
             yield _difference(its, other, f"{name} {value} is also that of {named_row(kind, key)}")
