@@ -9,7 +9,7 @@ from __future__ import annotations
 
 from collections import defaultdict, deque
 from dataclasses import dataclass, replace
-from typing import Any, Container, Iterable, Iterator, Mapping, Optional, Sequence, Union
+from typing import Any, Callable, Container, Iterable, Iterator, Mapping, Optional, Sequence, Union
 
 from wanekupo.books.clocks import begin_of, end_of, is_behind
 from wanekupo.books.imports import IMPORT, ORDER, ImportTimes, imported_by
@@ -25,6 +25,9 @@ Lines = Mapping[int, list[Step]]
 
 # Numbers from the first one to the last one.
 Numbers = tuple[int, int]
+
+# The entries of a seat in the order in which they came, or without a name those of all seats.
+EntriesOf = Callable[[str], Iterable[LedgerRow]]
 
 # A chip with an event of it.
 ChipEvent = tuple[str, str]
@@ -58,6 +61,17 @@ class Done:
 
     def is_of_store(self) -> bool:
         return self.step.file == OF_STORE
+
+
+class Ahead:
+    """Entries, of which the first one is looked at before it is taken. No more are in memory."""
+
+    def __init__(self, entries: Iterable[LedgerRow]):
+        self._rest = iter(entries)
+        self.first = next(self._rest, None)
+
+    def popleft(self) -> None:
+        self.first = next(self._rest, None)
 
 
 class NextLines:
@@ -161,7 +175,7 @@ class Requests:
         chips = store.records("WHERE g.chip IS NOT NULL")
         self._to_come = {(row["issuer"], row["serial"]) for whose, row in chips if whose == customer}
         self._awaited = dict[int, list[Key]]()
-        self._own: dict[str, deque[LedgerRow]] = defaultdict(deque)
+        self._own = dict[str, Ahead]()
         self._next, self._order_of = dict[str, int](), dict[str, str]()
         self._waited: dict[int, Step] = {}
         self._fronts, self._heads = dict[str, NextLines](), dict[str, Optional[Done]]()
@@ -199,13 +213,12 @@ class Requests:
         is_loose = self.lacking and (self._is_loose or self.aside)
         return rows if is_loose else self._times.unsure(done.seat, done.step) if rows else 0
 
-    def in_order(self, entries: Sequence[LedgerRow]) -> Iterator[Union[Done, NotLaid]]:
-        """One after another, in an order in which they may have been done, and what isn't so. `entries` come in
+    def in_order(self, entries: EntriesOf) -> Iterator[Union[Done, NotLaid]]:
+        """One after another, in an order in which they may have been done, and what isn't so. Entries come in
         theirs."""
-        for it in entries:
-            self._own[it.row["seat"]].append(it)
-        waiting = deque(entries)
-        while waiting or any(self._queues.values()):
+        self._own = {seat: Ahead(entries(seat)) for seat in self._queues}
+        waiting = Ahead(entries(""))
+        while waiting.first or any(self._queues.values()):
             yield from self._lend_next()
             yield from self._next_done(waiting)
         for step in self._pending:
@@ -225,14 +238,15 @@ class Requests:
         yield done
         self._take(done)
 
-    def _next_done(self, waiting: deque[LedgerRow]) -> Iterator[Union[Done, NotLaid]]:
+    def _next_done(self, waiting: Ahead) -> Iterator[Union[Done, NotLaid]]:
         """What was done next, where the entries wait that aren't laid yet."""
-        entry = waiting[0] if waiting else None
+        entry = waiting.first
         if entry and entry.chip in self.aside:
-            yield from self._given_by(waiting.popleft())
+            waiting.popleft()
+            yield from self._given_by(entry)
             return
         heads = self._next_heads()
-        free = sorted((it for it in heads if it.entry is None or it.entry is entry), key=lambda it: it.step.at)
+        free = sorted((it for it in heads if it.entry is None or it.entry == entry), key=lambda it: it.step.at)
         if not free:
             yield from self._unlaid(entry) if entry or any(self._queues.values()) else ()
             return
@@ -268,8 +282,8 @@ class Requests:
         """Which of the lines of a seat's next number was done: the one that its next entry is of, else one without an
         entry. What is of chips that are left aside is passed over."""
         own = self._own[seat]
-        while (lines := self._front(seat)) or own:
-            entry = own[0] if own else None
+        while (lines := self._front(seat)) or own.first:
+            entry = own.first
             step = lines.steps.get((entry.chip, entry.row["event"])) if entry and lines else None
             paper = lines.paper if lines else None
             if entry and entry.chip in self.aside and (step or not paper):
