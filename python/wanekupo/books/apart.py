@@ -13,9 +13,10 @@ from pathlib import Path
 from typing import Any, Iterator, Mapping
 
 from wanekupo.books.chain import NONE, Chain, Seal, seal_of
-from wanekupo.books.compare import base_of, named_row
+from wanekupo.books.compare import named_row
 from wanekupo.books.folder import MOST_ROWS, RowsFile, row_files
 from wanekupo.books.lines import BadRow, line_parts
+from wanekupo.books.scratch import base_of
 from wanekupo.common.errors import BadSettings
 from wanekupo.common.files import small_bytes
 from wanekupo.seat.forms import DIGEST

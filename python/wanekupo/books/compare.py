@@ -8,7 +8,6 @@ from __future__ import annotations
 
 import json
 import re
-import sqlite3
 from dataclasses import dataclass
 from itertools import chain, groupby
 from operator import itemgetter
@@ -16,6 +15,7 @@ from typing import Any, Iterable, Iterator, Mapping, Optional
 
 from wanekupo.books.coherence import Chip, by_chip, faults_of
 from wanekupo.books.lines import NUMBERED, BadRow, line_parts
+from wanekupo.books.scratch import base_of
 from wanekupo.seat.states import LATER
 
 Members = dict[str, Any]
@@ -56,8 +56,6 @@ def named_row(kind: str, key: str) -> str:
     return NAMES[kind].format(*parts, last.lstrip("0") if kind in NUMBERED else last)
 
 
-# A base that is there for one run needs no journal, and 16 MB of its file are in memory.
-OF_BASE = "PRAGMA journal_mode = OFF; PRAGMA synchronous = OFF; PRAGMA cache_size = -16384; BEGIN;"
 CREATED = """
 CREATE TABLE row (kind TEXT, key TEXT, members TEXT, place INTEGER, PRIMARY KEY (kind, key)) WITHOUT ROWID
 """
@@ -73,15 +71,6 @@ GIVEN_ROWS = " UNION ALL ".join((
     GIVEN.format("serial", ISSUER, OF_ISSUER), GIVEN.format("key_sha256", ISSUER, OF_ISSUER),
     GIVEN.format("mac", "''", "kind = 'record' AND value IS NOT NULL"),
 )) + " ORDER BY 1, 2, 3, 4"  # fmt: skip
-
-
-def base_of(created: str) -> sqlite3.Connection:
-    """A base with these tables in a file of SQLite's own, in /var/tmp, which ends with it: it may be larger than the
-    memory."""
-    base = sqlite3.connect("", isolation_level=None)
-    base.text_factory = lambda data: data.decode("utf-8", "surrogatepass")
-    base.executescript(f"{OF_BASE} {created}")
-    return base
 
 
 class Text:

@@ -15,6 +15,7 @@ from dataclasses import dataclass, field
 from pathlib import Path
 from typing import Any, Iterable, Iterator, Mapping, Optional, Union
 
+from wanekupo.books.scratch import Parts
 from wanekupo.common.errors import BadJournal, StationError
 from wanekupo.seat.forms import REPLIES, wrong_in
 from wanekupo.seat.journal import journals_of, named_members, request_digest, seat_named, whole_digest
@@ -77,19 +78,10 @@ def odd_members(path: str, reply: dict[str, Any]) -> str:
     return ", ".join(sorted(odd | (reply.keys() - forms.keys() if forms else set())))
 
 
-def _once(it: Any) -> Any:
-    """A member whose texts are in memory but once: those of most chips are alike."""
-    if isinstance(it, list):
-        return [_once(part) for part in it]
-    if isinstance(it, dict):
-        return {name: _once(part) for name, part in it.items()}
-    return sys.intern(it) if isinstance(it, str) else it
-
-
 def part_text(it: Any) -> str:
-    """A part of a reply as its text, which is in memory but once; of one that nests too deep that of no part."""
+    """A part of a reply as its text; of one that nests too deep that of no part."""
     try:
-        return sys.intern(compact_json(it, sort_keys=True))
+        return compact_json(it, sort_keys=True)
     except (ValueError, RecursionError):
         return "0"
 
@@ -119,13 +111,13 @@ class Step:
     line: int
     at: str
     path: str
-    asked: dict[str, Any]
+    asked: Mapping[str, Any]
     digest: str
     seat: str
     operator: str
     answered: str = ""
     status: Optional[int] = None
-    reply: dict[str, Any] = field(default_factory=dict)
+    reply: Mapping[str, Any] = field(default_factory=dict)
     reason: str = ""
     turn: int = 0
     is_lost: bool = False
@@ -133,14 +125,12 @@ class Step:
     is_either: bool = False
     since: str = ""
     odd: str = ""
+    number: int = field(init=False)
+    chip: str = field(init=False)
+    said: str = field(init=False, default="")
 
-    @property
-    def number(self) -> int:
-        return int(self.asked["nr"])
-
-    @property
-    def chip(self) -> str:
-        return str(self.asked.get("chip", ""))
+    def __post_init__(self) -> None:
+        self.number, self.chip = int(self.asked.get("nr", 0)), sys.intern(str(self.asked.get("chip", "")))
 
     @property
     def event(self) -> str:
@@ -150,26 +140,29 @@ class Step:
     @property
     def note(self) -> str:
         """The note that the ledger has of it."""
+        if not isinstance(self.reply, dict):
+            return self.said
         member = {"read": "outcome", "identified": "serial"}.get(self.event, "")
-        return str(self.reply.get(member, "")) if member else ""
+        return sys.intern(str(self.reply.get(member, ""))) if member else ""
 
     def digest_of_text(self) -> str:
         """The digest of the map that this imports."""
         return hashlib.sha256(str(self.asked.get("text", "")).encode("utf-8", "replace")).hexdigest()
 
-    def slim(self) -> None:
-        """Leaves away what nobody asks for: journals are long. What is left is a text or a number, or short: whoever
-        writes a journal may nest anything, which takes many times its bytes."""
+    def slim(self, parts: Parts) -> None:
+        """Leaves away what nobody asks for, and brings the rest to the disk: journals are long. What is left is a text
+        or a number, or short: whoever writes a journal may nest anything, which takes many times its bytes."""
         is_whole = self.path in PATHS and self.event in ("", "identified")
-        asked = self.asked.keys() if is_whole else ASKED
-        self.asked = {name: _once(it) for name, it in self.asked.items() if name in asked}
-        if "wishes" in self.asked:
-            self.asked["wishes"] = part_text(self.asked["wishes"])
-        if "blocks" in self.asked:
-            self.asked["blocks"] = self.asked["blocks"][:MOST_BLOCKS]
+        asked = {name: it for name, it in self.asked.items() if is_whole or name in ASKED}
+        if "wishes" in asked:
+            asked["wishes"] = part_text(asked["wishes"])
+        if "blocks" in asked:
+            asked["blocks"] = asked["blocks"][:MOST_BLOCKS]
         works = {name: part_text(self.reply[name]) for name in WORKS & self.reply.keys()}
         names = REPLIED | REPLIES[self.path].keys() if is_whole else REPLIED
-        self.reply = {**{name: _once(it) for name, it in self.reply.items() if name in names}, **works}
+        reply = {**{name: it for name, it in self.reply.items() if name in names}, **works}
+        self.said = self.note
+        self.asked, self.reply = parts.kept(asked), parts.kept(reply)
 
     def is_done(self) -> bool:
         return self.status == 200
@@ -260,7 +253,7 @@ def _answered(last: Optional[Step], line: Members) -> str:
     return f"accepts {last.path}, which the server doesn't have" if last.is_done() and last.path not in PATHS else ""
 
 
-def _take(book: Book, file: str, number: int, line: Members) -> None:
+def _take(book: Book, file: str, number: int, line: Members, parts: Parts) -> None:
     """Adds a line to a journal's requests."""
     _tested_clock(book, file, number, line["at"])
     book.times.append(line["at"])
@@ -280,7 +273,7 @@ def _take(book: Book, file: str, number: int, line: Members) -> None:
         is_again = is_again and all(it.behind < len(book.steps) for it in book.resynchronized[-1:])
         if not is_again:
             if last:
-                last.slim()
+                last.slim(parts)
             names = sys.intern(seat or book.seat), sys.intern(line.get("operator", ""))
             step = Step(file, number, line["at"], sys.intern(line["path"]), asked, digest, *names)
             step.reason = line.get("reason", "")
@@ -311,9 +304,10 @@ def _others(line: Members, file: Path, seats: Optional[frozenset[str]]) -> str:
 
 @dataclass
 class Room:
-    """How much memory journals may still take: all of them are there at once."""
+    """How much memory journals may still take, and where their members are: all of them are there at once."""
 
     bytes: int = MEMORY
+    parts: Parts = field(default_factory=Parts)
 
     def take(self, path: Path, weight: int) -> None:
         self.bytes -= weight + OF_LINE
@@ -347,7 +341,7 @@ def book_of(files: Iterable[Path], seats: Optional[frozenset[str]] = None, room:
                 told.add((path, fault))
             else:
                 last = line.members["at"]
-                _take(book, str(path), line.number, line.members)
+                _take(book, str(path), line.number, line.members, room.parts)
             if len(book.faults) > MOST_FAULTS:
                 raise BadJournal(f"{path} has more than {MOST_FAULTS} faults", "Look whether it is a journal.")
     return book
@@ -366,7 +360,7 @@ def shipped_books(path: Path, folders: Folders, memory: int = MEMORY) -> list[Bo
     found, room = dict[Path, list[Book]](), Room(memory)
     its = sorted(stations_folders(path, folders), key=_size_of)
     for place, it in enumerate(its):
-        own, found[it] = Room(room.bytes // (len(its) - place)), []
+        own, found[it] = Room(room.bytes // (len(its) - place), room.parts), []
         room.bytes -= own.bytes
         try:
             groups = journals_of(journals_below(it, ENDINGS), is_shipped=True)
