@@ -10,13 +10,13 @@ import difflib
 from collections import Counter, defaultdict, deque
 from dataclasses import dataclass, field
 from itertools import takewhile
-from typing import Iterable, Optional, Sequence
+from typing import Iterable, Iterator, Optional, Sequence
 
+from wanekupo.books.coherence import Chip
+from wanekupo.books.scratch import base_of
 from wanekupo.books.steps import Book, Step
 from wanekupo.books.store_rows import Books, LedgerRow
 
-# A chip of a customer.
-Chip = tuple[str, str]
 NAMED, BY_DIGEST, BY_CHIPS, UNKNOWN = "by its name", "by its last request", "by its chips", "not known"
 
 # How many pairs of an entry and a line of one chip and seat are compared: a station may have read a chip for ever.
@@ -74,16 +74,15 @@ class Matched:
     steps: list[Told] = field(default_factory=list)
 
 
-def steps_by_chip(journals: Iterable[Seated]) -> dict[Chip, list[Told]]:
-    """The lines of steps by the chips that they are of, those of a seat in the order of its numbers."""
-    found: dict[Chip, list[Told]] = defaultdict(list)
-    for it in journals:
-        for step in it.book.steps:
-            if step.event:
-                found[it.customer, step.chip].append((it, step))
-    for lines in found.values():
-        lines.sort(key=lambda told: (told[1].turn, told[1].number))
-    return found
+def steps_by_chip(journals: Sequence[Seated]) -> Iterator[tuple[Chip, Told]]:
+    """The lines of steps in the order of the chips that they are of, those of a seat in that of its numbers."""
+    base = base_of("CREATE TABLE told (customer, chip, turn INTEGER, number INTEGER, own INTEGER, place INTEGER)")
+    for own, it in enumerate(journals):
+        steps = (step for step in it.book.steps if step.event)
+        words = ((it.customer, step.chip, step.turn, step.number, own, step.place_of) for step in steps)
+        base.executemany("INSERT INTO told VALUES (?, ?, ?, ?, ?, ?)", words)
+    for customer, chip, _, _, own, place in base.execute("SELECT * FROM told ORDER BY 1, 2, 3, 4, 5, rowid"):
+        yield (customer, chip), (journals[own], journals[own].book.steps.at(place))
 
 
 def matched(entries: Iterable[LedgerRow], steps: Iterable[Told]) -> Matched:
@@ -168,7 +167,9 @@ def _lay_unanswered(
             rest.append(entry)
             continue
         step = own.popleft()
-        step.is_stored = step.is_stored or bool(kind)
+        if kind:
+            step.is_stored = True
+            step.save()
         laid.add(id(step))
         told = "a late copy of a request that was refused was accepted" if kind else ""
         found.pairs.append(Pair(entry, step, kind, told))

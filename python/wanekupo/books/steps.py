@@ -11,11 +11,13 @@ import hashlib
 import io
 import json
 import sys
-from dataclasses import dataclass, field
+from array import array
+from dataclasses import dataclass, field, fields
+from operator import attrgetter
 from pathlib import Path
-from typing import Any, Iterable, Iterator, Mapping, Optional, Union
+from typing import Any, Iterable, Iterator, Mapping, Optional, Sequence, Union
 
-from wanekupo.books.scratch import Parts
+from wanekupo.books.scratch import Values
 from wanekupo.common.errors import BadJournal, StationError
 from wanekupo.seat.forms import REPLIES, wrong_in
 from wanekupo.seat.journal import journals_of, named_members, request_digest, seat_named, whole_digest
@@ -111,13 +113,13 @@ class Step:
     line: int
     at: str
     path: str
-    asked: Mapping[str, Any]
+    asked: dict[str, Any]
     digest: str
     seat: str
     operator: str
     answered: str = ""
     status: Optional[int] = None
-    reply: Mapping[str, Any] = field(default_factory=dict)
+    reply: dict[str, Any] = field(default_factory=dict)
     reason: str = ""
     turn: int = 0
     is_lost: bool = False
@@ -125,12 +127,16 @@ class Step:
     is_either: bool = False
     since: str = ""
     odd: str = ""
-    number: int = field(init=False)
-    chip: str = field(init=False)
-    said: str = field(init=False, default="")
+    home: Optional[Steps] = field(init=False, default=None, compare=False, repr=False)
+    place_of: int = field(init=False, default=0, compare=False)
 
-    def __post_init__(self) -> None:
-        self.number, self.chip = int(self.asked.get("nr", 0)), sys.intern(str(self.asked.get("chip", "")))
+    @property
+    def number(self) -> int:
+        return int(self.asked["nr"])
+
+    @property
+    def chip(self) -> str:
+        return str(self.asked.get("chip", ""))
 
     @property
     def event(self) -> str:
@@ -140,18 +146,16 @@ class Step:
     @property
     def note(self) -> str:
         """The note that the ledger has of it."""
-        if not isinstance(self.reply, dict):
-            return self.said
         member = {"read": "outcome", "identified": "serial"}.get(self.event, "")
-        return sys.intern(str(self.reply.get(member, ""))) if member else ""
+        return str(self.reply.get(member, "")) if member else ""
 
     def digest_of_text(self) -> str:
         """The digest of the map that this imports."""
         return hashlib.sha256(str(self.asked.get("text", "")).encode("utf-8", "replace")).hexdigest()
 
-    def slim(self, parts: Parts) -> None:
-        """Leaves away what nobody asks for, and brings the rest to the disk: journals are long. What is left is a text
-        or a number, or short: whoever writes a journal may nest anything, which takes many times its bytes."""
+    def slim(self) -> None:
+        """Leaves away what nobody asks for: journals are long. What is left is a text or a number, or short: whoever
+        writes a journal may nest anything, which takes many times its bytes."""
         is_whole = self.path in PATHS and self.event in ("", "identified")
         asked = {name: it for name, it in self.asked.items() if is_whole or name in ASKED}
         if "wishes" in asked:
@@ -160,9 +164,12 @@ class Step:
             asked["blocks"] = asked["blocks"][:MOST_BLOCKS]
         works = {name: part_text(self.reply[name]) for name in WORKS & self.reply.keys()}
         names = REPLIED | REPLIES[self.path].keys() if is_whole else REPLIED
-        reply = {**{name: it for name, it in self.reply.items() if name in names}, **works}
-        self.said = self.note
-        self.asked, self.reply = parts.kept(asked), parts.kept(reply)
+        self.asked, self.reply = asked, {**{name: it for name, it in self.reply.items() if name in names}, **works}
+
+    def save(self) -> None:
+        """Brings what was changed to where it is kept."""
+        if self.home is not None:
+            self.home.save(self)
 
     def is_done(self) -> bool:
         return self.status == 200
@@ -173,6 +180,53 @@ class Step:
 
     def place(self) -> str:
         return f"line {self.line} of {self.file}" if self.line else self.file
+
+
+# What makes a request again, in the order of its words.
+MEMBERS = attrgetter(*(it.name for it in fields(Step) if it.init))
+
+
+class Steps(Sequence[Step]):
+    """The requests of a journal, on the disk but for the last one as long as it is read. Each look makes another object:
+    what is changed of one stays where it is saved."""
+
+    def __init__(self, values: Values):
+        self._values, self._places, self._last = values, array("q"), list[Step]()
+
+    def append(self, step: Step) -> None:
+        self.end()
+        self._last = [step]
+
+    def end(self) -> None:
+        self._places.extend(self._values.add(MEMBERS(it)) for it in self._last)
+        self._last = []
+
+    def __len__(self) -> int:
+        return len(self._places) + len(self._last)
+
+    def __getitem__(self, place: Any) -> Any:
+        if isinstance(place, slice):
+            return [self[it] for it in range(*place.indices(len(self)))]
+        if self._last and place in (-1, len(self._places)):
+            return self._last[0]
+        return self.at(self._places[place])
+
+    def at(self, place: int) -> Step:
+        """The request at a place of the disk."""
+        step = Step(*self._values.at(place))
+        step.home, step.place_of = self, place
+        return step
+
+    def save(self, step: Step) -> None:
+        self._values.put(step.place_of, MEMBERS(step))
+
+    def only(self, steps: Iterable[Step]) -> Steps:
+        """These alone, as they are now."""
+        found = Steps(self._values)
+        for it in steps:
+            self.save(it)
+            found._places.append(it.place_of)
+        return found
 
 
 @dataclass(frozen=True)
@@ -205,7 +259,7 @@ class Book:
     empty where no line has a name."""
 
     files: list[str]
-    steps: list[Step] = field(default_factory=list)
+    steps: Steps = field(default_factory=lambda: Steps(Values()))
     resynchronized: list[Resynchronized] = field(default_factory=list)
     faults: list[JournalFault] = field(default_factory=list)
     times: list[str] = field(default_factory=list)
@@ -253,7 +307,7 @@ def _answered(last: Optional[Step], line: Members) -> str:
     return f"accepts {last.path}, which the server doesn't have" if last.is_done() and last.path not in PATHS else ""
 
 
-def _take(book: Book, file: str, number: int, line: Members, parts: Parts) -> None:
+def _take(book: Book, file: str, number: int, line: Members) -> None:
     """Adds a line to a journal's requests."""
     _tested_clock(book, file, number, line["at"])
     book.times.append(line["at"])
@@ -273,7 +327,7 @@ def _take(book: Book, file: str, number: int, line: Members, parts: Parts) -> No
         is_again = is_again and all(it.behind < len(book.steps) for it in book.resynchronized[-1:])
         if not is_again:
             if last:
-                last.slim(parts)
+                last.slim()
             names = sys.intern(seat or book.seat), sys.intern(line.get("operator", ""))
             step = Step(file, number, line["at"], sys.intern(line["path"]), asked, digest, *names)
             step.reason = line.get("reason", "")
@@ -304,10 +358,10 @@ def _others(line: Members, file: Path, seats: Optional[frozenset[str]]) -> str:
 
 @dataclass
 class Room:
-    """How much memory journals may still take, and where their members are: all of them are there at once."""
+    """How much journals may still take, and where they are: all of them are there at once."""
 
     bytes: int = MEMORY
-    parts: Parts = field(default_factory=Parts)
+    values: Values = field(default_factory=Values)
 
     def take(self, path: Path, weight: int) -> None:
         self.bytes -= weight + OF_LINE
@@ -330,7 +384,7 @@ def book_of(files: Iterable[Path], seats: Optional[frozenset[str]] = None, room:
     """A journal of one seat, in the order of its files. Where it is known which seats it may be of a line of another
     one doesn't count, and the first one of a file is told."""
     paths, room = list(files), room or Room()
-    book, told = Book([str(it) for it in paths]), set[tuple[Path, str]]()
+    book, told = Book([str(it) for it in paths], Steps(room.values)), set[tuple[Path, str]]()
     for path in paths:
         last = ""
         for line in _lines_of(path, seats is None, room):
@@ -341,9 +395,10 @@ def book_of(files: Iterable[Path], seats: Optional[frozenset[str]] = None, room:
                 told.add((path, fault))
             else:
                 last = line.members["at"]
-                _take(book, str(path), line.number, line.members, room.parts)
+                _take(book, str(path), line.number, line.members)
             if len(book.faults) > MOST_FAULTS:
                 raise BadJournal(f"{path} has more than {MOST_FAULTS} faults", "Look whether it is a journal.")
+    book.steps.end()
     return book
 
 
@@ -360,7 +415,7 @@ def shipped_books(path: Path, folders: Folders, memory: int = MEMORY) -> list[Bo
     found, room = dict[Path, list[Book]](), Room(memory)
     its = sorted(stations_folders(path, folders), key=_size_of)
     for place, it in enumerate(its):
-        own, found[it] = Room(room.bytes // (len(its) - place), room.parts), []
+        own, found[it] = Room(room.bytes // (len(its) - place), room.values), []
         room.bytes -= own.bytes
         try:
             groups = journals_of(journals_below(it, ENDINGS), is_shipped=True)
