@@ -99,9 +99,12 @@ class Contradiction(NamedTuple):
 def clock_contradictions(pairs: Sequence[Timed]) -> Iterator[Contradiction]:
     """The lines whose times contradict the longest run of lines whose times don't fall along the ids. Pairs come in the
     order of their ids, and so do these."""
-    times = [(_digits(begin_of(step)), _digits(end_of(step))) for _, step in pairs]
-    run = longest_run([it for it, _ in times])
-    answered = _answered_behind(array("q", (it for _, it in times)), run)
+    begins, ends = array("q"), array("q")
+    for _, step in pairs:
+        begins.append(_digits(begin_of(step)))
+        ends.append(_digits(end_of(step)))
+    run = longest_run(begins)
+    answered = _answered_behind(ends, run)
     latest: int = -1
     for place, (_, step) in enumerate(pairs):
         behind = answered[place]
@@ -133,7 +136,7 @@ def _digits(at: str) -> int:
 
 def _answered_behind(ends: Sequence[int], run: bytearray) -> array[int]:
     """For each place the one of the run behind it that was answered first; -1 where there is none."""
-    found, first = array("q", [-1]) * len(ends), -1
+    found, first = array("i", [-1]) * len(ends), -1
     for place in reversed(range(len(ends))):
         found[place] = first
         if run[place] and (first < 0 or ends[place] < ends[first]):
@@ -143,13 +146,11 @@ def _answered_behind(ends: Sequence[int], run: bytearray) -> array[int]:
 
 def longest_run(times: Sequence[Any]) -> bytearray:
     """Which times are of a longest run that doesn't fall: 1 at their places."""
-    ends: list[Any] = []
-    places, before = array("q"), array("q")
+    places, before = array("i"), array("i")
     for place, at in enumerate(times):
-        length = bisect_right(ends, at)
+        length = bisect_right(places, at, key=times.__getitem__)
         before.append(places[length - 1] if length else -1)
-        ends[length : length + 1] = [at]
-        places[length : length + 1] = array("q", [place])
+        places[length : length + 1] = array("i", [place])
     run, place = bytearray(len(times)), places[-1] if places else -1
     while place >= 0:
         run[place] = 1

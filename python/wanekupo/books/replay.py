@@ -21,7 +21,7 @@ from wanekupo.books.audit import Audit, Found
 from wanekupo.books.bodies import Bodies, Keys
 from wanekupo.books.clocks import begin_of, end_of
 from wanekupo.books.imports import IMPORT, ORDER, imported_by
-from wanekupo.books.matches import seated
+from wanekupo.books.matches import lines_by_seat, seated
 from wanekupo.books.program import Program, Unanswered
 from wanekupo.books.sequence import MAP, Done, Lines, NotLaid, NotWhole, Requests
 from wanekupo.books.steps import PATHS, REPLIED, WORKS, Book, Step, loaded
@@ -50,11 +50,8 @@ UNKNOWN, TOO_LARGE = (404, '{"error":"unknown_path","no":7}'), (413, '{"error":"
 
 def ask_again(program: Path, books: Iterable[Book], store: Books, audit: Audit) -> None:
     """Has a program answer the lines of all journals, and holds it to the store. What was found stays where it ends."""
-    lines, count = defaultdict[str, dict[int, list[Step]]](lambda: defaultdict(list)), 0
-    for own, step in ((own, step) for own in (seated(it, store) for it in books) for step in own.book.steps):
-        count += 1
-        if not step.is_lost:
-            lines[own.seat][step.number].append(step)
+    journals = [seated(it, store) for it in books]
+    lines, count = lines_by_seat(journals), sum(len(it.book.steps) for it in journals)
     with tempfile.TemporaryDirectory(prefix="wanekupo-replay.") as folder:
         try:
             with Program(program, _site(store), Path(folder), LONGEST + FOR_A_LINE * count) as running:
