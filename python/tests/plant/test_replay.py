@@ -116,7 +116,7 @@ class Books:
         self.unread_maps = tuple
         self.orders = {("acme", it["name"]): it for it in orders}
 
-    def records(self, where):
+    def records(self, where, *_):
         return (("acme", {"issuer": it[0], "serial": it[1]}) for it in self.chips if "NOT NULL" in where)
 
     def entries_of(self, customer, seat):

@@ -133,12 +133,11 @@ def _laid(own: tuple[int, Read]) -> list[Laid]:
 
 
 class Since:
-    """What was accepted since a seat's turn began: the requests of each number, the greatest number of each journal,
-    and the greatest up to each time; and which numbers have a line without a reply."""
+    """What was accepted since a seat's turn began: the first request of each number, and which have another one, the
+    greatest number of each journal, and the greatest up to each time; and which numbers have a line without a reply."""
 
     def __init__(self) -> None:
-        self._digests: dict[int, set[str]] = defaultdict(set)
-        self._unanswered: set[int] = set()
+        self._digests, self._several, self._unanswered = dict[int, str](), set[int](), set[int]()
         self._of_journals: dict[int, int] = {}
         self._times: list[str] = []
         self._most: list[int] = []
@@ -147,7 +146,8 @@ class Since:
         if step.status is None:
             self._unanswered.add(step.number)
         if step.is_done():
-            self._digests[step.number].add(step.digest)
+            if self._digests.setdefault(step.number, step.digest) != step.digest:
+                self._several.add(step.number)
             self._of_journals[journal] = max(self._of_journals.get(journal, step.number), step.number)
             self._times.append(at)
             self._most.append(max([step.number, *self._most[-1:]]))
@@ -156,12 +156,12 @@ class Since:
         """Whether the store is an older one there: a line goes on with a number that its journal has, or that was given
         to another request. A number that no other line has was given there for the first time, whatever the clocks say;
         else these count, as far as clocks may differ."""
-        same = self._digests.get(turn.number, set())
-        if turn.digest and len(same) > (turn.digest in same):
+        same = self._digests.get(turn.number)
+        if turn.digest and (turn.number in self._several or same not in (None, turn.digest)):
             return True
         if turn.is_begin or self._of_journals.get(journal, turn.number - 1) >= turn.number:
             return not turn.is_begin
-        if turn.digest and not same and turn.number not in self._unanswered:
+        if turn.digest and same is None and turn.number not in self._unanswered:
             return False
         count = bisect_left(self._times, True, key=lambda it: not is_behind(at, it))
         return count > 0 and self._most[count - 1] >= turn.number

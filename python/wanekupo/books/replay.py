@@ -228,7 +228,8 @@ class Answers:
             "the imported serial number": self._given(plain),
         }
         for what, names in own.items():
-            for name in sorted(names - stored[what] - self._given("WHERE g.chip IS NOT NULL")):
+            missing = names - stored[what]
+            for name in sorted(missing - self._given("WHERE g.chip IS NOT NULL") if missing else ()):
                 yield self._fault(f"{what} {name} isn't in the store as it was asked for")
             for name in sorted(stored[what] - names) if what != "the order" or self._requests.lent else ():
                 yield self._fault(f"no line asked for {what} {name}, which the store has")

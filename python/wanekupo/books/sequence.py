@@ -17,6 +17,7 @@ from typing import (
 
 from wanekupo.books.clocks import begin_of, end_of, is_behind
 from wanekupo.books.imports import IMPORT, ORDER, ImportTimes, imported_by
+from wanekupo.books.scratch import Known
 from wanekupo.books.steps import Step
 from wanekupo.books.store_rows import Books, Key, LedgerRow, Row, StoredSeat, serial_of
 from wanekupo.common.errors import StationError
@@ -183,12 +184,10 @@ class Requests:
         self._queues = {it.name: Ahead(self._of_seat(it)) for it in seats}
         self._times = ImportTimes(asked)
         self._pools = [list(it) for it in store.pools.get(customer, ())]
-        self._made, self._given = set[str](), set[Key]()
-        chips = store.records("WHERE g.chip IS NOT NULL")
-        self._to_come = {(row["issuer"], row["serial"]) for whose, row in chips if whose == customer}
+        self._made, self._given = set[str](), Known()
         self._awaited = dict[Place, list[Key]]()
         self._own = dict[str, Ahead[LedgerRow]]()
-        self._next, self._order_of = dict[str, int](), dict[str, str]()
+        self._next, self._order_of = dict[str, int](), Known()
         self._waited: dict[Place, Step] = {}
         self._fronts, self._heads = dict[str, NextLines](), dict[str, Optional[Done]]()
         self.papers, self.repeated = list[Step](), list[Step]()
@@ -363,6 +362,11 @@ class Requests:
             rows = [(record["serial"], record["key_sha256"])]
             yield from self._lend(_of_store(IMPORT, issuer=record["issuer"], csv=csv_of(rows)))
 
+    def _is_to_come(self, name: Key) -> bool:
+        """Whether a chip has a serial number in the store."""
+        rows = self._store.records("WHERE g.chip IS NOT NULL AND g.issuer = ? AND g.serial = ?", *name)
+        return any((whose, row["issuer"], row["serial"]) == (self._customer, *name) for whose, row in rows)
+
     def _order(self, name: str) -> Optional[Row]:
         return self._store.orders.get((self._customer, name))
 
@@ -389,7 +393,7 @@ class Requests:
         if done.entry and step.event == "identified":
             return bool(self._next_of(self._order(self._order_of.get(step.chip, ""))) == done.entry.row["note"])
         if step.path == IMPORT:
-            awaited = self._awaited.setdefault(done.place(), [it for it in imported_by(step) if it in self._to_come])
+            awaited = self._awaited.setdefault(done.place(), list(filter(self._is_to_come, imported_by(step))))
             while awaited and awaited[-1] in self._given:
                 awaited.pop()
             return not awaited
@@ -401,7 +405,7 @@ class Requests:
 
     def _changes_nothing(self, step: Step) -> bool:
         """Whether a line asks for a map or an import that is there: the line of a step may have stood there."""
-        is_there = step.path == IMPORT and self._given.issuperset(imported_by(step))
+        is_there = step.path == IMPORT and all(it in self._given for it in imported_by(step))
         return is_there or step.path == MAP and step.digest_of_text() in self._made
 
     def _take(self, done: Done) -> None:
@@ -413,9 +417,11 @@ class Requests:
             self._order_of[step.chip] = str(step.asked.get("order"))
         elif done.entry and step.event == "identified":
             own = self._order(self._order_of.get(step.chip, ""))
-            self._given |= {(own["issuer"], done.entry.row["note"])} if own else set()
+            if own:
+                self._given[own["issuer"], done.entry.row["note"]] = True
         elif step.path == IMPORT:
-            self._given.update(imported_by(step))
+            for name in imported_by(step):
+                self._given[name] = True
         elif step.path == MAP:
             self._made.add(step.digest_of_text())
         elif order:

@@ -113,13 +113,13 @@ class Step:
     line: int
     at: str
     path: str
-    asked: dict[str, Any]
+    asked: Mapping[str, Any]
     digest: str
     seat: str
     operator: str
     answered: str = ""
     status: Optional[int] = None
-    reply: dict[str, Any] = field(default_factory=dict)
+    reply: Mapping[str, Any] = field(default_factory=dict)
     reason: str = ""
     turn: int = 0
     is_lost: bool = False
@@ -127,16 +127,15 @@ class Step:
     is_either: bool = False
     since: str = ""
     odd: str = ""
+    number: int = -1
+    chip: str = ""
+    said: str = ""
     home: Optional[Steps] = field(init=False, default=None, compare=False, repr=False)
     place_of: int = field(init=False, default=0, compare=False)
 
-    @property
-    def number(self) -> int:
-        return int(self.asked["nr"])
-
-    @property
-    def chip(self) -> str:
-        return str(self.asked.get("chip", ""))
+    def __post_init__(self) -> None:
+        if self.number < 0:
+            self.number, self.chip = int(self.asked["nr"]), str(self.asked.get("chip", ""))
 
     @property
     def event(self) -> str:
@@ -146,6 +145,8 @@ class Step:
     @property
     def note(self) -> str:
         """The note that the ledger has of it."""
+        if not isinstance(self.reply, dict):
+            return self.said
         member = {"read": "outcome", "identified": "serial"}.get(self.event, "")
         return str(self.reply.get(member, "")) if member else ""
 
@@ -182,8 +183,9 @@ class Step:
         return f"line {self.line} of {self.file}" if self.line else self.file
 
 
-# What makes a request again, in the order of its words.
-MEMBERS = attrgetter(*(it.name for it in fields(Step) if it.init))
+# What makes a request again, in the order of its words, but for its members.
+WORDS = [it.name for it in fields(Step) if it.init and it.name not in ("asked", "reply")]
+DATA = attrgetter(*WORDS)
 
 
 class Steps(Sequence[Step]):
@@ -191,14 +193,16 @@ class Steps(Sequence[Step]):
     what is changed of one stays where it is saved."""
 
     def __init__(self, values: Values):
-        self._values, self._places, self._last = values, array("q"), list[Step]()
+        self._values, self._places, self._last = values, array("i"), list[Step]()
 
     def append(self, step: Step) -> None:
         self.end()
         self._last = [step]
 
     def end(self) -> None:
-        self._places.extend(self._values.add(MEMBERS(it)) for it in self._last)
+        for it in self._last:
+            it.said = it.note
+            self._places.append(self._values.add(DATA(it), (it.asked, it.reply)))
         self._last = []
 
     def __len__(self) -> int:
@@ -213,12 +217,17 @@ class Steps(Sequence[Step]):
 
     def at(self, place: int) -> Step:
         """The request at a place of the disk."""
-        step = Step(*self._values.at(place))
+        asked, reply = self._values.members(place)
+        words = (sys.intern(it) if isinstance(it, str) else it for it in self._values.at(place))
+        step = Step(asked=asked, reply=reply, **dict(zip(WORDS, words)))
         step.home, step.place_of = self, place
         return step
 
     def save(self, step: Step) -> None:
-        self._values.put(step.place_of, MEMBERS(step))
+        step.said = step.note
+        self._values.put(step.place_of, "data", DATA(step))
+        if isinstance(step.reply, dict):
+            self._values.put(step.place_of, "members", (dict(step.asked), step.reply))
 
     def only(self, steps: Iterable[Step]) -> Steps:
         """These alone, as they are now."""
@@ -256,7 +265,7 @@ class JournalFault:
 @dataclass
 class Book:
     """A seat's journal: its files, its requests in their order, what is wrong with it, and who it is of. `seat` is
-    empty where no line has a name."""
+    empty where no line has a name. Of its times there are the first one, the least, the greatest and the last."""
 
     files: list[str]
     steps: Steps = field(default_factory=lambda: Steps(Values()))
@@ -310,7 +319,7 @@ def _answered(last: Optional[Step], line: Members) -> str:
 def _take(book: Book, file: str, number: int, line: Members) -> None:
     """Adds a line to a journal's requests."""
     _tested_clock(book, file, number, line["at"])
-    book.times.append(line["at"])
+    book.times = [*book.times[:1], min([*book.times, line["at"]]), max([*book.times, line["at"]]), line["at"]]
     seat = line.get("seat", "")
     if seat and book.seat and seat != book.seat:
         book.faults.append(JournalFault(file, number, line["at"], f"is of the seat {seat}, among lines of {book.seat}"))

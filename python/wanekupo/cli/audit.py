@@ -77,7 +77,7 @@ def _nothing_of(period: Period, journals: Iterable[Book]) -> tuple[str, str]:
 def _behind(store: Books, journals: Iterable[Book], period: Period) -> str:
     """A sentence where lines have numbers behind the last one that the store knows of their seat, or nothing."""
     own = [it for it in (seated(book, store) for book in journals) if it.seat in store.seats]
-    steps = [(it.at, it.number > store.seats[made.seat].last) for made in own for it in made.book.steps]
+    steps = ((it.at, it.number > store.seats[made.seat].last) for made in own for it in made.book.steps)
     late = sorted(at for at, is_late in steps if is_late and period.has(at))
     if not late:
         return ""
