@@ -275,7 +275,8 @@ class Turns(SeatCase):
         back = done("07:09:40", 3, "c", "/v1/scrap")
         for books in ([one, two, back], [back, two, one], [[*one, *back], two]):
             _, journals = self.spans(books, self.store(3, "c", "/v1/scrap"))
-            self.assertEqual([it.number for chip, (_, it) in steps_by_chip(journals) if chip == ("acme", "c")], [1, 2, 3])
+            own = [it.number for chip, (_, it) in steps_by_chip(journals) if chip == ("acme", "c")]
+            self.assertEqual(own, [1, 2, 3])
 
     def test_replies(self):
         """A request without a reply holds a place: one at the end, or one behind which a person had the seat go on.

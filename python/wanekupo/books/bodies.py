@@ -44,7 +44,7 @@ class Keys:
 
     def told(self, text: str) -> str:
         """A text of the program's, with the digests that are really meant."""
-        return DIGEST.sub(lambda it: self._digests.get(it[0], it[0]), text)
+        return DIGEST.sub(lambda it: str(self._digests.get(it[0], it[0])), text)
 
 
 class Bodies:

@@ -109,12 +109,13 @@ class Text:
 
     def kind(self, kind: str) -> Iterator[tuple[str, str]]:
         """The rows of a kind, each with its key, in the order of these."""
-        return self.asked("SELECT key, members FROM row WHERE kind = ? ORDER BY key", kind)
+        rows = self.asked("SELECT key, members FROM row WHERE kind = ? ORDER BY key", kind)
+        return ((key, members) for key, members in rows)
 
     def entries(self, chip: str) -> int:
         """How many entries a chip has, which is named behind its customer."""
         sql = "SELECT count(*) FROM row WHERE kind = 'entry' AND key > ? AND key < ?"
-        return next(it for (it,) in self.asked(sql, f"{chip} ", f"{chip}!"))
+        return next(int(it) for (it,) in self.asked(sql, f"{chip} ", f"{chip}!"))
 
     def is_empty(self) -> bool:
         return not any(self.asked("SELECT 1 FROM row LIMIT 1"))

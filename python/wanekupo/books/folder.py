@@ -13,7 +13,7 @@ import zlib
 from collections import deque
 from dataclasses import dataclass, field
 from pathlib import Path
-from typing import IO, Iterator, Optional
+from typing import IO, Any, Iterator, Optional
 
 from wanekupo.books.chain import ASIDE, PLANT, BadChain, Chain, Seal
 from wanekupo.books.compare import Text, contradictions, differences
@@ -83,7 +83,7 @@ class RowsFile:
         with open(opened_plain(self.file, os.O_RDONLY, follows_links=True), "rb") as plain:
             is_packed = plain.read(len(GZIP)) == GZIP
             plain.seek(0)
-            source = gzip.GzipFile(fileobj=plain) if is_packed else plain
+            source: Any = gzip.GzipFile(fileobj=plain) if is_packed else plain
             try:
                 yield from self._lines(source)
             except (OSError, EOFError, zlib.error):

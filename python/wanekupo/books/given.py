@@ -41,6 +41,9 @@ CREATE TABLE given (name INTEGER, whose TEXT, value TEXT, own INTEGER, place INT
 CREATE TABLE span (start INTEGER, behind INTEGER, own INTEGER, place INTEGER)
 """
 NAMES = ("serial", "key_sha256", "mac")
+
+# The addresses that there are.
+ADDRESSES = 1 << 48
 GIVEN = "SELECT name, whose, value, own, place, part FROM given ORDER BY 1, 2, 3, rowid"
 
 
@@ -51,15 +54,15 @@ def given_twice(journals: list[Seated]) -> Iterator[Row]:
     for number, it in enumerate(journals):
         for step in (step for step in it.book.steps if step.turn <= 0):
             for part, (issuer, own, mac) in enumerate(_given_by(step)):
-                named = (issuer, own.serial), (issuer, own.key), ("", mac)
-                words = [(name, *its, number, step.place_of, part) for name, its in enumerate(named)]
-                base.executemany("INSERT INTO given VALUES (?, ?, ?, ?, ?, ?)", words if mac != "None" else words[:2])
+                named = enumerate(((issuer, own.serial), (issuer, own.key), ("", mac)))
+                words = [(name, *its, number, step.place_of, part) for name, its in named if its[1] != "None"]
+                base.executemany("INSERT INTO given VALUES (?, ?, ?, ?, ?, ?)", words)
     for (name, _, value), rows in groupby(base.execute(GIVEN), itemgetter(0, 1, 2)):
-        (*_, own, place, part), *others = rows
-        first = _part_of(journals[own].book.steps.at(place), part) if others else None
-        for *_, its_own, its_place, its_part in others:
-            it, step = journals[its_own], journals[its_own].book.steps.at(its_place)
-            if first and value != "None" and _part_of(step, its_part).differs_from(first):
+        (*_, number, place, part), *others = rows
+        first = _part_of(journals[number].book.steps.at(place), part) if others else None
+        for *_, number, place, part in others:
+            it, step = journals[number], journals[number].book.steps.at(place)
+            if first and _part_of(step, part).differs_from(first):
                 told = f"the {NAMES[name]} {value} was given twice: also {first.told()}"
                 yield "twice", step.at, it.customer, it.seat, step.chip, f"{told} ({step.place()})"
     yield from _addresses_twice(journals, base)
@@ -95,11 +98,12 @@ def _addresses_twice(journals: Sequence[Seated], base: sqlite3.Connection) -> It
                     start = int(step.reply["mac"], 16)
                     count = macs.get((it.customer, orders.get((it.customer, step.chip), "")), 1)
                     words = start, start + max(1, count), number, step.place_of
-                    base.execute("INSERT INTO span VALUES (?, ?, ?, ?)", words)
+                    if start < ADDRESSES:
+                        base.execute("INSERT INTO span VALUES (?, ?, ?, ?)", words)
     end, before = 0, ""
     for start, behind, number, place in base.execute("SELECT * FROM span ORDER BY start, behind, rowid"):
         it, step = journals[number], journals[number].book.steps.at(place)
         if start < end and step.chip != before:
             told = f"the address {start:012x} was given twice: it is also one of the chip {before} ({step.place()})"
             yield "twice", step.at, it.customer, it.seat, step.chip, told
-        end, before = max((end, before), (behind, step.chip), key=lambda it: it[0])
+        end, before = (behind, step.chip) if behind > end else (end, before)

@@ -10,7 +10,7 @@ from __future__ import annotations
 import hashlib
 import json
 import tempfile
-from collections import Counter, defaultdict
+from collections import Counter
 from functools import partial
 from itertools import chain
 from pathlib import Path

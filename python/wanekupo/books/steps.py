@@ -71,7 +71,7 @@ MOST_BLOCKS = 64
 WORKS = frozenset(("bits", "keys", "batch1", "batch2", "rest"))
 
 
-def odd_members(path: str, reply: dict[str, Any]) -> str:
+def odd_members(path: str, reply: Mapping[str, Any]) -> str:
     """The names of the members that the reply to an accepted request lacks, has in another form, or has beside those of
     docs/integrate/api.md."""
     forms = REPLIES[path] if path in PATHS else {}
@@ -189,8 +189,8 @@ DATA = attrgetter(*WORDS)
 
 
 class Steps(Sequence[Step]):
-    """The requests of a journal, on the disk but for the last one as long as it is read. Each look makes another object:
-    what is changed of one stays where it is saved."""
+    """The requests of a journal, on the disk but for the last one as long as it is read. Each look makes another
+    object: what is changed of one stays where it is saved."""
 
     def __init__(self, values: Values):
         self._values, self._places, self._last = values, array("i"), list[Step]()
