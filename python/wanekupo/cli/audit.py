@@ -47,7 +47,7 @@ def _add_arguments(parser: argparse.ArgumentParser) -> None:
     parser.add_argument("--json", action="store_true", help=said)
     told = "the proved program that answers the lines once more, by its path where PATH doesn't have it (%(default)s)"
     parser.add_argument("--program", default="station", metavar="P", help=told)
-    said = "how many GB the journals may be, with 0.7 KB more for each line (%(default)s); those of a seat are in memory"
+    said = "how many GB the journals may be, with 0.7 KB more for each line (%(default)s); a seat's are in memory"
     parser.add_argument("--memory", type=int, default=MEMORY >> 30, metavar="GB", help=said)
     add_signer(parser)
 
