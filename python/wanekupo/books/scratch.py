@@ -41,9 +41,9 @@ class Values:
     def at(self, place: int) -> Any:
         return self._loaded(place, "data")
 
-    def members(self, place: int) -> tuple[Mapping[str, Any], ...]:
-        """Each of the members at a place."""
-        return tuple(Part(self._members, place, which) for which in (0, 1))
+    def members(self, place: int) -> tuple[Mapping[str, Any], Mapping[str, Any]]:
+        """Both of the members at a place."""
+        return Part(self._members, place, 0), Part(self._members, place, 1)
 
     def _members_at(self, place: int) -> Any:
         return self._loaded(place, "members")

@@ -10,11 +10,11 @@ import contextlib
 import hashlib
 import io
 import json
-import sys
 from array import array
 from dataclasses import dataclass, field, fields
 from operator import attrgetter
 from pathlib import Path
+from sys import intern
 from typing import Any, Iterable, Iterator, Mapping, Optional, Sequence, Union
 
 from wanekupo.books.scratch import Values
@@ -217,9 +217,10 @@ class Steps(Sequence[Step]):
 
     def at(self, place: int) -> Step:
         """The request at a place of the disk."""
-        asked, reply = self._values.members(place)
-        words = (sys.intern(it) if isinstance(it, str) else it for it in self._values.at(place))
-        step = Step(asked=asked, reply=reply, **dict(zip(WORDS, words)))
+        (asked, reply), its = self._values.members(place), self._values.at(place)
+        file, line, at, path, digest, seat, operator, answered, status, *rest = its
+        head = intern(file), line, at, intern(path), asked, digest, intern(seat), intern(operator), answered, status
+        step = Step(*head, reply, *rest)
         step.home, step.place_of = self, place
         return step
 
@@ -337,8 +338,8 @@ def _take(book: Book, file: str, number: int, line: Members) -> None:
         if not is_again:
             if last:
                 last.slim()
-            names = sys.intern(seat or book.seat), sys.intern(line.get("operator", ""))
-            step = Step(file, number, line["at"], sys.intern(line["path"]), asked, digest, *names)
+            names = intern(seat or book.seat), intern(line.get("operator", ""))
+            step = Step(file, number, line["at"], intern(line["path"]), asked, digest, *names)
             step.reason = line.get("reason", "")
             book.steps.append(step)
             if step.number < 1:
