@@ -18,6 +18,7 @@ import pytest
 from simulated_chip import SimulatedChip
 from support import DIGEST, MAP, Held
 
+from common.commands import command
 from common.deployed import expect, ran
 from common.needs import ROOT
 from common.ports import HOST
@@ -213,6 +214,14 @@ def backup_failed(plant, line):
     backup(plant, ago(hours=1), "true")
 
 
+def stores_are_not_apart(plant, line):
+    file = plant.text_folder / "apart.prom"
+    done = ran([*command("wanekupo"), "apart", plant.small / "none", "--to", file])
+    expect("no seals are there", done.returncode, 2)
+    yield
+    file.unlink()
+
+
 def certificate_ends(plant, line):
     plant.certify("20")
     yield
@@ -240,6 +249,7 @@ CASES = [
     ("DiskIsNearlyFull", disk_is_nearly_full, ()),
     ("BackupIsOld", backup_is_old, ()),
     ("BackupFailed", backup_failed, ()),
+    ("StoresAreNotApart", stores_are_not_apart, ()),
     ("CertificateEnds", certificate_ends, ()),
     ("MetricsAreMissing", metrics_are_missing, ()),
 ]

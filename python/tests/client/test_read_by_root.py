@@ -8,6 +8,7 @@ import hashlib
 import json
 import os
 import tempfile
+import tracemalloc
 import unittest
 from email.message import Message
 from pathlib import Path
@@ -80,12 +81,11 @@ class Seals(Folder):
         bomb = gzip.compress(bytes(64 << 20))
         self.seal(bytes(64 << 20), 1)
         (self.folder / "000001.rows.gz").write_bytes(bomb)
-        read = []
-        plain = folder._text_of
-        with mock.patch.object(folder, "_text_of", lambda data, *more: read.append(len(data)) or plain(data, *more)):
-            (told,) = [it for it in self.found() if "rows.gz" in it]
+        tracemalloc.start()
+        self.addCleanup(tracemalloc.stop)
+        (told,) = [it for it in self.found() if "rows.gz" in it]
+        self.assertLess(tracemalloc.get_traced_memory()[1], 8 << 20)
         self.assertIn(f"has more than {2 * folder.LONGEST_ROW} bytes, and its seal is of 1 row.", told)
-        self.assertEqual(read, [])
         with mock.patch.object(folder, "MOST_ROWS", 1 << 20), self.assertRaisesRegex(StationError, "more than 1 MB"):
             folder.sealed_text(self.folder / "000001.rows.gz")
 

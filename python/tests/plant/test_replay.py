@@ -116,8 +116,11 @@ class Books:
         self.unread_maps = tuple
         self.orders = {("acme", it["name"]): it for it in orders}
 
-    def records(self, where):
+    def records(self, where, *_):
         return (("acme", {"issuer": it[0], "serial": it[1]}) for it in self.chips if "NOT NULL" in where)
+
+    def entries_of(self, customer, seat):
+        return []
 
 
 def line(number, at, path, reply=None, status=200, **asked):
@@ -134,9 +137,13 @@ def entry(number, seat, chip, event, note=""):
     return LedgerRow(number, "acme", chip, row)
 
 
+def by_seat(entries):
+    return lambda seat="": [it for it in entries if seat in ("", it.row["seat"])]
+
+
 def laid(requests, entries=()):
     """What is in order, and the words of what isn't."""
-    found = list(requests.in_order(entries))
+    found = list(requests.in_order(by_seat(entries)))
     return [it for it in found if isinstance(it, Done)], [str(it) for it in found if isinstance(it, NotLaid)]
 
 
@@ -171,7 +178,7 @@ def test_what_a_device_rests_on():
     }
     entries = [entry(1, "a1", "c", "registered"), entry(2, "a1", "c", "identified", "S002")]
     assert in_order(store, journals, entries) == [("a2", 1), ("a2", 2), ("a1", 1), ("a2", 3), ("a1", 2)]
-    told = {(it.seat, it.step.number): it.later for it in Requests("acme", store, journals).in_order(entries)}
+    told = {(it.seat, it.step.number): it.later for it in Requests("acme", store, journals).in_order(by_seat(entries))}
     assert [place for place, later in told.items() if later] == [("a1", 1), ("a1", 2)], "clocks that can't be"
     assert (told["a1", 1], told["a1", 2]) == (journals["a2"][1][0], journals["a2"][3][0])
 
@@ -183,7 +190,7 @@ def test_what_was_asked_again():
     steps += [line(3, "06:02", "map", text="x"), line(4, "06:03", "import", issuer="ca", csv="".join(csv))]
     steps.append(line(5, "06:04", "import", issuer="ca", csv="".join(csv[:2])))
     requests = Requests("acme", Books({"a1": 5}), {"a1": lines(*steps)})
-    assert [it.number for it in requests.papers] == [] and len(list(requests.in_order([]))) == 5
+    assert [it.number for it in requests.papers] == [] and len(list(requests.in_order(by_seat([])))) == 5
     assert [it.number for it in requests.repeated] == [3, 5]
 
 
@@ -265,7 +272,7 @@ def test_of_lines_without_a_reply_the_later_one():
     """A station that drops a request asks for its number, which is the same where nothing was done."""
     two = [line(1, f"06:0{it}", "ship", status=None, chip=it) for it in "12"]
     store, entries = Books({"a1": 1}), [entry(1, "a1", "2", "shipped")]
-    (done,) = Requests("acme", store, {"a1": {1: two}}).in_order(entries)
+    (done,) = Requests("acme", store, {"a1": {1: two}}).in_order(by_seat(entries))
     assert done.step is two[1]
 
 
@@ -280,7 +287,7 @@ def test_of_lines_of_a_number_the_one_of_the_next_entry(first):
     """Another seat's step between them doesn't have the first one done."""
     lost, other = line(1, "06:01", "ship", status=None, chip="c"), line(1, "06:02", "ship", chip="d")
     store, entries = Books({"a1": 1, "a2": 1}), [entry(1, "a2", "d", "shipped"), entry(2, "a1", "c", "shipped")]
-    done = list(Requests("acme", store, {"a1": {1: [first, lost]}, "a2": lines(other)}).in_order(entries))
+    done = list(Requests("acme", store, {"a1": {1: [first, lost]}, "a2": lines(other)}).in_order(by_seat(entries)))
     assert [it.step for it in done] == [other, lost]
 
 
@@ -412,7 +419,8 @@ def test_what_comes_behind_a_refusal():
     steps, entries = lives("c", "d")
     store, program = Books({"a1": len(steps)}, [OF_S], [("ca", "S001"), ("ca", "S002")], ["map"]), Refusing()
     answers = Answers("acme", store, Requests("acme", store, {"a1": lines(*steps)}), program)
-    told = [it.told for it in answers._reply_faults(entries)]
+    store.entries_of = lambda customer, seat: by_seat(entries)(seat)
+    told = [it.told for it in answers._reply_faults()]
     assert told == [
         "the program refuses it as 32 exhausted (line 4 of j); what came of the chip behind it wasn't asked",
         "state is missing in the journal, and shipped by the program (line 8 of j)"]  # fmt: skip
@@ -445,6 +453,6 @@ def test_a_program_that_ends_in_the_middle():
     steps = [line(number, "06:00", "map", {"map": 64 * "b"}, text=str(number)) for number in (1, 2)]
     audit = Audit(Period("2026-11-27T00:00:00Z", "2026-11-28T00:00:00Z"))
     with pytest.raises(Unanswered):
-        _ask_customer("acme", [], Books({"a1": 2}), {"a1": lines(*steps)}, Dying(), audit)
+        _ask_customer("acme", Books({"a1": 2}), {"a1": lines(*steps)}, Dying(), audit)
     told = f"map is {64 * 'b'} in the journal, and {64 * 'a'} by the program (line 1 of j)"
     assert ([it.told for it in audit.found], audit.replayed) == ([told], {"acme": 1})

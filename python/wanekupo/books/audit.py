@@ -7,10 +7,12 @@ import sys
 from collections import Counter, defaultdict
 from dataclasses import dataclass, field
 from itertools import chain
-from typing import Iterable, Iterator, NamedTuple, Union
+from typing import Iterable, Iterator, NamedTuple, Sequence, Union
 
-from wanekupo.books.clocks import Contradiction, Timed, ToCome, Window, clock_contradictions, to_come, window_of
-from wanekupo.books.coherence import faults_of
+from wanekupo.books.clocks import (
+    Contradiction, Pairs, Timed, ToCome, Window, clock_contradictions, to_come, window_of,
+)  # fmt: skip
+from wanekupo.books.coherence import by_chip, faults_of
 from wanekupo.books.given import given_twice
 from wanekupo.books.matches import Matched, Seated, matched, seated, steps_by_chip
 from wanekupo.books.numbers import Span, begun_customers, counts, spans_of
@@ -80,15 +82,13 @@ def audit_of(store: Books, books: Iterable[Book], period: Period, now: str, site
     spans = spans_of(journals, store, period)
     audit, laid = Audit(period), Laid(store, period)
     lost, counted = _without_journal(journals, store), Counter[str]()
-    steps = steps_by_chip(journals)
-    for life in store.lives():
-        made = matched(life.entries, steps.pop((life.customer, life.chip), ()))
-        laid.take(made)
-        audit.found += _contradictions(life)
-        counted.update(entry.row["seat"] for entry in life.entries if entry.row["seat"] in lost)
-    for lines in steps.values():
-        laid.take(matched((), lines))
-    laid.pairs.sort(key=lambda it: it[0])
+    stored = (((life.customer, life.chip), life) for life in store.lives())
+    for _, (lives, lines) in by_chip(stored, steps_by_chip(journals)):
+        entries = [entry for life in lives for entry in life.entries]
+        laid.take(matched(entries, lines))
+        audit.found += (it for life in lives for it in _contradictions(life))
+        counted.update(entry.row["seat"] for entry in entries if entry.row["seat"] in lost)
+    laid.pairs.end()
     audit.bare_chips = list(laid.bare_chips())
     audit.found += _journal_faults(journals, store)
     audit.found += _clock_faults(journals, laid.pairs, period, now)
@@ -135,7 +135,7 @@ class Laid:
 
     def __init__(self, store: Books, period: Period):
         self.store, self.period = store, period
-        self.pairs: list[Timed] = []
+        self.pairs = Pairs()
         self.lines: Counter[str] = Counter()
         self.odd: list[tuple[Left, Step, str, str]] = []
         self.left: list[Left] = []
@@ -147,7 +147,7 @@ class Laid:
             if pair.kind:
                 self.odd.append((_left_of(pair.entry), pair.step, pair.kind, pair.told))
             else:
-                self.pairs.append((pair.entry.id, pair.step))
+                self.pairs.append(pair.entry.id, pair.step)
         self.left += map(_left_of, made.entries)
         for own, step in made.steps:
             if counts(own, step, self.store, self.period):
@@ -156,6 +156,7 @@ class Laid:
                 told = f"{step.place()}, {said}, {taken}, and no ledger has it"
                 self.faults.append(Found("no_entry", step.at, own.customer, own.seat, step.chip, told))
                 step.is_lost = step.is_lost or not step.is_done()
+                step.save()
 
     def bare_chips(self) -> Iterator[tuple[str, str, str]]:
         yield from ((it.customer, it.chip, it.seat) for it in self.left)
@@ -183,7 +184,7 @@ class Unheld:
     """The entries from before the first line of their seat's journals, which begin behind number 1: as many as it had
     numbers. Of a seat without a journal those from before all lines."""
 
-    def __init__(self, pairs: list[Timed], spans: Iterable[Span]):
+    def __init__(self, pairs: Sequence[Timed], spans: Iterable[Span]):
         self._before = {it.seat: it.first - 1 for it in spans}
         self._first = {step.seat: number for number, step in reversed(pairs)}
         self._of_all = pairs[0][0] if pairs else 0
@@ -231,7 +232,7 @@ def _idle_faults(lost: set[str], counted: Counter[str], store: Books) -> Iterato
             yield Found("no_journal", "", seat.customer, seat.name, "", f"{told}, and held to nothing")
 
 
-def _between(pairs: list[Timed], number: int) -> str:
+def _between(pairs: Sequence[Timed], number: int) -> str:
     """When an entry without a line came, by the lines of the entries that were committed before and behind it."""
     place = bisect.bisect(pairs, number, key=lambda it: it[0])
     before = f"behind {pairs[place - 1][1].at}" if place else ""
@@ -260,7 +261,7 @@ def _journal_faults(journals: Iterable[Seated], store: Books) -> Iterator[Found]
             yield Found("no_seat", "", it.customer, it.seat, "", told)
 
 
-def _clock_faults(journals: Iterable[Seated], pairs: list[Timed], period: Period, now: str) -> Iterator[Found]:
+def _clock_faults(journals: Iterable[Seated], pairs: Sequence[Timed], period: Period, now: str) -> Iterator[Found]:
     """Times that can't be, told once for a file: where the first one is, what it contradicts, and how many more."""
     wrong: dict[str, dict[int, Union[Contradiction, ToCome]]] = defaultdict(dict)
     for it in clock_contradictions(pairs):

@@ -12,7 +12,7 @@ import json
 from itertools import chain
 from typing import Any, Iterator, Mapping, Optional, Sequence
 
-from wanekupo.books.fuses import FuseWords
+from wanekupo.books.scratch import Known
 from wanekupo.books.sequence import Done
 from wanekupo.books.steps import loaded
 from wanekupo.books.store_rows import Books
@@ -30,7 +30,7 @@ class Keys:
     """Keys in the place of those whose digests alone are known."""
 
     def __init__(self) -> None:
-        self._digests: dict[str, str] = {}
+        self._digests = Known()
 
     def key_of(self, digest: str) -> bytes:
         """The 32 bytes in the place of the key with a digest; zeros are no key."""
@@ -44,7 +44,7 @@ class Keys:
 
     def told(self, text: str) -> str:
         """A text of the program's, with the digests that are really meant."""
-        return DIGEST.sub(lambda it: self._digests.get(it[0], it[0]), text)
+        return DIGEST.sub(lambda it: str(self._digests.get(it[0], it[0])), text)
 
 
 class Bodies:
@@ -52,7 +52,7 @@ class Bodies:
 
     def __init__(self, customer: str, store: Books, keys: Keys):
         self._customer, self._store, self._keys = customer, store, keys
-        self._known: dict[str, tuple[FuseWords, Bits]] = {}
+        self._known = Known()
 
     def body(self, done: Done, number: int) -> tuple[bytes, list[int]]:
         """The body of a request with a number, and the blocks that show what no bits of its entry come to."""
@@ -73,14 +73,15 @@ class Bodies:
     def _blocks(self, done: Done, digests: Sequence[str]) -> tuple[list[list[str]], list[int]]:
         """The words of the blocks that a line has the digests of."""
         digest = str(done.step.asked.get("map")).lower()
-        words, before = self._known.get(done.step.chip) or (self._store.layouts.get((self._customer, digest)), None)
+        digest, before = self._known.get(done.step.chip) or (digest, None)
+        words = self._store.layouts.get((self._customer, digest))
         if not words or not words.fields or not done.entry:
             return [["00000000"] * 8 for _ in digests], []
         before = before or [0 for _ in words.blocks]
         after = list(before)
         for it in done.entry.row["bits"]:
             after[it["block"]] |= int(it["mask"], 16) << 32 * it["word"]
-        self._known[done.step.chip] = words, after
+        self._known[done.step.chip] = digest, after
         shown = Shown(words.fields, before, after, done.entry.row["note"])
         keys = {block for _, block in words.keys}
         found, unknown = list[list[str]](), list[int]()

@@ -10,10 +10,11 @@ from __future__ import annotations
 from array import array
 from bisect import bisect_right
 from dataclasses import dataclass
-from typing import Iterable, Iterator, NamedTuple, Sequence
+from typing import Any, Iterable, Iterator, NamedTuple, Sequence
 
+from wanekupo.books.scratch import base_of
 from wanekupo.books.shift import Period, seconds_between
-from wanekupo.books.steps import Step
+from wanekupo.books.steps import Step, Steps
 
 # By how many seconds the clocks of two stations may differ, and a station's be ahead of the auditor's.
 APART, AHEAD = 60, 3600
@@ -21,8 +22,37 @@ APART, AHEAD = 60, 3600
 # When a request was answered whose reply never came.
 NEVER = "9999-12-31T23:59:59Z"
 
+# What a moment has beside its digits.
+POINTS = str.maketrans("", "", "-:TZ")
+
 # The id of an entry, and its line.
 Timed = tuple[int, Step]
+
+
+class Pairs(Sequence[Timed]):
+    """The ids of entries with their lines, which are on the disk; behind `end` in the order of the ids."""
+
+    def __init__(self) -> None:
+        self._base = base_of("CREATE TABLE pair (id INTEGER, home INTEGER, place INTEGER)")
+        self._homes, self._columns = list[Steps](), [array("q"), array("i"), array("i")]
+
+    def append(self, number: int, step: Step) -> None:
+        assert step.home is not None
+        if step.home not in self._homes[-1:]:
+            self._homes.append(step.home)
+        self._base.execute("INSERT INTO pair VALUES (?, ?, ?)", (number, len(self._homes) - 1, step.place_of))
+
+    def end(self) -> None:
+        for row in self._base.execute("SELECT id, home, place FROM pair ORDER BY id, rowid"):
+            for column, it in zip(self._columns, row):
+                column.append(it)
+
+    def __len__(self) -> int:
+        return len(self._columns[0])
+
+    def __getitem__(self, place: Any) -> Any:
+        number, home, at = (column[place] for column in self._columns)
+        return number, self._homes[home].at(at)
 
 
 @dataclass(frozen=True)
@@ -70,8 +100,12 @@ class Contradiction(NamedTuple):
 def clock_contradictions(pairs: Sequence[Timed]) -> Iterator[Contradiction]:
     """The lines whose times contradict the longest run of lines whose times don't fall along the ids. Pairs come in the
     order of their ids, and so do these."""
-    run = longest_run([begin_of(step) for _, step in pairs])
-    answered = _answered_behind(pairs, run)
+    begins, ends = array("q"), array("q")
+    for _, step in pairs:
+        begins.append(_digits(begin_of(step)))
+        ends.append(_digits(end_of(step)))
+    run = longest_run(begins)
+    answered = _answered_behind(ends, run)
     latest: int = -1
     for place, (_, step) in enumerate(pairs):
         behind = answered[place]
@@ -96,25 +130,28 @@ def is_behind(at: str, other: str) -> bool:
     return at > other and seconds_between(other, at) > APART
 
 
-def _answered_behind(pairs: Sequence[Timed], run: bytearray) -> array[int]:
+def _digits(at: str) -> int:
+    """A moment as a number, which takes less: 20261130060000."""
+    return int(at.translate(POINTS))
+
+
+def _answered_behind(ends: Sequence[int], run: bytearray) -> array[int]:
     """For each place the one of the run behind it that was answered first; -1 where there is none."""
-    found, first = array("q", [-1]) * len(pairs), -1
-    for place in reversed(range(len(pairs))):
+    found, first = array("i", [-1]) * len(ends), -1
+    for place in reversed(range(len(ends))):
         found[place] = first
-        if run[place] and (first < 0 or end_of(pairs[place][1]) < end_of(pairs[first][1])):
+        if run[place] and (first < 0 or ends[place] < ends[first]):
             first = place
     return found
 
 
-def longest_run(times: Sequence[str]) -> bytearray:
+def longest_run(times: Sequence[Any]) -> bytearray:
     """Which times are of a longest run that doesn't fall: 1 at their places."""
-    ends: list[str] = []
-    places, before = array("q"), array("q")
+    places, before = array("i"), array("i")
     for place, at in enumerate(times):
-        length = bisect_right(ends, at)
+        length = bisect_right(places, at, key=times.__getitem__)
         before.append(places[length - 1] if length else -1)
-        ends[length : length + 1] = [at]
-        places[length : length + 1] = array("q", [place])
+        places[length : length + 1] = array("i", [place])
     run, place = bytearray(len(times)), places[-1] if places else -1
     while place >= 0:
         run[place] = 1

@@ -2,14 +2,29 @@
 
 from __future__ import annotations
 
-from typing import Any, Iterator, Sequence
+import heapq
+from itertools import groupby, repeat
+from typing import Any, Iterable, Iterator, Sequence
 
 from wanekupo.seat.states import LOST, NONE, after, left_by
 
 Row = dict[str, Any]
 
+# A chip of a customer.
+Chip = tuple[str, str]
+
 # The steps at which a chip shows what is burnt.
 SHOWING = ("registered", "read")
+
+
+def by_chip(*parts: Iterable[tuple[Chip, Any]]) -> Iterator[tuple[Chip, list[list[Any]]]]:
+    """What each part has of each chip: all of them come in the order of the chips."""
+    placed = (zip(part, repeat(place)) for place, part in enumerate(parts))
+    for chip, rows in groupby(heapq.merge(*placed, key=lambda it: it[0][0]), lambda it: it[0][0]):
+        found: list[list[Any]] = [[] for _ in parts]
+        for (_, row), place in rows:
+            found[place].append(row)
+        yield chip, found
 
 
 def faults_of(device: Row, ledger: Sequence[Row], records: Sequence[Row]) -> Iterator[str]:

@@ -6,24 +6,22 @@ its state only go on, an order changes its next serial number alone, and a seat'
 
 from __future__ import annotations
 
+import json
 import re
-from collections import Counter
-from dataclasses import dataclass, field
-from itertools import chain
-from typing import Any, Iterable, Iterator, Optional
+from dataclasses import dataclass
+from itertools import chain, groupby
+from operator import itemgetter
+from typing import Any, Iterable, Iterator, Mapping, Optional
 
-from wanekupo.books.coherence import faults_of
+from wanekupo.books.coherence import Chip, by_chip, faults_of
 from wanekupo.books.lines import NUMBERED, BadRow, line_parts
+from wanekupo.books.scratch import base_of
 from wanekupo.seat.states import LATER
 
 Members = dict[str, Any]
-Key = tuple[str, tuple[str, ...]]
 
 # The digits of a serial number behind its prefix.
 NUMBER = re.compile("[0-9]{1,64}")
-
-# What an issuer gives once.
-GIVEN = ("serial", "key_sha256")
 
 # How a row is named in a sentence, by its kind and the parts of its key.
 NAMES = {
@@ -48,68 +46,108 @@ class RowDifference:
     told: str
 
     def sentence(self) -> str:
-        named = _named((self.kind, self.key))
+        named = named_row(self.kind, " ".join(self.key))
         return f"{named[:1].upper()}{named[1:]}: {self.told}."
 
 
-def _named(key: Key) -> str:
-    kind, (*parts, last) = key
+def named_row(kind: str, key: str) -> str:
+    """A row in a sentence."""
+    *parts, last = key.split(" ")
     return NAMES[kind].format(*parts, last.lstrip("0") if kind in NUMBERED else last)
 
 
-@dataclass
-class Text:
-    """The rows of a text by their kinds and keys, how many entries each chip has, and which lines are no rows."""
+CREATED = """
+CREATE TABLE row (kind TEXT, key TEXT, members TEXT, place INTEGER, PRIMARY KEY (kind, key)) WITHOUT ROWID
+"""
 
-    rows: dict[Key, str] = field(default_factory=dict)
-    entries: Counter[tuple[str, str]] = field(default_factory=Counter)
-    bad: list[str] = field(default_factory=list)
+# The records in the order of their chips, and what is given but once, the first row of each in front.
+BY_CHIP = """
+SELECT substr(key, 1, instr(key, ' ') - 1), json_extract(members, '$.chip'), members FROM row
+WHERE kind = 'record' AND json_extract(members, '$.chip') IS NOT NULL ORDER BY 1, 2, key
+"""
+GIVEN = "SELECT '{0}', {1}, json_extract(members, '$.{0}') AS value, place, kind, key FROM row WHERE {2}"
+ISSUER, OF_ISSUER = "json_extract(members, '$.issuer')", "kind IN ('import', 'record')"
+GIVEN_ROWS = " UNION ALL ".join((
+    GIVEN.format("serial", ISSUER, OF_ISSUER), GIVEN.format("key_sha256", ISSUER, OF_ISSUER),
+    GIVEN.format("mac", "''", "kind = 'record' AND value IS NOT NULL"),
+)) + " ORDER BY 1, 2, 3, 4"  # fmt: skip
+
+
+class Text:
+    """The rows of a text by their kinds and keys, on the disk, and which lines are no rows."""
+
+    def __init__(self) -> None:
+        self._base = base_of(CREATED)
+        self.bad: list[str] = []
 
     @classmethod
     def of(cls, lines: Iterable[str], known: Optional[Text] = None) -> Text:
         """The text of these lines. One that another text has is a row, and isn't read again."""
-        made, rows = cls(), known.rows if known else {}
-        for number, line in enumerate(lines, 1):
-            kind, *words = line.partition(" {")[0].split(" ")
-            key = tuple(words)
+        made = cls()
+        for number, text in enumerate(lines, 1):
+            head, _, members = text.partition(" {")
+            kind, _, key = head.partition(" ")
             try:
-                if rows.get((kind, key)) != line:
-                    line_parts(line)
+                if known is None or known.row(kind, key) != f"{{{members}":
+                    line_parts(text)
             except BadRow as error:
                 made.bad.append(f"line {number} {error}")
                 continue
-            if (kind, key) in made.rows:
-                made.bad.append(f"line {number} is a second row of {kind} {' '.join(key)}")
-            made.rows[kind, key] = line
-            if kind == "entry":
-                made.entries[key[0], key[1]] += 1
+            row = kind, key, f"{{{members}", number
+            if not made._base.execute("INSERT OR IGNORE INTO row VALUES (?, ?, ?, ?)", row).rowcount:
+                made.bad.append(f"line {number} is a second row of {head}")
+                made._base.execute("REPLACE INTO row VALUES (?, ?, ?, ?)", row)
         return made
 
-    def members(self, key: Key) -> Members:
-        return line_parts(self.rows[key])[2]
+    def asked(self, sql: str, *words: str) -> Iterator[tuple[Any, ...]]:
+        """The rows of a statement."""
+        return self._base.execute(sql, words)
+
+    def row(self, kind: str, key: str) -> Optional[str]:
+        """The members of a row, as its text."""
+        return next((it for (it,) in self.asked("SELECT members FROM row WHERE kind = ? AND key = ?", kind, key)), None)
+
+    def kind(self, kind: str) -> Iterator[tuple[str, str]]:
+        """The rows of a kind, each with its key, in the order of these."""
+        rows = self.asked("SELECT key, members FROM row WHERE kind = ? ORDER BY key", kind)
+        return ((key, members) for key, members in rows)
+
+    def entries(self, chip: str) -> int:
+        """How many entries a chip has, which is named behind its customer."""
+        sql = "SELECT count(*) FROM row WHERE kind = 'entry' AND key > ? AND key < ?"
+        return next(int(it) for (it,) in self.asked(sql, f"{chip} ", f"{chip}!"))
+
+    def is_empty(self) -> bool:
+        return not any(self.asked("SELECT 1 FROM row LIMIT 1"))
+
+    def owners(self) -> set[str]:
+        """The first word of each key: the customers."""
+        return {it for (it,) in self.asked("SELECT DISTINCT substr(key, 1, instr(key || ' ', ' ') - 1) FROM row")}
+
+
+def _difference(kind: str, key: str, told: str) -> RowDifference:
+    return RowDifference(kind, tuple(key.split(" ")), told)
 
 
 def differences(before: Text, after: Text) -> Iterator[RowDifference]:
     """What the later text can't be, row by row in the order of their keys, and what of it contradicts itself."""
-    for key, line in before.rows.items():
-        now = after.rows.get(key)
-        if now is None:
-            yield RowDifference(*key, "is gone")
-        elif now != line:
-            told = "; ".join(_changes(key, before, after))
+    for kind, key, old in before.asked("SELECT kind, key, members FROM row"):
+        new = after.row(kind, key)
+        if new is None:
+            yield _difference(kind, key, "is gone")
+        elif new != old:
+            told = "; ".join(_changes(kind, key, before, after))
             if told:
-                yield RowDifference(*key, told)
+                yield _difference(kind, key, told)
     yield from contradictions(after)
 
 
-def _changes(key: Key, before: Text, after: Text) -> Iterator[str]:
+def _changes(kind: str, key: str, before: Text, after: Text) -> Iterator[str]:
     """What of a changed row isn't what a server does."""
-    kind = key[0]
-    old, new = before.members(key), after.members(key)
+    old, new = (json.loads(it.row(kind, key) or "") for it in (before, after))
     if kind == "device":
         yield from _device_changes(old, new)
-        whose = (key[1][0], key[1][1])
-        if after.entries[whose] <= before.entries[whose]:
+        if after.entries(key) <= before.entries(key):
             yield f"changed without a new entry in its ledger ({', '.join(_changed(old, new))})"
     elif kind == "order":
         yield from _order_changes(old, new)
@@ -183,37 +221,36 @@ def _seat_changes(old: Members, new: Members) -> Iterator[str]:
 
 def contradictions(text: Text) -> Iterator[RowDifference]:
     """What of a text contradicts itself: a device whose ledger or record says something else."""
-    ledgers: dict[tuple[str, str], list[Members]] = {}
-    records: dict[tuple[str, str], list[Members]] = {}
-    for kind, key in text.rows:
-        if kind == "entry":
-            ledgers.setdefault((key[0], key[1]), []).append(text.members((kind, key)))
-        elif kind == "record":
-            members = text.members((kind, key))
-            if members["chip"] is None:
-                yield RowDifference(kind, key, f"has the address {members['mac']}, and is of no chip")
-                continue
-            records.setdefault((key[0], members["chip"]), []).append(members)
-    for kind, key in text.rows:
-        if kind == "device":
-            whose = key[0], key[1]
-            device, its = text.members((kind, key)), records.pop(whose, [])
-            found = chain(faults_of(device, ledgers.pop(whose, []), its), _order_faults(text, whose[0], device, its))
-            yield from (RowDifference(kind, key, told) for told in found)
-    for whose in ledgers:
-        yield RowDifference("device", whose, "isn't there, though its ledger is")
-    for whose in records.keys() - ledgers.keys():
-        yield RowDifference("device", whose, "isn't there, though a record is of it")
-    yield from _twice(text)
+    orders = {tuple(key.split(" ")): json.loads(members) for key, members in text.kind("order")}
+    chips = (((customer, chip), json.loads(members)) for customer, chip, members in text.asked(BY_CHIP))
+    for whose, (devices, entries, records) in by_chip(_by_chip(text, "device"), _by_chip(text, "entry"), chips):
+        for device in devices:
+            found = chain(faults_of(device, entries, records), _order_faults(orders, whose[0], device, records))
+            yield from (RowDifference("device", whose, told) for told in found)
+        if not devices:
+            its = "its ledger is" if entries else "a record is of it"
+            yield RowDifference("device", whose, f"isn't there, though {its}")
+    for key, members in text.kind("record"):
+        it = json.loads(members)
+        if it["chip"] is None:
+            yield _difference("record", key, f"has the address {it['mac']}, and is of no chip")
+    yield from _twice(text, orders)
 
 
-def _order_faults(text: Text, customer: str, device: Members, records: Iterable[Members]) -> Iterator[str]:
+def _by_chip(text: Text, kind: str) -> Iterator[tuple[Chip, Members]]:
+    """The rows of a kind whose keys begin with a customer and a chip."""
+    for key, members in text.kind(kind):
+        customer, chip, *_ = key.split(" ")
+        yield (customer, chip), json.loads(members)
+
+
+def _order_faults(
+    orders: Mapping[tuple[str, ...], Members], customer: str, device: Members, records: Iterable[Members]
+) -> Iterator[str]:
     """What of a device's records isn't of its order: a number of the order's issuer, and the address of that number."""
-    key = "order", (customer, device["order"])
-    if key not in text.rows:
+    if (order := orders.get((customer, device["order"]))) is None:
         yield f"its order {device['order']} isn't there"
         return
-    order = text.members(key)
     for it in records:
         digits = it["serial"].removeprefix(order["prefix"])
         number = int(digits) - order["first"] if NUMBER.fullmatch(digits) else -1
@@ -224,17 +261,14 @@ def _order_faults(text: Text, customer: str, device: Members, records: Iterable[
             yield f"its address {_shown(it['mac'])} isn't that of its serial number {it['serial']}"
 
 
-def _twice(text: Text) -> Iterator[RowDifference]:
+def _twice(text: Text, orders: Mapping[tuple[str, ...], Members]) -> Iterator[RowDifference]:
     """Serial numbers and keys that an issuer gave twice, and addresses of two records or orders."""
-    first: dict[tuple[str, str, str], Key] = {}
-    rows = [(key, text.members(key)) for key in text.rows if key[0] in ("import", "order", "record")]
-    given = ((name, it["issuer"], it[name], key) for key, it in rows if key[0] != "order" for name in GIVEN)
-    macs = (("mac", "", it["mac"], key) for key, it in rows if key[0] == "record" and it["mac"])
-    for name, whose, value, key in chain(given, macs):
-        if (other := first.setdefault((name, whose, value), key)) != key:
-            yield RowDifference(*key, f"{name} {value} is also that of {_named(other)}")
-    blocks = ((it["mac"], it["quantity"] * it["macs"], key) for key, it in rows if key[0] == "order" and it["mac"])
-    orders = sorted((int(mac, 16), count, key) for mac, count, key in blocks)
-    for (mac, count, other), (behind, _, key) in zip(orders, orders[1:]):
+    for (name, _, value), rows in groupby(text.asked(GIVEN_ROWS), itemgetter(0, 1, 2)):
+        (*_, kind, key), *others = rows
+        for *_, its, other in others:
+            yield _difference(its, other, f"{name} {value} is also that of {named_row(kind, key)}")
+    blocks = sorted((int(it["mac"], 16), it["quantity"] * it["macs"], key) for key, it in orders.items() if it["mac"])
+    for (mac, count, other), (behind, _, key) in zip(blocks, blocks[1:]):
         if behind < mac + count:
-            yield RowDifference(*key, f"mac {behind:012x} is also an address of {_named(other)}")
+            told = f"mac {behind:012x} is also an address of {named_row('order', ' '.join(other))}"
+            yield RowDifference("order", key, told)

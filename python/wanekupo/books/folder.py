@@ -5,26 +5,30 @@ What was done is counted, so that nobody takes a test that had nothing to test f
 
 from __future__ import annotations
 
+import gzip
 import hashlib
+import os
 import re
+import zlib
+from collections import deque
 from dataclasses import dataclass, field
 from pathlib import Path
-from typing import Iterator, Optional
+from typing import IO, Any, Iterator, Optional
 
 from wanekupo.books.chain import ASIDE, PLANT, BadChain, Chain, Seal
 from wanekupo.books.compare import Text, contradictions, differences
 from wanekupo.books.shift import seconds_between
 from wanekupo.books.stamp import Service, is_near, moment_in, verified
 from wanekupo.common.errors import BadSettings
-from wanekupo.common.files import unpacked
+from wanekupo.common.files import GZIP, opened_plain
 from wanekupo.common.sentences import sentence_of
 from wanekupo.common.signing import CMS, MINISIG, BadSignature, beside, verify
 
 # By how many seconds daily seals may be apart: a day, and an hour.
 A_DAY = 25 * 3600
 
-# More bytes than a row has, and than the rows of a seal that a machine can compare.
-LONGEST_ROW, MOST_ROWS = 1 << 16, 2 << 30
+# More bytes than a row has, and than the rows of a seal, which are on the disk twice; and where a line is no row.
+LONGEST_ROW, MOST_ROWS, LONGEST_LINE = 1 << 16, 64 << 30, 1 << 20
 
 COMPRESSED = ".gz"
 
@@ -67,21 +71,55 @@ def _counted(number: int, what: str) -> str:
     return f"{number} {what}" if number == 1 else f"{number} {what}s"
 
 
+class RowsFile:
+    """A plain file of rows, which may be compressed, of which no more than so many bytes are read. Behind its lines are
+    how many bytes and line feeds these had, their SHA-256, and whether it is damaged."""
+
+    def __init__(self, file: Path, most: int):
+        self.file, self.most = file, most
+        self.bytes, self.count, self.digest, self.is_damaged = 0, 0, hashlib.sha256(), False
+
+    def lines(self) -> Iterator[str]:
+        with open(opened_plain(self.file, os.O_RDONLY, follows_links=True), "rb") as plain:
+            is_packed = plain.read(len(GZIP)) == GZIP
+            plain.seek(0)
+            source: Any = gzip.GzipFile(fileobj=plain) if is_packed else plain
+            try:
+                yield from self._lines(source)
+            except (OSError, EOFError, zlib.error):
+                if not is_packed:
+                    raise
+                self.is_damaged = True
+
+    def _lines(self, source: IO[bytes]) -> Iterator[str]:
+        """Of what has no line feed for long a line is made that is no row, and the rest is no line."""
+        is_cut = False
+        while data := source.readline(min(LONGEST_LINE, self.most + 1 - self.bytes)):
+            self.digest.update(data)
+            self.bytes, is_rest, is_cut = self.bytes + len(data), is_cut, not data.endswith(b"\n")
+            self.count += not is_cut
+            if not is_rest:
+                line = data.decode("ascii", "backslashreplace")
+                yield line + "\0" if is_cut and len(data) == LONGEST_LINE else line.removesuffix("\n")
+
+    def is_large(self) -> bool:
+        return self.bytes > self.most
+
+    def is_text(self, digest: str) -> bool:
+        """Whether it is whole, and has this SHA-256."""
+        return not self.is_damaged and self.digest.hexdigest() == digest
+
+
 def sealed_text(name: Path) -> Text:
     """The rows of a file of a seal, which may be compressed. A file in which no line is a row is another one."""
-    data = unpacked(name, MOST_ROWS)
-    if len(data) > MOST_ROWS:
+    file = RowsFile(name, MOST_ROWS)
+    text = Text.of(file.lines())
+    if file.is_large():
         raise BadSettings(f"{name} has more than {MOST_ROWS >> 20} MB of rows", "Look who wrote it.")
-    text = _text_of(data)
-    if not text.rows:
-        told = "is no file of rows" if text.bad else "has no row, so nothing can be compared"
+    if file.is_damaged or text.is_empty():
+        told = "is no file of rows" if text.bad or file.is_damaged else "has no row, so nothing can be compared"
         raise BadSettings(f"{name} {told}", "Name NUMBER.rows of a seal, or the copy of a store.")
     return text
-
-
-def _text_of(data: bytes, known: Optional[Text] = None) -> Text:
-    lines = data.decode("ascii", "backslashreplace").split("\n")
-    return Text.of(lines if lines[-1] else lines[:-1], known)
 
 
 def sentences_of(before: Text, after: Text) -> list[str]:
@@ -248,20 +286,19 @@ def _test_rows(chain: Chain, seals: list[Seal], made: Tested) -> None:
     before: Optional[Text] = None
     last = ""
     for seal in seals:
-        files = [it for it in _row_files(chain, seal) if it.exists()]
+        most = min(MOST_ROWS, LONGEST_ROW * (seal.rows + 1))
+        files = [RowsFile(it, most) for it in row_files(chain, seal) if it.exists()]
         if not files:
             made.missing.append(seal.number)
             continue
-        most = min(MOST_ROWS, LONGEST_ROW * (seal.rows + 1))
-        data = [unpacked(it, most) for it in files]
-        changed = [it for it, its in zip(files, data) if hashlib.sha256(its).hexdigest() != seal.text]
-        large = {it for it, its in zip(files, data) if len(its) > most}
+        text = Text.of(files[0].lines(), before)
+        deque((line for it in files[1:] for line in it.lines()), maxlen=0)
+        changed = [it for it in files if not it.is_text(seal.text)]
         told = f"has more than {most} bytes, and its seal is of {_counted(seal.rows, 'row')}"
-        made.found += [f"{it} {told if it in large else 'was changed since it was sealed'}." for it in changed]
+        made.found += [f"{it.file} {told if it.is_large() else 'was changed since it was sealed'}." for it in changed]
         if changed:
             continue
-        text = _text_of(data[0], before)
-        made.found += [f"{files[0]}: {it}." for it in (*text.bad, *_line_faults(seal, data[0], text))]
+        made.found += [f"{files[0].file}: {it}." for it in (*text.bad, *_line_faults(seal, files[0].count, text))]
         if before is None:
             made.found += sorted(it.sentence() for it in dict.fromkeys(contradictions(text)))
         else:
@@ -272,16 +309,15 @@ def _test_rows(chain: Chain, seals: list[Seal], made: Tested) -> None:
         made.found.append(f"{chain.folder} has the rows of no seal, so no row was compared.")
 
 
-def _line_faults(seal: Seal, data: bytes, text: Text) -> Iterator[str]:
+def _line_faults(seal: Seal, count: int, text: Text) -> Iterator[str]:
     """What of a seal's line isn't so by its rows."""
-    count = data.count(b"\n")
     if count != seal.rows:
         yield f"there are {_counted(count, 'row')}, and the seal says {seal.rows}"
-    others = {key[0] for _, key in text.rows} - {seal.whose}
+    others = text.owners() - {seal.whose}
     if others and seal.whose != PLANT:
         yield f"there are rows of {', '.join(sorted(others))}, and the seal is of {seal.whose}"
 
 
-def _row_files(chain: Chain, seal: Seal) -> list[Path]:
+def row_files(chain: Chain, seal: Seal) -> list[Path]:
     file = chain.rows_file(seal.number)
     return [file, beside(file, COMPRESSED)]

@@ -3,9 +3,13 @@
 from __future__ import annotations
 
 import contextlib
-from typing import Iterable, Iterator, NamedTuple, Optional
+import sqlite3
+from itertools import groupby, islice
+from operator import itemgetter
+from typing import Iterator, NamedTuple, Optional, Sequence
 
-from wanekupo.books.matches import Seated, Told
+from wanekupo.books.matches import Seated
+from wanekupo.books.scratch import Known, base_of
 from wanekupo.books.steps import Step
 from wanekupo.seat.import_rows import rows_of
 
@@ -31,19 +35,41 @@ class GivenNumbers(NamedTuple):
         return f"{f'to the chip {self.chip}' if self.chip else 'by an import'} ({self.step.place()})"
 
 
+# What lines gave, in the order of the values: the first line of each is the one that the others are held to.
+CREATED = """
+CREATE TABLE given (name INTEGER, whose TEXT, value TEXT, own INTEGER, place INTEGER, part INTEGER);
+CREATE TABLE span (start INTEGER, behind INTEGER, own INTEGER, place INTEGER)
+"""
+NAMES = ("serial", "key_sha256", "mac")
+
+# The addresses that there are.
+ADDRESSES = 1 << 48
+GIVEN = "SELECT name, whose, value, own, place, part FROM given ORDER BY 1, 2, 3, rowid"
+
+
 def given_twice(journals: list[Seated]) -> Iterator[Row]:
     """What lines of two chips have, or of a chip and an import. Not what was given since a copy that a later restore
     made an older one; and of an import not what a restore took away."""
-    first: dict[tuple[str, str, str], GivenNumbers] = {}
-    for it, step in ((it, step) for it in journals for step in it.book.steps if step.turn <= 0):
-        for issuer, own, mac in _given_by(step):
-            named = ("serial", issuer, own.serial), ("key_sha256", issuer, own.key), ("mac", "", mac)
-            for name, whose, value in named:
-                other = first.setdefault((name, whose, value), own) if value != "None" else own
-                if own.differs_from(other):
-                    told = f"the {name} {value} was given twice: also {other.told()}"
-                    yield "twice", step.at, it.customer, it.seat, step.chip, f"{told} ({step.place()})"
-    yield from _addresses_twice(journals)
+    base = base_of(CREATED)
+    for number, it in enumerate(journals):
+        for step in (step for step in it.book.steps if step.turn <= 0):
+            for part, (issuer, own, mac) in enumerate(_given_by(step)):
+                named = enumerate(((issuer, own.serial), (issuer, own.key), ("", mac)))
+                words = [(name, *its, number, step.place_of, part) for name, its in named if its[1] != "None"]
+                base.executemany("INSERT INTO given VALUES (?, ?, ?, ?, ?, ?)", words)
+    for (name, _, value), rows in groupby(base.execute(GIVEN), itemgetter(0, 1, 2)):
+        (*_, number, place, part), *others = rows
+        first = _part_of(journals[number].book.steps.at(place), part) if others else None
+        for *_, number, place, part in others:
+            it, step = journals[number], journals[number].book.steps.at(place)
+            if first and _part_of(step, part).differs_from(first):
+                told = f"the {NAMES[name]} {value} was given twice: also {first.told()}"
+                yield "twice", step.at, it.customer, it.seat, step.chip, f"{told} ({step.place()})"
+    yield from _addresses_twice(journals, base)
+
+
+def _part_of(step: Step, part: int) -> GivenNumbers:
+    return next(islice(_given_by(step), part, None))[1]
 
 
 def _given_by(step: Step) -> Iterator[tuple[str, GivenNumbers, str]]:
@@ -57,25 +83,27 @@ def _given_by(step: Step) -> Iterator[tuple[str, GivenNumbers, str]]:
                 yield str(step.asked.get("issuer")), GivenNumbers(serial, key.lower(), None, step), "None"
 
 
-def _addresses_twice(journals: Iterable[Seated]) -> Iterator[Row]:
+def _addresses_twice(journals: Sequence[Seated], base: sqlite3.Connection) -> Iterator[Row]:
     """Addresses behind the first one of a record, of which another chip's record has one: an order says how many each
     has."""
-    macs: dict[tuple[str, str], int] = {}
-    orders: dict[tuple[str, str], str] = {}
-    spans: list[tuple[int, int, Told]] = []
-    for it, step in ((it, step) for it in journals for step in it.book.steps if step.turn <= 0):
-        if step.path == "/v1/order" and step.status in (None, 200):
-            macs[it.customer, str(step.asked.get("name"))] = int(step.asked.get("macs") or 0)
-        elif step.event == "registered" and step.status in (None, 200):
-            orders[it.customer, step.chip] = str(step.asked.get("order"))
-        elif step.event == "identified" and step.is_done() and step.reply.get("mac"):
-            with contextlib.suppress(ValueError):
-                start = int(step.reply["mac"], 16)
-                count = macs.get((it.customer, orders.get((it.customer, step.chip), "")), 1)
-                spans.append((start, start + max(1, count), (it, step)))
+    macs, orders = dict[tuple[str, str], int](), Known()
+    for number, it in enumerate(journals):
+        for step in (step for step in it.book.steps if step.turn <= 0):
+            if step.path == "/v1/order" and step.status in (None, 200):
+                macs[it.customer, str(step.asked.get("name"))] = int(step.asked.get("macs") or 0)
+            elif step.event == "registered" and step.status in (None, 200):
+                orders[it.customer, step.chip] = str(step.asked.get("order"))
+            elif step.event == "identified" and step.is_done() and step.reply.get("mac"):
+                with contextlib.suppress(ValueError):
+                    start = int(step.reply["mac"], 16)
+                    count = macs.get((it.customer, orders.get((it.customer, step.chip), "")), 1)
+                    words = start, start + max(1, count), number, step.place_of
+                    if start < ADDRESSES:
+                        base.execute("INSERT INTO span VALUES (?, ?, ?, ?)", words)
     end, before = 0, ""
-    for start, behind, (it, step) in sorted(spans, key=lambda it: it[:2]):
+    for start, behind, number, place in base.execute("SELECT * FROM span ORDER BY start, behind, rowid"):
+        it, step = journals[number], journals[number].book.steps.at(place)
         if start < end and step.chip != before:
             told = f"the address {start:012x} was given twice: it is also one of the chip {before} ({step.place()})"
             yield "twice", step.at, it.customer, it.seat, step.chip, told
-        end, before = max((end, before), (behind, step.chip), key=lambda it: it[0])
+        end, before = (behind, step.chip) if behind > end else (end, before)

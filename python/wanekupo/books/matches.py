@@ -7,17 +7,20 @@ beside each other from the first to the last.
 from __future__ import annotations
 
 import difflib
+import sqlite3
 from collections import Counter, defaultdict, deque
 from dataclasses import dataclass, field
 from itertools import takewhile
-from typing import Iterable, Optional, Sequence
+from typing import Iterable, Iterator, Mapping, Optional, Sequence
 
+from wanekupo.books.coherence import Chip
+from wanekupo.books.scratch import base_of
 from wanekupo.books.steps import Book, Step
 from wanekupo.books.store_rows import Books, LedgerRow
 
-# A chip of a customer.
-Chip = tuple[str, str]
 NAMED, BY_DIGEST, BY_CHIPS, UNKNOWN = "by its name", "by its last request", "by its chips", "not known"
+
+OF_SEAT = "FROM line WHERE seat = ?"
 
 # How many pairs of an entry and a line of one chip and seat are compared: a station may have read a chip for ever.
 MOST_COMPARED = 1 << 20
@@ -74,16 +77,42 @@ class Matched:
     steps: list[Told] = field(default_factory=list)
 
 
-def steps_by_chip(journals: Iterable[Seated]) -> dict[Chip, list[Told]]:
-    """The lines of steps by the chips that they are of, those of a seat in the order of its numbers."""
-    found: dict[Chip, list[Told]] = defaultdict(list)
-    for it in journals:
-        for step in it.book.steps:
-            if step.event:
-                found[it.customer, step.chip].append((it, step))
-    for lines in found.values():
-        lines.sort(key=lambda told: (told[1].turn, told[1].number))
-    return found
+def steps_by_chip(journals: Sequence[Seated]) -> Iterator[tuple[Chip, Told]]:
+    """The lines of steps in the order of the chips that they are of, those of a seat in that of its numbers."""
+    base = base_of("CREATE TABLE told (customer, chip, turn INTEGER, number INTEGER, own INTEGER, place INTEGER)")
+    for own, it in enumerate(journals):
+        steps = (step for step in it.book.steps if step.event)
+        words = ((it.customer, step.chip, step.turn, step.number, own, step.place_of) for step in steps)
+        base.executemany("INSERT INTO told VALUES (?, ?, ?, ?, ?, ?)", words)
+    for customer, chip, _, _, own, place in base.execute("SELECT * FROM told ORDER BY 1, 2, 3, 4, 5, rowid"):
+        yield (customer, chip), (journals[own], journals[own].book.steps.at(place))
+
+
+class SeatLines(Mapping[int, list[Step]]):
+    """The lines of a seat by their numbers, on the disk."""
+
+    def __init__(self, base: sqlite3.Connection, journals: Sequence[Seated], seat: str):
+        self._base, self._journals, self._seat = base, journals, seat
+
+    def __getitem__(self, number: int) -> list[Step]:
+        rows = self._base.execute(f"SELECT own, place {OF_SEAT} AND number = ? ORDER BY rowid", (self._seat, number))
+        return [self._journals[own].book.steps.at(place) for own, place in rows]
+
+    def __iter__(self) -> Iterator[int]:
+        return (it for (it,) in self._base.execute(f"SELECT DISTINCT number {OF_SEAT}", (self._seat,)))
+
+    def __len__(self) -> int:
+        return sum(1 for _ in self)
+
+
+def lines_by_seat(journals: Sequence[Seated]) -> dict[str, SeatLines]:
+    """The lines of each seat that aren't lost."""
+    base = base_of("CREATE TABLE line (seat TEXT, number INTEGER, own INTEGER, place INTEGER)")
+    for own, it in enumerate(journals):
+        rows = ((it.seat, step.number, own, step.place_of) for step in it.book.steps if not step.is_lost)
+        base.executemany("INSERT INTO line VALUES (?, ?, ?, ?)", rows)
+    base.execute("CREATE INDEX of_seat ON line (seat, number)")
+    return {it.seat: SeatLines(base, journals, it.seat) for it in journals}
 
 
 def matched(entries: Iterable[LedgerRow], steps: Iterable[Told]) -> Matched:
@@ -168,7 +197,9 @@ def _lay_unanswered(
             rest.append(entry)
             continue
         step = own.popleft()
-        step.is_stored = step.is_stored or bool(kind)
+        if kind:
+            step.is_stored = True
+            step.save()
         laid.add(id(step))
         told = "a late copy of a request that was refused was accepted" if kind else ""
         found.pairs.append(Pair(entry, step, kind, told))

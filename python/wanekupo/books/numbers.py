@@ -67,10 +67,11 @@ def counts(it: Seated, step: Step, store: Books, period: Period) -> bool:
         return False
     if step.at >= period.end:
         return step.turn == 0 and step.number <= last
+    if max(step.at, step.answered) >= period.start or not step.is_lost:
+        return True
     first = it.book.steps[:2]
-    return max(step.at, step.answered) >= period.start or not step.is_lost or (
-        step is first[0] and first[-1].at >= period.start and first[-1].turn == step.turn
-    )
+    is_first = (step.file, step.line) == (first[0].file, first[0].line)
+    return bool(is_first and first[-1].at >= period.start and first[-1].turn == step.turn)
 
 
 def begun_customers(spans: Iterable[Span], store: Books) -> set[str]:
@@ -97,28 +98,32 @@ def spans_of(journals: Iterable[Seated], store: Books, period: Period) -> list[S
 Laid = tuple[str, int, Union[Step, Turn]]
 
 
-def _lines_of(book: Book) -> Iterator[Union[Step, Turn]]:
+# A journal with its requests, which are in memory while their seat is looked at.
+Read = tuple[Book, list[Step]]
+
+
+def _lines_of(book: Book, steps: list[Step]) -> Iterator[Union[Step, Turn]]:
     """A journal's lines, with where turns may begin."""
     marks: dict[int, list[Turn]] = defaultdict(list)
-    done = [(place, it) for place, it in enumerate(book.steps) if it.is_done()]
+    done = [(place, it) for place, it in enumerate(steps) if it.is_done()]
     for it in book.resynchronized:
         place = bisect_left(done, it.behind, key=lambda it: it[0])
         step = done[place][1] if place < len(done) else None
         digest = step.digest if step and step.number == it.number else ""
         marks[it.behind].append(Turn(it.at, it.number, f"line {it.line} of {it.file}", digest))
-    if book.steps and book.steps[0].is_done():
-        step = book.steps[0]
+    if steps and steps[0].is_done():
+        step = steps[0]
         marks[0].append(Turn(step.at, step.number, step.place(), step.digest, True))
-    for place, step in enumerate(book.steps):
+    for place, step in enumerate(steps):
         yield from marks.pop(place, ())
         yield step
-    yield from marks.pop(len(book.steps), ())
+    yield from marks.pop(len(steps), ())
 
 
-def _laid(own: tuple[int, Book]) -> list[Laid]:
+def _laid(own: tuple[int, Read]) -> list[Laid]:
     """The same with their times. That of a line that contradicts most others is the time of one in front, so that times
     never fall."""
-    lines = list(_lines_of(own[1]))
+    lines = list(_lines_of(*own[1]))
     run = longest_run([it.at for it in lines])
     found, at = list[Laid](), next((it.at for it, is_sure in zip(lines, run) if is_sure), "")
     for it, is_sure in zip(lines, run):
@@ -128,12 +133,11 @@ def _laid(own: tuple[int, Book]) -> list[Laid]:
 
 
 class Since:
-    """What was accepted since a seat's turn began: the requests of each number, the greatest number of each journal,
-    and the greatest up to each time; and which numbers have a line without a reply."""
+    """What was accepted since a seat's turn began: the first request of each number, and which have another one, the
+    greatest number of each journal, and the greatest up to each time; and which numbers have a line without a reply."""
 
     def __init__(self) -> None:
-        self._digests: dict[int, set[str]] = defaultdict(set)
-        self._unanswered: set[int] = set()
+        self._digests, self._several, self._unanswered = dict[int, str](), set[int](), set[int]()
         self._of_journals: dict[int, int] = {}
         self._times: list[str] = []
         self._most: list[int] = []
@@ -142,7 +146,8 @@ class Since:
         if step.status is None:
             self._unanswered.add(step.number)
         if step.is_done():
-            self._digests[step.number].add(step.digest)
+            if self._digests.setdefault(step.number, step.digest) != step.digest:
+                self._several.add(step.number)
             self._of_journals[journal] = max(self._of_journals.get(journal, step.number), step.number)
             self._times.append(at)
             self._most.append(max([step.number, *self._most[-1:]]))
@@ -151,18 +156,18 @@ class Since:
         """Whether the store is an older one there: a line goes on with a number that its journal has, or that was given
         to another request. A number that no other line has was given there for the first time, whatever the clocks say;
         else these count, as far as clocks may differ."""
-        same = self._digests.get(turn.number, set())
-        if turn.digest and len(same) > (turn.digest in same):
+        same = self._digests.get(turn.number)
+        if turn.digest and (turn.number in self._several or same not in (None, turn.digest)):
             return True
         if turn.is_begin or self._of_journals.get(journal, turn.number - 1) >= turn.number:
             return not turn.is_begin
-        if turn.digest and not same and turn.number not in self._unanswered:
+        if turn.digest and same is None and turn.number not in self._unanswered:
             return False
         count = bisect_left(self._times, True, key=lambda it: not is_behind(at, it))
         return count > 0 and self._most[count - 1] >= turn.number
 
 
-def _in_turns(books: Sequence[Book]) -> tuple[list[Turn], list[Step]]:
+def _in_turns(books: Sequence[Read]) -> tuple[list[Turn], list[Step]]:
     """Where the store became an older one, and the lines of all journals of a seat, each with its turn, by one pass
     over them in the order of time."""
     turns, steps, since = list[Turn](), list[Step](), Since()
@@ -186,7 +191,7 @@ def _own_turn(seat: StoredSeat, steps: Sequence[Step], turns: Sequence[Turn], pe
     return own
 
 
-def _in_order(seat: StoredSeat, books: Sequence[Book], period: Period) -> tuple[list[Step], list[Turn]]:
+def _in_order(seat: StoredSeat, books: Sequence[Read], period: Period) -> tuple[list[Step], list[Turn]]:
     """A seat's lines by their turns and numbers, and the turns up to the one that the store is of: that is 0 in the
     lines."""
     turns, steps = _in_turns(books)
@@ -248,13 +253,13 @@ def _settle(seat: StoredSeat, steps: Sequence[Step], turns: Sequence[Turn], span
 
 def _span_of(seat: StoredSeat, books: list[Book], period: Period) -> Span:
     span = Span(seat.name, seat.customer, "")
-    books = sorted(books, key=lambda it: it.times[:1])
-    steps, turns = _in_order(seat, books, period)
+    read = [(book, list(book.steps)) for book in sorted(books, key=lambda it: it.times[:1])]
+    steps, turns = _in_order(seat, read, period)
     _take_kept(seat, steps)
     gone = _settle(seat, steps, turns, span)
-    begun = {id(book.steps[0]) for book in books if book.steps}
-    for book in books:
-        book.steps = [it for it in book.steps if id(it) not in gone]
+    begun = {id(own[0]) for _, own in read if own}
+    for book, own in read:
+        book.steps = book.steps.only(it for it in own if id(it) not in gone)
     steps = [it for it in steps if id(it) not in gone and it.turn <= 0 and it.status in (None, 200)]
     span.lost += _unanswered_faults(steps, books, begun, period)
     _count(span, seat, steps, turns, period)

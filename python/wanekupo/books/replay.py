@@ -10,7 +10,8 @@ from __future__ import annotations
 import hashlib
 import json
 import tempfile
-from collections import Counter, defaultdict
+from collections import Counter
+from functools import partial
 from itertools import chain
 from pathlib import Path
 from typing import Any, Iterable, Iterator, Mapping, Sequence
@@ -20,11 +21,11 @@ from wanekupo.books.audit import Audit, Found
 from wanekupo.books.bodies import Bodies, Keys
 from wanekupo.books.clocks import begin_of, end_of
 from wanekupo.books.imports import IMPORT, ORDER, imported_by
-from wanekupo.books.matches import seated
+from wanekupo.books.matches import lines_by_seat, seated
 from wanekupo.books.program import Program, Unanswered
 from wanekupo.books.sequence import MAP, Done, Lines, NotLaid, NotWhole, Requests
 from wanekupo.books.steps import PATHS, REPLIED, WORKS, Book, Step, loaded
-from wanekupo.books.store_rows import Books, LedgerRow
+from wanekupo.books.store_rows import Books
 from wanekupo.common.store_user import LONGEST
 from wanekupo.common.texts import brief, compact_json
 from wanekupo.seat.forms import NO_END
@@ -49,22 +50,19 @@ UNKNOWN, TOO_LARGE = (404, '{"error":"unknown_path","no":7}'), (413, '{"error":"
 
 def ask_again(program: Path, books: Iterable[Book], store: Books, audit: Audit) -> None:
     """Has a program answer the lines of all journals, and holds it to the store. What was found stays where it ends."""
-    lines, count = defaultdict[str, dict[int, list[Step]]](lambda: defaultdict(list)), 0
-    for own, step in ((own, step) for own in (seated(it, store) for it in books) for step in own.book.steps):
-        count += 1
-        if not step.is_lost:
-            lines[own.seat][step.number].append(step)
+    journals = [seated(it, store) for it in books]
+    lines, count = lines_by_seat(journals), sum(len(it.book.steps) for it in journals)
     with tempfile.TemporaryDirectory(prefix="wanekupo-replay.") as folder:
         try:
             with Program(program, _site(store), Path(folder), LONGEST + FOR_A_LINE * count) as running:
-                for customer, entries in _entries(store).items():
-                    _ask_customer(customer, entries, store, lines, running, audit)
+                for customer in sorted(store.customers()):
+                    _ask_customer(customer, store, lines, running, audit)
         except Unanswered as error:
             audit.unfinished.append(str(error))
 
 
 def _ask_customer(
-    customer: str, entries: list[LedgerRow], store: Books, lines: Mapping[str, Lines], running: Program, audit: Audit
+    customer: str, store: Books, lines: Mapping[str, Lines], running: Program, audit: Audit
 ) -> None:
     bare = [(chip, seat) for whose, chip, seat in audit.bare_chips if whose == customer]
     try:
@@ -73,20 +71,12 @@ def _ask_customer(
         audit.unfinished.append(f"{customer} isn't replayed, as {error}")
         return
     try:
-        answers.hold(entries)
+        answers.hold()
     finally:
         audit.add(answers.told())
         audit.repeated += answers.repeated
         audit.unfinished += answers.unasked()
         audit.replayed |= {customer: answers.count} if answers.count else {}
-
-
-def _entries(store: Books) -> dict[str, list[LedgerRow]]:
-    """The entries of each customer of whom the store has anything, in the order in which they came."""
-    found: dict[str, list[LedgerRow]] = {it: [] for it in sorted(store.customers())}
-    for entry in sorted(store.entries(), key=lambda it: it.id):
-        found[entry.customer].append(entry)
-    return found
 
 
 def _token(seat: str) -> str:
@@ -118,12 +108,12 @@ class Answers:
         self._numbers, self._counts = Counter[str](), Counter[str]()
         self._bodies, self._found, self.repeated = Bodies(customer, store, self._keys), list[Found](), requests.repeated
 
-    def hold(self, entries: list[LedgerRow]) -> None:
+    def hold(self) -> None:
         """Has the lines answered, and holds replies and rows to what the program says."""
-        self._take(self._reply_faults(entries))
+        self._take(self._reply_faults())
         self._take(self._kept_faults())
         self._take(self._paper_faults())
-        self._take(self._row_faults(entries))
+        self._take(self._row_faults())
 
     def _take(self, found: Iterable[Found]) -> None:
         """Keeps the first faults of each seat and of the store's rows. One seat's hide no other's."""
@@ -162,9 +152,9 @@ class Answers:
             return UNKNOWN
         return TOO_LARGE if len(body) > LONGEST_BODY else self._ask(done.seat, "POST", done.step.path, body)
 
-    def _reply_faults(self, entries: list[LedgerRow]) -> Iterator[Found]:
+    def _reply_faults(self) -> Iterator[Found]:
         """In which lines a reply isn't the program's, and which it refuses. Of such a chip no more is asked."""
-        for it in self._requests.in_order(entries):
+        for it in self._requests.in_order(partial(self._store.entries_of, self._customer)):
             if isinstance(it, NotLaid):
                 yield self._fault(f"{it}; what came of the chip behind it wasn't asked", it.seat, it.chip, it.at)
                 continue
@@ -238,7 +228,8 @@ class Answers:
             "the imported serial number": self._given(plain),
         }
         for what, names in own.items():
-            for name in sorted(names - stored[what] - self._given("WHERE g.chip IS NOT NULL")):
+            missing = names - stored[what]
+            for name in sorted(missing - self._given("WHERE g.chip IS NOT NULL") if missing else ()):
                 yield self._fault(f"{what} {name} isn't in the store as it was asked for")
             for name in sorted(stored[what] - names) if what != "the order" or self._requests.lent else ():
                 yield self._fault(f"no line asked for {what} {name}, which the store has")
@@ -248,20 +239,17 @@ class Answers:
         rows = (row for customer, row in self._store.records(where) if customer == self._customer)
         return {f"{row['issuer']} {row['serial']} {row['key_sha256']}" for row in rows}
 
-    def _row_faults(self, entries: list[LedgerRow]) -> Iterator[Found]:
+    def _row_faults(self) -> Iterator[Found]:
         """In what orders, devices, their ledgers and their records aren't what the program shows."""
         seat = next((name for name, owner in self._store.site_seats.items() if owner == self._customer), "")
-        ledgers = defaultdict[str, list[Any]](list)
-        for entry in entries:
-            ledgers[entry.chip].append(entry.row)
         for (customer, name), row in self._store.orders.items():
             if customer == self._customer:
                 yield from self._held(seat, f"order?name={name}", {**row, "next": self._store.next_of(row)})
-        devices = (it for it in self._store.devices() if it["customer"] == self._customer)
-        aside = self._requests.aside
-        for chip, device in ((it["chip"], it) for it in devices if it["chip"] not in aside):
+        ledgers, aside = self._store.ledgers(self._customer), self._requests.aside
+        for chip, device, own in ((it["chip"], it, own) for it, own in ledgers if it["chip"] not in aside):
             yield from self._held(seat, f"device?chip={chip}", device, chip)
-            yield from self._held(seat, f"ledger?chip={chip}", {"chip": chip, "entries": ledgers[chip]}, chip)
+            ledger = {"chip": chip, "entries": [entry.row for entry in own]}
+            yield from self._held(seat, f"ledger?chip={chip}", ledger, chip)
         for customer, record in self._store.records("WHERE g.chip IS NOT NULL"):
             if customer == self._customer and record["chip"] not in aside:
                 yield from self._held(seat, f"identity?chip={record['chip']}", record, record["chip"])

@@ -7,12 +7,17 @@ for its addresses, a device for its order, its map and its serial number, an imp
 
 from __future__ import annotations
 
-from collections import defaultdict, deque
+from array import array
+from collections import defaultdict
 from dataclasses import dataclass, replace
-from typing import Any, Container, Iterable, Iterator, Mapping, Optional, Sequence, Union
+from itertools import chain, pairwise
+from typing import (
+    Any, Callable, Container, Generic, Iterable, Iterator, Mapping, Optional, Sequence, TypeVar, Union,
+)  # fmt: skip
 
 from wanekupo.books.clocks import begin_of, end_of, is_behind
 from wanekupo.books.imports import IMPORT, ORDER, ImportTimes, imported_by
+from wanekupo.books.scratch import Known
 from wanekupo.books.steps import Step
 from wanekupo.books.store_rows import Books, Key, LedgerRow, Row, StoredSeat, serial_of
 from wanekupo.common.errors import StationError
@@ -25,6 +30,13 @@ Lines = Mapping[int, list[Step]]
 
 # Numbers from the first one to the last one.
 Numbers = tuple[int, int]
+
+# The entries of a seat in the order in which they came, or without a name those of all seats.
+EntriesOf = Callable[[str], Iterable[LedgerRow]]
+
+# The seat, the file and the line of a request.
+Place = tuple[str, str, int]
+T = TypeVar("T")
 
 # A chip with an event of it.
 ChipEvent = tuple[str, str]
@@ -59,6 +71,21 @@ class Done:
     def is_of_store(self) -> bool:
         return self.step.file == OF_STORE
 
+    def place(self) -> Place:
+        """Where it stands, by which it is known."""
+        return self.seat, self.step.file, self.step.line or id(self.step)
+
+
+class Ahead(Generic[T]):
+    """What comes one after another, of which the first one is looked at before it is taken. No more is in memory."""
+
+    def __init__(self, its: Iterable[T]):
+        self._rest = iter(its)
+        self.first = next(self._rest, None)
+
+    def popleft(self) -> None:
+        self.first = next(self._rest, None)
+
 
 class NextLines:
     """The lines of a seat's next number, one of which was done: its steps, and the first line that is no step."""
@@ -81,21 +108,19 @@ class NextLines:
         return False
 
 
-def _of_numbers(seat: StoredSeat, lines: Lines, gone: Container[int] = ()) -> dict[int, list[Step]]:
+def _of_numbers(seat: StoredSeat, lines: Lines, is_gone: Callable[[Step], bool]) -> Iterator[list[Step]]:
     """The lines of each number that the store knows of a seat, one of which was done: not a refused one, but where a
-    late copy of it was, and none of `gone`, by `id`."""
-    found = dict[int, list[Step]]()
-    for number in (it for it in sorted(lines) if 0 < it <= seat.last):
+    late copy of it was, and none that is gone."""
+    for number in array("q", sorted(it for it in lines if 0 < it <= seat.last)):
         own = [it for it in lines[number] if it.status in (None, 200) or it.is_stored or it.digest == seat.digest]
-        if own := [it for it in own if id(it) not in gone]:
-            found[number] = _candidates(seat, own)
-    return found
+        if own := [it for it in own if not is_gone(it)]:
+            yield _candidates(seat, own)
 
 
 def _lacking(seat: StoredSeat, numbers: Iterable[int]) -> list[Numbers]:
     """The numbers that the store knows of a seat, and that no line has."""
-    known = [0, *numbers, seat.last + 1]
-    return [(one + 1, other - 1) for one, other in zip(known, known[1:]) if other > one + 1]
+    known = pairwise(chain([0], numbers, [seat.last + 1]))
+    return [(one + 1, other - 1) for one, other in known if other > one + 1]
 
 
 def _candidates(seat: StoredSeat, lines: Sequence[Step]) -> list[Step]:
@@ -147,23 +172,23 @@ class Requests:
         if others := [it.name for it in seats if store.site_seats.get(it.name) != customer]:
             raise NotWhole(f"the site's text, as it is read here, has no seat {others[0]} of it")
         self._maps = {digest for whose, digest, _ in store.maps if whose == customer}
-        numbers = {it.name: _of_numbers(it, lines.get(it.name, {})) for it in seats}
-        odd = {seat for _, seat in bare} | {it.name for it in seats if _lacking(it, numbers[it.name])}
-        for it in (it for it in seats if it.name in odd):
-            gone = {id(line) for own in lines.get(it.name, {}).values() for line in own if self._is_gone(line)}
-            numbers[it.name] = _of_numbers(it, lines.get(it.name, {}), gone)
-        self.lacking = {it.name: gaps for it in seats if (gaps := _lacking(it, numbers[it.name]))}
-        self._queues = {name: deque(its.values()) for name, its in numbers.items()}
-        asked = [(name, its[0]) for name, queue in self._queues.items() for its in queue if not its[0].event]
+        self._odd, self._lines, self.lacking = {seat for _, seat in bare}, lines, dict[str, list[Numbers]]()
+        asked = list[tuple[str, Step]]()
+        for it in seats:
+            gaps, own = self._read(it)
+            if gaps and it.name not in self._odd:
+                self._odd.add(it.name)
+                gaps, own = self._read(it)
+            self.lacking |= {it.name: gaps} if gaps else {}
+            asked += own
+        self._queues = {it.name: Ahead(self._of_seat(it)) for it in seats}
         self._times = ImportTimes(asked)
         self._pools = [list(it) for it in store.pools.get(customer, ())]
-        self._made, self._given = set[str](), set[Key]()
-        chips = store.records("WHERE g.chip IS NOT NULL")
-        self._to_come = {(row["issuer"], row["serial"]) for whose, row in chips if whose == customer}
-        self._awaited = dict[int, list[Key]]()
-        self._own: dict[str, deque[LedgerRow]] = defaultdict(deque)
-        self._next, self._order_of = dict[str, int](), dict[str, str]()
-        self._waited: dict[int, Step] = {}
+        self._made, self._given = set[str](), Known()
+        self._awaited = dict[Place, list[Key]]()
+        self._own = dict[str, Ahead[LedgerRow]]()
+        self._next, self._order_of = dict[str, int](), Known()
+        self._waited: dict[Place, Step] = {}
         self._fronts, self._heads = dict[str, NextLines](), dict[str, Optional[Done]]()
         self.papers, self.repeated = list[Step](), list[Step]()
         self._bare, self.aside = frozenset(chip for chip, _ in bare), dict[str, None]()
@@ -174,6 +199,21 @@ class Requests:
         self._spare = count - papers - sum(seat in self.lacking for _, seat in bare)
         self._is_short, self._is_loose = self._spare < 0, self._spare > 0 or any(it.path == IMPORT for it in self.lent)
         self.leave(self._bare if self.lacking else ())
+
+    def _of_seat(self, seat: StoredSeat) -> Iterator[list[Step]]:
+        is_gone = self._is_gone if seat.name in self._odd else lambda _: False
+        return _of_numbers(seat, self._lines.get(seat.name, {}), is_gone)
+
+    def _read(self, seat: StoredSeat) -> tuple[list[Numbers], list[tuple[str, Step]]]:
+        """Which numbers a seat's lines lack, and those of its lines that are no step of a device."""
+        papers = list[tuple[str, Step]]()
+
+        def numbers() -> Iterator[int]:
+            for its in self._of_seat(seat):
+                papers.extend([] if its[0].event else [(seat.name, its[0])])
+                yield its[0].number
+
+        return _lacking(seat, numbers()), papers
 
     def _is_gone(self, line: Step) -> bool:
         """Whether a line without a reply asks for a paper that the store doesn't have: where lines are missing that of
@@ -199,13 +239,12 @@ class Requests:
         is_loose = self.lacking and (self._is_loose or self.aside)
         return rows if is_loose else self._times.unsure(done.seat, done.step) if rows else 0
 
-    def in_order(self, entries: Sequence[LedgerRow]) -> Iterator[Union[Done, NotLaid]]:
-        """One after another, in an order in which they may have been done, and what isn't so. `entries` come in
+    def in_order(self, entries: EntriesOf) -> Iterator[Union[Done, NotLaid]]:
+        """One after another, in an order in which they may have been done, and what isn't so. Entries come in
         theirs."""
-        for it in entries:
-            self._own[it.row["seat"]].append(it)
-        waiting = deque(entries)
-        while waiting or any(self._queues.values()):
+        self._own = {seat: Ahead(entries(seat)) for seat in self._queues}
+        waiting = Ahead(entries(""))
+        while waiting.first or any(it.first for it in self._queues.values()):
             yield from self._lend_next()
             yield from self._next_done(waiting)
         for step in self._pending:
@@ -225,22 +264,24 @@ class Requests:
         yield done
         self._take(done)
 
-    def _next_done(self, waiting: deque[LedgerRow]) -> Iterator[Union[Done, NotLaid]]:
+    def _next_done(self, waiting: Ahead[LedgerRow]) -> Iterator[Union[Done, NotLaid]]:
         """What was done next, where the entries wait that aren't laid yet."""
-        entry = waiting[0] if waiting else None
+        entry = waiting.first
         if entry and entry.chip in self.aside:
-            yield from self._given_by(waiting.popleft())
+            waiting.popleft()
+            yield from self._given_by(entry)
             return
         heads = self._next_heads()
-        free = sorted((it for it in heads if it.entry is None or it.entry is entry), key=lambda it: it.step.at)
+        free = sorted((it for it in heads if it.entry is None or it.entry == entry), key=lambda it: it.step.at)
         if not free:
-            yield from self._unlaid(entry) if entry or any(self._queues.values()) else ()
+            has_more = entry or any(it.first for it in self._queues.values())
+            yield from self._unlaid(entry) if has_more else ()
             return
         ready = next(filter(self._is_ready, free), None)
         first = ready or free[0]
         self._pop(first.seat)
         self._pass_over(heads, first)
-        yield replace(first, later=self._waited.get(id(first.step))) if ready else first
+        yield replace(first, later=self._waited.get(first.place())) if ready else first
         if first.entry:
             self._own[first.seat].popleft()
             waiting.popleft()
@@ -260,16 +301,17 @@ class Requests:
 
     def _front(self, seat: str) -> Optional[NextLines]:
         """The lines of a seat's next number."""
-        if seat not in self._fronts and self._queues.get(seat):
-            self._fronts[seat] = NextLines(self._queues[seat][0])
+        its = self._queues[seat].first if seat in self._queues else None
+        if seat not in self._fronts and its:
+            self._fronts[seat] = NextLines(its)
         return self._fronts.get(seat)
 
     def _head(self, seat: str) -> Optional[Done]:
         """Which of the lines of a seat's next number was done: the one that its next entry is of, else one without an
         entry. What is of chips that are left aside is passed over."""
         own = self._own[seat]
-        while (lines := self._front(seat)) or own:
-            entry = own[0] if own else None
+        while (lines := self._front(seat)) or own.first:
+            entry = own.first
             step = lines.steps.get((entry.chip, entry.row["event"])) if entry and lines else None
             paper = lines.paper if lines else None
             if entry and entry.chip in self.aside and (step or not paper):
@@ -289,12 +331,12 @@ class Requests:
         for it in heads:
             is_sure = (it.entry is None or first.entry is None) and _is_before(it.step, first.step)
             if is_sure and it.seat != first.seat:
-                self._waited.setdefault(id(it.step), first.step)
+                self._waited.setdefault(it.place(), first.step)
 
     def _unlaid(self, entry: Optional[LedgerRow]) -> Iterator[NotLaid]:
         """Leaves aside what an entry is of that isn't of its seat's next line, or what that is of. Where this is of a
         number that the journals lack nothing is found."""
-        seat = entry.row["seat"] if entry else next(name for name, queue in self._queues.items() if queue)
+        seat = entry.row["seat"] if entry else next(name for name, its in self._queues.items() if its.first)
         lines = self._front(seat)
         chips = {entry.chip} if entry else set[str]()
         if lines and not chips & self._bare:
@@ -319,6 +361,11 @@ class Requests:
         if record and (record["issuer"], record["serial"]) not in self._given:
             rows = [(record["serial"], record["key_sha256"])]
             yield from self._lend(_of_store(IMPORT, issuer=record["issuer"], csv=csv_of(rows)))
+
+    def _is_to_come(self, name: Key) -> bool:
+        """Whether a chip has a serial number in the store."""
+        rows = self._store.records("WHERE g.chip IS NOT NULL AND g.issuer = ? AND g.serial = ?", *name)
+        return any((whose, row["issuer"], row["serial"]) == (self._customer, *name) for whose, row in rows)
 
     def _order(self, name: str) -> Optional[Row]:
         return self._store.orders.get((self._customer, name))
@@ -346,7 +393,7 @@ class Requests:
         if done.entry and step.event == "identified":
             return bool(self._next_of(self._order(self._order_of.get(step.chip, ""))) == done.entry.row["note"])
         if step.path == IMPORT:
-            awaited = self._awaited.setdefault(id(step), [it for it in imported_by(step) if it in self._to_come])
+            awaited = self._awaited.setdefault(done.place(), list(filter(self._is_to_come, imported_by(step))))
             while awaited and awaited[-1] in self._given:
                 awaited.pop()
             return not awaited
@@ -358,7 +405,7 @@ class Requests:
 
     def _changes_nothing(self, step: Step) -> bool:
         """Whether a line asks for a map or an import that is there: the line of a step may have stood there."""
-        is_there = step.path == IMPORT and self._given.issuperset(imported_by(step))
+        is_there = step.path == IMPORT and all(it in self._given for it in imported_by(step))
         return is_there or step.path == MAP and step.digest_of_text() in self._made
 
     def _take(self, done: Done) -> None:
@@ -370,9 +417,11 @@ class Requests:
             self._order_of[step.chip] = str(step.asked.get("order"))
         elif done.entry and step.event == "identified":
             own = self._order(self._order_of.get(step.chip, ""))
-            self._given |= {(own["issuer"], done.entry.row["note"])} if own else set()
+            if own:
+                self._given[own["issuer"], done.entry.row["note"]] = True
         elif step.path == IMPORT:
-            self._given.update(imported_by(step))
+            for name in imported_by(step):
+                self._given[name] = True
         elif step.path == MAP:
             self._made.add(step.digest_of_text())
         elif order:

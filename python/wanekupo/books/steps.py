@@ -10,11 +10,14 @@ import contextlib
 import hashlib
 import io
 import json
-import sys
-from dataclasses import dataclass, field
+from array import array
+from dataclasses import dataclass, field, fields
+from operator import attrgetter
 from pathlib import Path
-from typing import Any, Iterable, Iterator, Mapping, Optional, Union
+from sys import intern
+from typing import Any, Iterable, Iterator, Mapping, Optional, Sequence, Union
 
+from wanekupo.books.scratch import Values
 from wanekupo.common.errors import BadJournal, StationError
 from wanekupo.seat.forms import REPLIES, wrong_in
 from wanekupo.seat.journal import journals_of, named_members, request_digest, seat_named, whole_digest
@@ -68,7 +71,7 @@ MOST_BLOCKS = 64
 WORKS = frozenset(("bits", "keys", "batch1", "batch2", "rest"))
 
 
-def odd_members(path: str, reply: dict[str, Any]) -> str:
+def odd_members(path: str, reply: Mapping[str, Any]) -> str:
     """The names of the members that the reply to an accepted request lacks, has in another form, or has beside those of
     docs/integrate/api.md."""
     forms = REPLIES[path] if path in PATHS else {}
@@ -77,19 +80,10 @@ def odd_members(path: str, reply: dict[str, Any]) -> str:
     return ", ".join(sorted(odd | (reply.keys() - forms.keys() if forms else set())))
 
 
-def _once(it: Any) -> Any:
-    """A member whose texts are in memory but once: those of most chips are alike."""
-    if isinstance(it, list):
-        return [_once(part) for part in it]
-    if isinstance(it, dict):
-        return {name: _once(part) for name, part in it.items()}
-    return sys.intern(it) if isinstance(it, str) else it
-
-
 def part_text(it: Any) -> str:
-    """A part of a reply as its text, which is in memory but once; of one that nests too deep that of no part."""
+    """A part of a reply as its text; of one that nests too deep that of no part."""
     try:
-        return sys.intern(compact_json(it, sort_keys=True))
+        return compact_json(it, sort_keys=True)
     except (ValueError, RecursionError):
         return "0"
 
@@ -119,13 +113,13 @@ class Step:
     line: int
     at: str
     path: str
-    asked: dict[str, Any]
+    asked: Mapping[str, Any]
     digest: str
     seat: str
     operator: str
     answered: str = ""
     status: Optional[int] = None
-    reply: dict[str, Any] = field(default_factory=dict)
+    reply: Mapping[str, Any] = field(default_factory=dict)
     reason: str = ""
     turn: int = 0
     is_lost: bool = False
@@ -133,14 +127,15 @@ class Step:
     is_either: bool = False
     since: str = ""
     odd: str = ""
+    number: int = -1
+    chip: str = ""
+    said: str = ""
+    home: Optional[Steps] = field(init=False, default=None, compare=False, repr=False)
+    place_of: int = field(init=False, default=0, compare=False)
 
-    @property
-    def number(self) -> int:
-        return int(self.asked["nr"])
-
-    @property
-    def chip(self) -> str:
-        return str(self.asked.get("chip", ""))
+    def __post_init__(self) -> None:
+        if self.number < 0:
+            self.number, self.chip = int(self.asked["nr"]), str(self.asked.get("chip", ""))
 
     @property
     def event(self) -> str:
@@ -150,6 +145,8 @@ class Step:
     @property
     def note(self) -> str:
         """The note that the ledger has of it."""
+        if not isinstance(self.reply, dict):
+            return self.said
         member = {"read": "outcome", "identified": "serial"}.get(self.event, "")
         return str(self.reply.get(member, "")) if member else ""
 
@@ -161,15 +158,19 @@ class Step:
         """Leaves away what nobody asks for: journals are long. What is left is a text or a number, or short: whoever
         writes a journal may nest anything, which takes many times its bytes."""
         is_whole = self.path in PATHS and self.event in ("", "identified")
-        asked = self.asked.keys() if is_whole else ASKED
-        self.asked = {name: _once(it) for name, it in self.asked.items() if name in asked}
-        if "wishes" in self.asked:
-            self.asked["wishes"] = part_text(self.asked["wishes"])
-        if "blocks" in self.asked:
-            self.asked["blocks"] = self.asked["blocks"][:MOST_BLOCKS]
+        asked = {name: it for name, it in self.asked.items() if is_whole or name in ASKED}
+        if "wishes" in asked:
+            asked["wishes"] = part_text(asked["wishes"])
+        if "blocks" in asked:
+            asked["blocks"] = asked["blocks"][:MOST_BLOCKS]
         works = {name: part_text(self.reply[name]) for name in WORKS & self.reply.keys()}
         names = REPLIED | REPLIES[self.path].keys() if is_whole else REPLIED
-        self.reply = {**{name: _once(it) for name, it in self.reply.items() if name in names}, **works}
+        self.asked, self.reply = asked, {**{name: it for name, it in self.reply.items() if name in names}, **works}
+
+    def save(self) -> None:
+        """Brings what was changed to where it is kept."""
+        if self.home is not None:
+            self.home.save(self)
 
     def is_done(self) -> bool:
         return self.status == 200
@@ -180,6 +181,62 @@ class Step:
 
     def place(self) -> str:
         return f"line {self.line} of {self.file}" if self.line else self.file
+
+
+# What makes a request again, in the order of its words, but for its members.
+WORDS = [it.name for it in fields(Step) if it.init and it.name not in ("asked", "reply")]
+DATA = attrgetter(*WORDS)
+
+
+class Steps(Sequence[Step]):
+    """The requests of a journal, on the disk but for the last one as long as it is read. Each look makes another
+    object: what is changed of one stays where it is saved."""
+
+    def __init__(self, values: Values):
+        self._values, self._places, self._last = values, array("i"), list[Step]()
+
+    def append(self, step: Step) -> None:
+        self.end()
+        self._last = [step]
+
+    def end(self) -> None:
+        for it in self._last:
+            it.said = it.note
+            self._places.append(self._values.add(DATA(it), (it.asked, it.reply)))
+        self._last = []
+
+    def __len__(self) -> int:
+        return len(self._places) + len(self._last)
+
+    def __getitem__(self, place: Any) -> Any:
+        if isinstance(place, slice):
+            return [self[it] for it in range(*place.indices(len(self)))]
+        if self._last and place in (-1, len(self._places)):
+            return self._last[0]
+        return self.at(self._places[place])
+
+    def at(self, place: int) -> Step:
+        """The request at a place of the disk."""
+        (asked, reply), its = self._values.members(place), self._values.at(place)
+        file, line, at, path, digest, seat, operator, answered, status, *rest = its
+        head = intern(file), line, at, intern(path), asked, digest, intern(seat), intern(operator), answered, status
+        step = Step(*head, reply, *rest)
+        step.home, step.place_of = self, place
+        return step
+
+    def save(self, step: Step) -> None:
+        step.said = step.note
+        self._values.put(step.place_of, "data", DATA(step))
+        if isinstance(step.reply, dict):
+            self._values.put(step.place_of, "members", (dict(step.asked), step.reply))
+
+    def only(self, steps: Iterable[Step]) -> Steps:
+        """These alone, as they are now."""
+        found = Steps(self._values)
+        for it in steps:
+            self.save(it)
+            found._places.append(it.place_of)
+        return found
 
 
 @dataclass(frozen=True)
@@ -209,10 +266,10 @@ class JournalFault:
 @dataclass
 class Book:
     """A seat's journal: its files, its requests in their order, what is wrong with it, and who it is of. `seat` is
-    empty where no line has a name."""
+    empty where no line has a name. Of its times there are the first one, the least, the greatest and the last."""
 
     files: list[str]
-    steps: list[Step] = field(default_factory=list)
+    steps: Steps = field(default_factory=lambda: Steps(Values()))
     resynchronized: list[Resynchronized] = field(default_factory=list)
     faults: list[JournalFault] = field(default_factory=list)
     times: list[str] = field(default_factory=list)
@@ -263,7 +320,7 @@ def _answered(last: Optional[Step], line: Members) -> str:
 def _take(book: Book, file: str, number: int, line: Members) -> None:
     """Adds a line to a journal's requests."""
     _tested_clock(book, file, number, line["at"])
-    book.times.append(line["at"])
+    book.times = [*book.times[:1], min([*book.times, line["at"]]), max([*book.times, line["at"]]), line["at"]]
     seat = line.get("seat", "")
     if seat and book.seat and seat != book.seat:
         book.faults.append(JournalFault(file, number, line["at"], f"is of the seat {seat}, among lines of {book.seat}"))
@@ -281,8 +338,8 @@ def _take(book: Book, file: str, number: int, line: Members) -> None:
         if not is_again:
             if last:
                 last.slim()
-            names = sys.intern(seat or book.seat), sys.intern(line.get("operator", ""))
-            step = Step(file, number, line["at"], sys.intern(line["path"]), asked, digest, *names)
+            names = intern(seat or book.seat), intern(line.get("operator", ""))
+            step = Step(file, number, line["at"], intern(line["path"]), asked, digest, *names)
             step.reason = line.get("reason", "")
             book.steps.append(step)
             if step.number < 1:
@@ -311,9 +368,10 @@ def _others(line: Members, file: Path, seats: Optional[frozenset[str]]) -> str:
 
 @dataclass
 class Room:
-    """How much memory journals may still take: all of them are there at once."""
+    """How much journals may still take, and where they are: all of them are there at once."""
 
     bytes: int = MEMORY
+    values: Values = field(default_factory=Values)
 
     def take(self, path: Path, weight: int) -> None:
         self.bytes -= weight + OF_LINE
@@ -336,7 +394,7 @@ def book_of(files: Iterable[Path], seats: Optional[frozenset[str]] = None, room:
     """A journal of one seat, in the order of its files. Where it is known which seats it may be of a line of another
     one doesn't count, and the first one of a file is told."""
     paths, room = list(files), room or Room()
-    book, told = Book([str(it) for it in paths]), set[tuple[Path, str]]()
+    book, told = Book([str(it) for it in paths], Steps(room.values)), set[tuple[Path, str]]()
     for path in paths:
         last = ""
         for line in _lines_of(path, seats is None, room):
@@ -350,6 +408,7 @@ def book_of(files: Iterable[Path], seats: Optional[frozenset[str]] = None, room:
                 _take(book, str(path), line.number, line.members)
             if len(book.faults) > MOST_FAULTS:
                 raise BadJournal(f"{path} has more than {MOST_FAULTS} faults", "Look whether it is a journal.")
+    book.steps.end()
     return book
 
 
@@ -366,7 +425,7 @@ def shipped_books(path: Path, folders: Folders, memory: int = MEMORY) -> list[Bo
     found, room = dict[Path, list[Book]](), Room(memory)
     its = sorted(stations_folders(path, folders), key=_size_of)
     for place, it in enumerate(its):
-        own, found[it] = Room(room.bytes // (len(its) - place)), []
+        own, found[it] = Room(room.bytes // (len(its) - place), room.values), []
         room.bytes -= own.bytes
         try:
             groups = journals_of(journals_below(it, ENDINGS), is_shipped=True)

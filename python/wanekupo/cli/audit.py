@@ -47,7 +47,7 @@ def _add_arguments(parser: argparse.ArgumentParser) -> None:
     parser.add_argument("--json", action="store_true", help=said)
     told = "the proved program that answers the lines once more, by its path where PATH doesn't have it (%(default)s)"
     parser.add_argument("--program", default="station", metavar="P", help=told)
-    said = "how many GB of memory the journals may take (%(default)s); the rest of an audit takes about as much"
+    said = "how many GB the journals may be, with 0.7 KB more for each line (%(default)s); a seat's are in memory"
     parser.add_argument("--memory", type=int, default=MEMORY >> 30, metavar="GB", help=said)
     add_signer(parser)
 
@@ -77,7 +77,7 @@ def _nothing_of(period: Period, journals: Iterable[Book]) -> tuple[str, str]:
 def _behind(store: Books, journals: Iterable[Book], period: Period) -> str:
     """A sentence where lines have numbers behind the last one that the store knows of their seat, or nothing."""
     own = [it for it in (seated(book, store) for book in journals) if it.seat in store.seats]
-    steps = [(it.at, it.number > store.seats[made.seat].last) for made in own for it in made.book.steps]
+    steps = ((it.at, it.number > store.seats[made.seat].last) for made in own for it in made.book.steps)
     late = sorted(at for at, is_late in steps if is_late and period.has(at))
     if not late:
         return ""

@@ -13,6 +13,7 @@ from typing import Optional, Sequence
 
 from wanekupo import __version__
 from wanekupo.cli import change_commands as asking
+from wanekupo.cli import apart
 from wanekupo.cli import audit
 from wanekupo.bench import bench
 from wanekupo.lots import certificates
@@ -73,6 +74,7 @@ EXAMPLES = {
     "verify": "verify spool/T0001.pem --trusted acme-ca/ca.pem",
     "shift": "shift acme=line1.journal --from 2026-12-01T06:00 --to 2026-12-01T14:00 --html shift.html",
     "seal": "seal acme-seals --customer acme --minisign seals.key",
+    "apart": "apart one/000007.rows two/000007.rows",
     "audit": "audit copy/books.db journals/ --from 2026-12-01T00:00Z --to 2026-12-02T00:00Z --html audit.html",
     "events": "events journals/ --cfx --kept given.json --post https://mes.example/cfx",
     "metrics": "metrics --to wanekupo.prom --kept kept.json --tokens /etc/station/metrics",
@@ -89,6 +91,7 @@ COMMANDS = [
     *certificates.COMMANDS,
     *shift_report.COMMANDS,
     *seal.COMMANDS,
+    *apart.COMMANDS,
     *audit.COMMANDS,
     *events.COMMANDS,
     *metrics.COMMANDS,
