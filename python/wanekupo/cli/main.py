@@ -17,6 +17,7 @@ from wanekupo.cli import audit
 from wanekupo.bench import bench
 from wanekupo.lots import certificates
 from wanekupo.cli import events
+from wanekupo.cli import look
 from wanekupo.cli import show_commands as looking
 from wanekupo.lots import manifest
 from wanekupo.metrics import prometheus_file as metrics
@@ -73,6 +74,7 @@ EXAMPLES = {
     "verify": "verify spool/T0001.pem --trusted acme-ca/ca.pem",
     "shift": "shift acme=line1.journal --from 2026-12-01T06:00 --to 2026-12-01T14:00 --html shift.html",
     "seal": "seal acme-seals --customer acme --minisign seals.key",
+    "look": "look 2026/books.db find 24:0a:c4:00 --customer acme",
     "audit": "audit copy/books.db journals/ --from 2026-12-01T00:00Z --to 2026-12-02T00:00Z --html audit.html",
     "events": "events journals/ --cfx --kept given.json --post https://mes.example/cfx",
     "metrics": "metrics --to wanekupo.prom --kept kept.json --tokens /etc/station/metrics",
@@ -89,6 +91,7 @@ COMMANDS = [
     *certificates.COMMANDS,
     *shift_report.COMMANDS,
     *seal.COMMANDS,
+    *look.COMMANDS,
     *audit.COMMANDS,
     *events.COMMANDS,
     *metrics.COMMANDS,
