@@ -1,9 +1,11 @@
-"""station-site close: a year's store that is ended, over a served store of another user.
+"""station-site close and successor: a year's store that is ended, and the next one, over a served store of another
+user.
 
 A device that is under way is named, and nothing is closed then. A closed site has no token that may more than look. Its
 books are in a folder of root's, whose list sha256sum(1) takes, whose numbers are those of the server's reports, and of
 which `look` shows what the server showed. A close that is killed right before one of its deeds and begun again ends as
-one that nobody cut.
+one that nobody cut. The next site shares no name and no address with what the first gave, says the program of both
+texts joined; its program knows the seats by their new tokens alone, and gives the address behind the last one.
 """
 
 import csv
@@ -12,6 +14,7 @@ import os
 import subprocess
 import tempfile
 import time
+import tomllib
 from collections.abc import Iterator
 from pathlib import Path
 
@@ -20,7 +23,7 @@ import pytest
 from common.chip import CHIP, steps
 from common.commands import command, copy_project
 from common.deployed import TOOL, expect
-from common.served import Caller
+from common.served import Caller, Server, station
 from plant.house import House, was_killed
 
 pytestmark = [pytest.mark.root, pytest.mark.needs("curl", "sqlite3", "flock")]
@@ -115,7 +118,8 @@ def test_under_way(house: House) -> None:
 
 def counts_of(house: House, name: str) -> dict[str, int]:
     """What the server's report says of a customer's devices, without what isn't there."""
-    (row,) = [it for it in csv.DictReader(asked(house, "test", "/v1/site/report").splitlines()) if it["customer"] == name]
+    rows = csv.DictReader(asked(house, "test", "/v1/site/report").splitlines())
+    (row,) = [it for it in rows if it["customer"] == name]
     states = {state: int(row[state]) for state in ("shipped", "quarantined", "scrapped") if int(row[state])}
     return {"orders": int(row["orders"]), "serials": int(row["quantity"]) - int(row["serials_left"]), "devices": states}
 
@@ -150,8 +154,9 @@ def test_closed(house: House) -> None:
     is_closed(house)
     stops = house.folder.joinpath("stops").read_text()
     again = close(house)
-    words = f"was closed at {json.loads((house.folder / FOLDER / 'closed.json').read_text())['at']}; its books are in"
-    expect(again.said, (again.status, words in again.said, house.folder.joinpath("stops").read_text()), (0, True, stops))
+    at = json.loads((house.folder / FOLDER / "closed.json").read_text())["at"]
+    expect(again.said, (again.status, f"was closed at {at}; its books are in" in again.said), (0, True))
+    expect("stops", house.folder.joinpath("stops").read_text(), stops)
     grown = house.run("add-seat", "acme", "a2", "--apply")
     expect(grown.said, (grown.status, "is closed" in grown.said), (1, True))
     more = token(house, "add", "a1")
@@ -222,3 +227,102 @@ def killed_at(made: House, at: int) -> int:
             return cut.deeds if was_killed(cut) or not at else 0
         finally:
             house.end()
+
+
+# ---- the next site
+
+NEW = "site-2.toml"
+
+
+@pytest.fixture
+def closed(house: House) -> House:
+    work(house, steps()[-1:])
+    run = close(house)
+    expect(run.said, run.status, 0)
+    return house
+
+
+def follow(house: House, *words: str):
+    return house.run("successor", str(house.folder / NEW), "--suffix", "2", "--to", str(house.given), *words)
+
+
+def test_before_the_end(house: House) -> None:
+    run = follow(house)
+    expect(run.said, (run.status, "isn't closed" in run.said, house.folder.joinpath(NEW).exists()), (1, True, False))
+
+
+def customers(house: House, name: str = NEW) -> dict[str, dict]:
+    return {it["name"]: it for it in tomllib.loads((house.folder / name).read_text())["customer"]}
+
+
+def test_successor(closed: House, port: int) -> None:
+    house, before = closed, customers(closed, "site.toml")
+    order = json.loads(asked(house, "abc", "/v1/order?name=o1"))
+    run = follow(house, "--server", f"127.0.0.1:{port}")
+    expect(run.said, run.status, 0)
+    made = customers(house)
+    expect("customers", [(it["name"], it["issuer"], [seat["name"] for seat in it["seat"]]) for it in made.values()],
+           [(f"{name}-2", [f"{one}-2" for one in it["issuer"]], [f"{seat['name']}-2" for seat in it["seat"]])
+            for name, it in before.items()])  # fmt: skip
+    given = order["quantity"] * order["macs"]
+    begin, count = int(order["mac"], 16) + given, before["acme"]["pool"][0]["count"] - given
+    rest = {"first": f"{begin:012x}", "count": count}
+    expect("the rest", made["acme-2"]["pool"], [rest, *before["acme"]["pool"][1:]])
+    joined = house.folder / "joined.toml"
+    parts = [house.folder / name for name in (NEW, "site.spent.toml")]
+    joined.write_text("\n".join(it.read_text().partition("[manager]")[0] for it in parts))
+    expect("joined", subprocess.run([house.program, "check-site", joined], check=False).returncode, 0)
+    serve_next(house, port)
+    text, records = (house.folder / NEW).read_text(), house.records()
+    again = follow(house, "--server", f"127.0.0.1:{port}")
+    expect(again.said, (again.status, (house.folder / NEW).read_text(), house.records()), (0, text, records))
+
+
+def serve_next(house: House, port: int) -> None:
+    """The next program knows its own seats alone, and its first order gets the first address of the rest."""
+    seats, outers = house.records()
+    expect("where nginx asks", {seats[f"{it}-2"]["server"] for it in SEATS}, {f"127.0.0.1:{port}"})
+    texts = {it["seat"]: it["text"] for it in outers if not it["looks"] and not it["ended"]}
+    expect("outer tokens", texts, {f"{it}-2": (house.given / f"{it}-2.token").read_text().strip() for it in SEATS})
+    words = station(str(house.program), str(house.folder / NEW), str(house.folder / "next.db"), port)
+    server = Server(words, port).wait(Server.is_answering)
+    try:
+        (_, order) = next(it for it in steps() if it[0] == "/v1/order")
+        members = order | {"nr": 1, "issuer": "acme-ca-2"}
+        for token_of, status in (("abc", 401), (seats["a1-2"]["inner"], 200)):
+            caller = Caller(port, token_of)
+            found, body = caller.ask("POST", "/v1/order", members)
+            caller.close()
+            expect("who is known", found, status)
+        expect("an address", json.loads(body)["mac"], customers(house)["acme-2"]["pool"][0]["first"])
+    finally:
+        server.kill()
+
+
+def test_kept_issuers(closed: House) -> None:
+    run = follow(closed, "--keep-issuers")
+    expect(run.said, (run.status, "import" in run.said), (0, True))
+    wanted = [it["issuer"] for it in customers(closed, "site.toml").values()]
+    expect("issuers", [it["issuer"] for it in customers(closed).values()], wanted)
+
+
+OTHER = """[[customer]]
+name = "{}"
+issuer = []
+[[customer.pool]]
+first = "{}"
+count = 1
+"""
+
+
+@pytest.mark.parametrize(("name", "first", "said"), [
+    ("acme-2", "0200000f0000", "the customer acme-2"), ("far", "020000000013", "the addresses 020000000013 to"),
+])  # fmt: skip
+def test_others(closed: House, name: str, first: str, said: str) -> None:
+    """What another store of the house has is refused, and no seat is made."""
+    other = closed.folder / "other.toml"
+    other.write_text(OTHER.format(name, first))
+    before = closed.records()
+    run = follow(closed, "--other-site", str(other))
+    expect(run.said, (run.status, said in run.said, closed.records() == before), (1, True, True))
+    expect("a text", closed.folder.joinpath(NEW).exists(), False)

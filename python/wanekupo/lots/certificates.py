@@ -60,10 +60,10 @@ def add_verify(parser: argparse.ArgumentParser) -> None:
 
 class DevicesBySerial:
     """The devices of some serial numbers, by one reading of the customer's list. A serial number of several issuers is
-    that of the one that is named."""
+    that of one that is named, if any are."""
 
-    def __init__(self, station: Station, serials: Iterable[str], issuer: Optional[str]):
-        self._station, self._issuer, self._wanted = station, issuer, set(serials)
+    def __init__(self, station: Station, serials: Iterable[str], issuers: Sequence[str]):
+        self._station, self._issuers, self._wanted = station, issuers, set(serials)
 
     @functools.cached_property
     def _listed(self) -> Mapping[str, list[Listed]]:
@@ -77,9 +77,9 @@ class DevicesBySerial:
     def record(self, serial: str) -> tuple[Listed, Mapping[str, Any]]:
         """The device of a serial number, and its record."""
         found = [(it, gathering.record(self._station, it.chip)) for it in self._listed[serial]]
-        found = [it for it in found if self._issuer in (None, it[1]["issuer"])]
+        found = [it for it in found if not self._issuers or it[1]["issuer"] in self._issuers]
         if not found:
-            of = f" of {self._issuer}" if self._issuer else ""
+            of = f" of {' or '.join(self._issuers)}" if self._issuers else ""
             told = "Look whose it is: a token sees the devices of its own customer."
             raise NotCertified(f"this customer has no device with the serial number {serial}{of}", told)
         if len(found) > 1:
@@ -103,10 +103,11 @@ def certify(settings: Settings, args: argparse.Namespace) -> int:
         Authority(Path(args.ca_folder), settings.profile, args.sign_with) as authority,
         looking_station_of(settings) as station,
     ):
-        if args.issuer and authority.issuer() not in (None, args.issuer):
+        issuers = authority.issuers()
+        if args.issuer and args.issuer not in (issuers or [args.issuer]):
             told = "Take that one's folder, or leave --issuer away."
-            raise BadSettings(f"{args.ca_folder} certifies for {authority.issuer()}, and not for {args.issuer}", told)
-        books = DevicesBySerial(station, serials, args.issuer or authority.issuer())
+            raise BadSettings(f"{args.ca_folder} certifies for {', '.join(issuers)}, and not for {args.issuer}", told)
+        books = DevicesBySerial(station, serials, [args.issuer] if args.issuer else issuers)
         try:
             with Progress("requests") as shown:
                 for serial in gathering.watched(serials, shown, len(serials)):
@@ -204,7 +205,7 @@ def verify_certificates(settings: Settings, args: argparse.Namespace) -> int:
     chains = {name: _chain_of(name) for name in dict.fromkeys(args.certificates)}
     serials = {name: _serial_of(chain[0]) for name, chain in chains.items() if chain}
     with looking_station_of(settings) as station:
-        books = DevicesBySerial(station, filter(None, serials.values()), args.issuer)
+        books = DevicesBySerial(station, filter(None, serials.values()), [args.issuer] if args.issuer else [])
         refused = sum(chain is None for chain in chains.values())
         for name, chain in chains.items():
             try:

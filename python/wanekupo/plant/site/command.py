@@ -9,6 +9,7 @@
     station-site check FILE                        where a site or a map is wrong, and why, by the program
     station-site diff OLD NEW                      what NEW adds, in words; 1 where something goes
     station-site close FOLDER                      ends all work: seals the books, which lie in FOLDER then
+    station-site successor NEW --suffix 2          the next site of a closed one, with the rest of its addresses
 
 An `add` prepares: it writes the new text beside the site file, as site.next.toml, tests it, and stops nothing. It may
 be given again, and others add to it. With `--apply` the steps of `apply` follow. Before `apply` all of it can be given
@@ -39,6 +40,7 @@ from wanekupo.plant.site.closing import close
 from wanekupo.plant.site.growth import with_customer, with_items
 from wanekupo.plant.site.place import Place, text_in
 from wanekupo.plant.site.plan import PREPARED, GrowthPlan, SeatWish, drop_plan, keep_plan, read_plan
+from wanekupo.plant.site.successor import successor
 from wanekupo.plant.site.trials import checked, is_map, tested_growth, tested_others, tried_over_copy
 from wanekupo.common.rooms import ROOMS
 from wanekupo.common.signing import add_signer
@@ -275,7 +277,8 @@ def diff(args: argparse.Namespace, place: Place) -> None:
 
 
 COMMANDS = {"add-customer": add, "add-seat": add, "add-pool": add, "add-issuer": add, "apply": apply_command,
-            "drop": drop, "check": check, "diff": diff, "close": close}  # fmt: skip
+            "drop": drop, "check": check, "diff": diff, "close": close,
+            "successor": successor}  # fmt: skip
 
 
 # ---- words
@@ -328,7 +331,13 @@ def parser() -> argparse.ArgumentParser:
         under[name].add_argument("--holder", default="", metavar="TEXT", help="who gets the token, for its list")
         under[name].add_argument("--to", default=".", metavar="FOLDER", help="where SEAT.token is made (here)")
         under[name].add_argument("--no-token", action="store_true", help="no outer tokens for these seats")
-    for name in (*adding, "apply", "check"):
+    under["successor"].add_argument("new", help="the new site file")
+    said = "comes with a - behind the names of customers, seats and issuers"
+    under["successor"].add_argument("--suffix", required=True, type=lambda it: f"-{it}", help=said)
+    under["successor"].add_argument("--keep-issuers", action="store_true", help="the issuers' names stay as they are")
+    under["successor"].add_argument("--server", default="127.0.0.1:881", help="where its program will be (%(default)s)")
+    under["successor"].add_argument("--to", default=".", metavar="FOLDER", help="where SEAT.token is made (here)")
+    for name in (*adding, "apply", "check", "successor"):
         under[name].add_argument("--other-site", action="append", default=[], metavar="FILE", help="another store's")
     under["check"].add_argument("file")
     under["close"].add_argument("folder", help="a new folder, in one of root's, for the closed books")
