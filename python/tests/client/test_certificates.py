@@ -477,6 +477,5 @@ class TwoIssuers(CertificateCase):
         self.assertEqual((self.ca / "ca.pem").read_bytes(), anchor)
 
 
-
 if __name__ == "__main__":
     unittest.main()

@@ -10,7 +10,7 @@ import os
 from bisect import bisect_right
 from collections import Counter
 from pathlib import Path
-from typing import Any, Iterator, Mapping, Optional, Protocol
+from typing import Any, Iterator, Mapping, Optional
 
 from wanekupo.books.lines import COMPACT, NAMES, WORDS, BadRow, line_parts
 from wanekupo.books.store import StoreCopy, is_store
@@ -28,27 +28,8 @@ class NotShown(StationError):
     """What these books don't have: a customer, or what only a plant's own rows say."""
 
 
-class Source(Protocol):
-    """What has books: rows in the words of the API, of one customer at a time, in the order of their keys."""
-
-    def has(self, customer: str) -> bool: ...
-    def device(self, customer: str, chip: str) -> Optional[Row]: ...
-    def entries(self, customer: str, chip: str) -> Iterator[Row]: ...
-    def orders(self, customer: str) -> list[Row]: ...
-    def record(self, customer: str, issuer: str, serial: str) -> Optional[Row]: ...
-    def states(self, customer: str) -> Counter[tuple[str, str]]: ...
-    def serials(self, customer: str, order: Row) -> Iterator[str]: ...
-    def given(self, customer: str, parts: tuple[str, ...]) -> Iterator[Row]: ...
-    def unnamed(self, customer: str, part: str) -> Iterator[str]: ...
-    def close(self) -> None: ...
-
-
-def source_of(file: Path) -> Source:
-    return StoreSource(file) if is_store(file) else RowsSource(file)
-
-
-class StoreSource:
-    """A copy of a store. Each method is that of `Source`."""
+class StoreBooks:
+    """A copy of a store: rows in the words of the API, of one customer at a time, in the order of their keys."""
 
     def __init__(self, file: Path):
         self._store = StoreCopy(file)
@@ -89,8 +70,8 @@ class StoreSource:
         return (chip for (chip,) in self._store.rows(sql, customer, part))
 
 
-class RowsSource:
-    """A file of a seal's rows. Each method is that of `Source`. A customer's own rows have no imports."""
+class SealBooks:
+    """A file of a seal's rows, which says the same. A customer's own rows have no imports."""
 
     def __init__(self, file: Path):
         self.file = file
@@ -194,6 +175,13 @@ class RowsSource:
                 yield chip
 
 
+ClosedBooks = StoreBooks | SealBooks
+
+
+def books_in(file: Path) -> ClosedBooks:
+    return StoreBooks(file) if is_store(file) else SealBooks(file)
+
+
 # ---- the documents
 
 
@@ -206,58 +194,58 @@ def _text(kind: str, row: Mapping[str, Any]) -> str:
     return COMPACT.encode({name: row[name] for name in NAMES[kind]})
 
 
-def _device(source: Source, customer: str, chip: str) -> Row:
-    found = source.device(customer, chip)
+def _device(books: ClosedBooks, customer: str, chip: str) -> Row:
+    found = books.device(customer, chip)
     if found is None:
         raise Refused(404, {"error": "unknown_device", "no": 15})
     return found
 
 
-def device(source: Source, customer: str, chip: str) -> str:
-    return _text("device", _device(source, customer, chip))
+def device_text(books: ClosedBooks, customer: str, chip: str) -> str:
+    return _text("device", _device(books, customer, chip))
 
 
-def ledger(source: Source, customer: str, chip: str) -> str:
-    _device(source, customer, chip)
+def ledger_text(books: ClosedBooks, customer: str, chip: str) -> str:
+    _device(books, customer, chip)
     names = NAMES["entry"]
-    entries = [{name: row[name] for name in names} for row in source.entries(customer, chip)]
+    entries = [{name: row[name] for name in names} for row in books.entries(customer, chip)]
     return COMPACT.encode({"chip": chip, "entries": entries})
 
 
-def identity(source: Source, customer: str, chip: str) -> str:
+def identity_text(books: ClosedBooks, customer: str, chip: str) -> str:
     """A device's record, of the issuer of its order."""
-    found = _device(source, customer, chip)
-    issuer = next((it["issuer"] for it in source.orders(customer) if it["name"] == found["order"]), "")
-    record = source.record(customer, issuer, found["serial"]) if found["serial"] else None
+    found = _device(books, customer, chip)
+    issuer = next((it["issuer"] for it in books.orders(customer) if it["name"] == found["order"]), "")
+    record = books.record(customer, issuer, found["serial"]) if found["serial"] else None
     if record is None:
         raise Refused(409, {"error": "wrong_state", "no": 17})
     return _text("record", {"not_before": None, **record})
 
 
-def report(source: Source, customer: str) -> str:
+def report_text(books: ClosedBooks, customer: str) -> str:
     """The customer's report, whose numbers that are left are those of which none is given, by whomever."""
     counts: Counter[tuple[str, str]] = Counter()
-    for (order, state), count in source.states(customer).items():
+    for (order, state), count in books.states(customer).items():
         counts[order, reported(state)] += count
     lines = [",".join(("order", "quantity", *REPORTED, "serials_left"))]
-    for order in sorted(source.orders(customer), key=lambda it: str(it["name"])):
+    for order in sorted(books.orders(customer), key=lambda it: str(it["name"])):
         length, width = len(ends_of(order)[0]), order["width"]
-        own = (it for it in source.serials(customer, order) if len(it) == length and it[-width:].isdecimal())
+        own = (it for it in books.serials(customer, order) if len(it) == length and it[-width:].isdecimal())
         left = order["quantity"] - sum(1 for _ in own)
         by_state = (counts[order["name"], state] for state in REPORTED)
         lines.append(",".join(map(str, (order["name"], order["quantity"], *by_state, left))))
     return "".join(f"{line}\n" for line in lines)
 
 
-def found(source: Source, customer: str, part: str) -> Iterator[Row]:
+def found_rows(books: ClosedBooks, customer: str, part: str) -> Iterator[Row]:
     """The records, the imported numbers and the chips without a number of which a serial number, an address or the
     chip's name has this part, an address with or without its colons."""
-    digits, blocks = part.replace(":", "").lower(), _blocks(source.orders(customer))
+    digits, blocks = part.replace(":", "").lower(), _blocks(books.orders(customer))
     is_one_each = all(count <= 1 for _, count in blocks)
-    for row in source.given(customer, (part.upper(), digits) if is_one_each else ()):
+    for row in books.given(customer, (part.upper(), digits) if is_one_each else ()):
         if part.upper() in row["serial"] or any(digits in it for it in (row["chip"] or "", *_addresses(row, blocks))):
             yield {name: row[name] for name in ("chip", "issuer", "mac", "serial")}
-    for chip in source.unnamed(customer, digits):
+    for chip in books.unnamed(customer, digits):
         yield {"chip": chip, "issuer": None, "mac": None, "serial": None}
 
 

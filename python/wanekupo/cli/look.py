@@ -8,7 +8,7 @@ from pathlib import Path
 from typing import Callable
 
 from wanekupo.books import documents
-from wanekupo.books.documents import NotShown, Source
+from wanekupo.books.documents import ClosedBooks, NotShown
 from wanekupo.books.lines import KEY
 from wanekupo.common.errors import BadSettings, Refused
 from wanekupo.common.printing import print_shown, say_json
@@ -18,10 +18,10 @@ from wanekupo.seat.settings import Settings
 DONE, NOT_THERE = 0, 1
 
 # The documents of a chip, which are lines of JSON.
-OF_CHIP: dict[str, Callable[[Source, str, str], str]] = {
-    "device": documents.device,
-    "identity": documents.identity,
-    "ledger": documents.ledger,
+OF_CHIP: dict[str, Callable[[ClosedBooks, str, str], str]] = {
+    "device": documents.device_text,
+    "identity": documents.identity_text,
+    "ledger": documents.ledger_text,
 }
 REPORT, FIND = "report", "find"
 
@@ -57,27 +57,27 @@ def _look(_: Settings, args: argparse.Namespace) -> int:
         return _found(files, args.customer, word)
     if len(files) > 1 or len(args.customer) > 1:
         raise BadSettings(f"several files or customers are named, and only {FIND} takes them", "Name one of each.")
-    with contextlib.closing(documents.source_of(files[0])) as source:
-        if not source.has(args.customer[0]):
+    with contextlib.closing(documents.books_in(files[0])) as books:
+        if not books.has(args.customer[0]):
             raise NotShown(f"{files[0]} has nothing of a customer {args.customer[0]}", "Look at the name.")
         try:
-            print_shown(_document(source, args.customer[0], kind, chip_word(word)))
+            print_shown(_document(books, args.customer[0], kind, chip_word(word)))
         except Refused as refused:
             say_json(refused.body)
             return NOT_THERE
     return DONE
 
 
-def _document(source: Source, customer: str, kind: str, chip: str) -> str:
-    return documents.report(source, customer) if kind == REPORT else OF_CHIP[kind](source, customer, chip) + "\n"
+def _document(books: ClosedBooks, customer: str, kind: str, chip: str) -> str:
+    return documents.report_text(books, customer) if kind == REPORT else OF_CHIP[kind](books, customer, chip) + "\n"
 
 
 def _found(files: list[Path], customers: list[str], text: str) -> int:
     """Prints what is found, a line each."""
     count = 0
     for file, customer in ((file, customer) for file in files for customer in customers):
-        with contextlib.closing(documents.source_of(file)) as source:
-            for count, row in enumerate(documents.found(source, customer, text), count + 1):
+        with contextlib.closing(documents.books_in(file)) as books:
+            for count, row in enumerate(documents.found_rows(books, customer, text), count + 1):
                 print_shown(documents.found_line(row, customer, file) + "\n")
     return DONE if count else NOT_THERE
 

@@ -53,7 +53,7 @@ UNDER_WAY = f"FROM device WHERE state NOT IN {FINISHED}"
 
 
 @dataclass(frozen=True)
-class Wish:
+class ClosingWish:
     """Where the closed books will be, who signs them, and who stamps their seal."""
 
     folder: Path
@@ -91,7 +91,7 @@ def write_rows(copy: Path, file: Path) -> None:
         out.writelines(f"{row}\n".encode("ascii") for row in lines_of(Books(store)))
 
 
-def numbers_of(place: Place, copy: Path) -> dict[str, Any]:
+def numbers_told(place: Place, copy: Path) -> dict[str, Any]:
     """The numbers of each customer, held to their form; an error that names each device that is under way."""
     file = copy.with_name("numbers.json")
     place.user.call(lambda: write_numbers(copy, file), seconds=LONGEST)
@@ -131,7 +131,7 @@ def rows_in(folder: StoreFolder) -> Iterator[str]:
         yield from (row.removesuffix("\n") for row in rows)
 
 
-def fill(wish: Wish, place: Place, copy: Path, numbers: dict[str, Any]) -> str:
+def fill_folder(wish: ClosingWish, place: Place, copy: Path, numbers: dict[str, Any]) -> str:
     """The books, their seal, the numbers and the list of all in a new folder. Gives the numbers' text."""
     text, made, rows = text_in(place.site), wish.begun, copy.with_name("closed.rows")
     made.mkdir(mode=0o700)
@@ -204,7 +204,7 @@ def tell_closed(place: Place) -> None:
         say(f"{name}: {counts}; {states}")
 
 
-def wish_of(args: argparse.Namespace) -> Wish:
+def wish_of(args: argparse.Namespace) -> ClosingWish:
     """What the words of a command wish for: a folder that isn't there, in one of root's, and who signs and stamps."""
     folder = Path(args.folder).absolute()
     if not folder.parent.is_dir():
@@ -214,7 +214,7 @@ def wish_of(args: argparse.Namespace) -> Wish:
         raise TokenError(1, f"{folder} is there already: name another one")
     if bool(args.tsa) != bool(args.tsa_ca):
         raise TokenError(1, "a time stamp lacks a word: --tsa URL with --tsa-ca FILE")
-    return Wish(folder, signer_of(args), Service(args.tsa, Path(args.tsa_ca)) if args.tsa else None)
+    return ClosingWish(folder, signer_of(args), Service(args.tsa, Path(args.tsa_ca)) if args.tsa else None)
 
 
 def close(args: argparse.Namespace, place: Place) -> None:
@@ -229,7 +229,7 @@ def close(args: argparse.Namespace, place: Place) -> None:
         tell_closed(place)
 
 
-def closed_up(wish: Wish, args: argparse.Namespace, place: Place) -> str:
+def closed_up(wish: ClosingWish, args: argparse.Namespace, place: Place) -> str:
     """All steps that want a server that is stopped, which is started again then for those who look. Gives the mark's
     text: until the mark is there nothing is closed."""
     is_stopped, said = place.service(place.args.stop)
@@ -241,7 +241,7 @@ def closed_up(wish: Wish, args: argparse.Namespace, place: Place) -> str:
         with place.copied(place.db, 2 * place.size()) as copy:  # and its rows
             if said := place.store_refusal(text_in(place.site), copy):
                 raise TokenError(1, f"the program doesn't open a copy of the store: {said}")
-            data = fill(wish, place, copy, numbers_of(place, copy))
+            data = fill_folder(wish, place, copy, numbers_told(place, copy))
         end_tokens(args, place, set(json.loads(data)["seats"]))
         return data
     finally:

@@ -72,7 +72,7 @@ def made_seat(args: argparse.Namespace, place: Place, name: str, customer: str) 
     return known(place).seats[name]
 
 
-def text_of(args: argparse.Namespace, place: Place, first: Site, following: Site, is_trial: bool) -> str:
+def next_text(args: argparse.Namespace, place: Place, first: Site, following: Site, is_trial: bool) -> str:
     """The next site's text. For a trial no token is made, and digests stand in that none has."""
     for customer in following.customers.values():
         for name in customer.seats:
@@ -116,7 +116,7 @@ def successor(args: argparse.Namespace, place: Place) -> None:
         put(spent, joined([gone]))
         others = [str(spent), *args.other_site]
         for is_trial in (True, False):
-            text = text_of(args, place, first, following, is_trial)
+            text = next_text(args, place, first, following, is_trial)
             tested_site(place, text, str(new))
             tested_others(place, text, others)
         if new.exists() and text_in(new) != text:
