@@ -47,7 +47,7 @@ class Shown:
             caller = Caller(port, TOKENS[seat])
             self._ask(caller, customer, "report", "report")
             listed = json.loads(caller.ask("GET", "/v1/devices?after=")[1])
-            for chip in [it["chip"] for it in listed["devices"]] + ["00ff00ff00ff"]:
+            for chip in [it["chip"] for it in listed["devices"]] + ["00ff00ff00ff", "00FF00FF00FF", "1"]:
                 for kind in OF_CHIP:
                     self._ask(caller, customer, f"{kind}?chip={chip}", kind, chip)
             caller.close()
@@ -86,7 +86,7 @@ def test_replies(served, look):
     replies = served[0]
     states = {json.loads(it)["state"] for key, it in replies.bodies.items() if key[1] == "device"}
     assert states == set(STATES), "the plant has devices in each state"
-    assert {json.loads(it)["no"] for it in replies.refused.values()} == {15, 17}
+    assert {json.loads(it)["no"] for it in replies.refused.values()} == {10, 15, 17}
     for meant, bodies in enumerate((replies.bodies, replies.refused)):
         for (customer, kind, *chip), body in bodies.items():
             status, told = look(customer, kind, *chip)

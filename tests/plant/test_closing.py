@@ -11,6 +11,7 @@ texts joined; its program knows the seats by their new tokens alone, and gives t
 import csv
 import json
 import os
+import shutil
 import subprocess
 import tempfile
 import time
@@ -164,6 +165,50 @@ def test_closed(house: House) -> None:
     expect("one that looks", token(house, "add", "a1", "--look").returncode, 0)
 
 
+def test_put_back(house: House) -> None:
+    """Both files of the folder in the store's place are the store, and it stays closed."""
+    work(house, steps()[-1:])
+    expect("closed", close(house).status, 0)
+    before = [asked(house, "abc", f"/v1/{it}") for it in (f"device?chip={CHIP}", f"ledger?chip={CHIP}", "report")]
+    house.end()
+    for name in ("books.db", "books.db-wal"):
+        house.db.with_name(name).unlink()
+        shutil.copy(house.folder / FOLDER / name, house.db.parent)
+        shutil.chown(house.db.with_name(name), house.owner, "nogroup")
+    start(house)
+    after = [asked(house, "abc", f"/v1/{it}") for it in (f"device?chip={CHIP}", f"ledger?chip={CHIP}", "report")]
+    expect("what is shown", after, before)
+    expect("tokens", (open_tokens(house), token(house, "add", "b1").returncode), (LOOKS, 1))
+
+
+@pytest.mark.nginx
+def test_deployed(house: House) -> None:
+    """Through nginx a token that may all is 401 from then on, and one that looks is answered."""
+    work(house, steps()[-1:])
+    texts = {it["looks"]: it["text"] for it in house.records()[1] if it["seat"] == "a1"}
+    nginx = house.proxied()
+    try:
+        expect("before", [through(house, texts[looks]) for looks in (False, True)], [200, 200])
+        run = close(house)
+        expect(run.said, run.status, 0)
+        end = time.monotonic() + 15  # a worker of before the reload may answer
+        while through(house, texts[False]) != 401 and time.monotonic() < end:
+            time.sleep(0.2)
+        expect("after", [through(house, texts[looks]) for looks in (False, True)], [401, 200])
+    finally:
+        nginx.terminate()
+        nginx.wait()
+
+
+def through(house: House, text: str) -> int:
+    """nginx's status for who looks with a token."""
+    port = str(house.other_words["--nginx"]).rpartition(":")[2]
+    words = ["curl", "-s", "-o", os.devnull, "-w", "%{http_code}", "-m", "20", "--cacert", house.folder / "cert.pem"]
+    words += ["-H", f"Authorization: Bearer {text}", "--resolve", f"station.example:{port}:127.0.0.1"]
+    words += [f"https://station.example:{port}/v1/device?chip={CHIP}"]
+    return int(subprocess.run(words, capture_output=True, text=True, check=False).stdout)
+
+
 def linked(house: House) -> None:
     """Behind the stop the store's user puts a link to a file of root's in the log's place."""
     (house.folder / "secret").write_text("root's own\n")
@@ -304,6 +349,15 @@ def test_kept_issuers(closed: House) -> None:
     expect(run.said, (run.status, "import" in run.said), (0, True))
     wanted = [it["issuer"] for it in customers(closed, "site.toml").values()]
     expect("issuers", [it["issuer"] for it in customers(closed).values()], wanted)
+
+
+def test_a_name_of_the_first(house: House) -> None:
+    """The first has a customer already whose name the next one would get."""
+    work(house, steps()[-1:])
+    expect("grown", house.run("add-customer", "acme-2", "--apply").status, 0)
+    expect("closed", close(house).status, 0)
+    run = follow(house)
+    expect(run.said, (run.status, "site.spent.toml has it too: the customer acme-2" in run.said), (1, True))
 
 
 OTHER = """[[customer]]

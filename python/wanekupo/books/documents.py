@@ -12,7 +12,7 @@ from collections import Counter
 from pathlib import Path
 from typing import Any, Iterator, Mapping, Optional
 
-from wanekupo.books.lines import COMPACT, NAMES, WORDS, BadRow, line_parts
+from wanekupo.books.lines import COMPACT, MAC, NAMES, WORDS, BadRow, line_parts
 from wanekupo.books.store import StoreCopy, is_store
 from wanekupo.books.store_rows import Books, Row, serial_of
 from wanekupo.common.errors import Refused, StationError
@@ -195,6 +195,8 @@ def _text(kind: str, row: Mapping[str, Any]) -> str:
 
 
 def _device(books: ClosedBooks, customer: str, chip: str) -> Row:
+    if not MAC.fullmatch(chip):
+        raise Refused(400, {"error": "bad_member", "no": 10})
     found = books.device(customer, chip)
     if found is None:
         raise Refused(404, {"error": "unknown_device", "no": 15})
@@ -225,14 +227,14 @@ def identity_text(books: ClosedBooks, customer: str, chip: str) -> str:
 def report_text(books: ClosedBooks, customer: str) -> str:
     """The customer's report, whose numbers that are left are those of which none is given, by whomever."""
     counts: Counter[tuple[str, str]] = Counter()
-    for (order, state), count in books.states(customer).items():
-        counts[order, reported(state)] += count
+    for (name, state), count in books.states(customer).items():
+        counts[name, reported(state)] += count
     lines = [",".join(("order", "quantity", *REPORTED, "serials_left"))]
     for order in sorted(books.orders(customer), key=lambda it: str(it["name"])):
         length, width = len(ends_of(order)[0]), order["width"]
         own = (it for it in books.serials(customer, order) if len(it) == length and it[-width:].isdecimal())
-        left = order["quantity"] - sum(1 for _ in own)
         by_state = (counts[order["name"], state] for state in REPORTED)
+        left = order["quantity"] - sum(1 for _ in own)
         lines.append(",".join(map(str, (order["name"], order["quantity"], *by_state, left))))
     return "".join(f"{line}\n" for line in lines)
 
