@@ -188,20 +188,24 @@ def test_deployed(house: House) -> None:
     texts = {it["looks"]: it["text"] for it in house.records()[1] if it["seat"] == "a1"}
     nginx = house.proxied()
     try:
-        expect("before", [through(house, texts[looks]) for looks in (False, True)], [200, 200])
+        expect("before", [through(house, texts[looks], 200) for looks in (False, True)], [200, 200])
         run = close(house)
         expect(run.said, run.status, 0)
-        end = time.monotonic() + 15  # a worker of before the reload may answer
-        while through(house, texts[False]) != 401 and time.monotonic() < end:
-            time.sleep(0.2)
-        expect("after", [through(house, texts[looks]) for looks in (False, True)], [401, 200])
+        expect("after", [through(house, texts[False], 401), through(house, texts[True], 200)], [401, 200])
     finally:
         nginx.terminate()
         nginx.wait()
 
 
-def through(house: House, text: str) -> int:
-    """nginx's status for who looks with a token."""
+def through(house: House, text: str, wanted: int) -> int:
+    """nginx's status for who looks with a token: it starts, and behind a reload a worker of before may answer."""
+    end = time.monotonic() + 20
+    while (found := asked_of_nginx(house, text)) != wanted and time.monotonic() < end:
+        time.sleep(0.2)
+    return found
+
+
+def asked_of_nginx(house: House, text: str) -> int:
     port = str(house.other_words["--nginx"]).rpartition(":")[2]
     words = ["curl", "-s", "-o", os.devnull, "-w", "%{http_code}", "-m", "20", "--cacert", house.folder / "cert.pem"]
     words += ["-H", f"Authorization: Bearer {text}", "--resolve", f"station.example:{port}:127.0.0.1"]
