@@ -5,12 +5,14 @@ second."""
 
 import hashlib
 import json
+from pathlib import Path
 
 import pytest
 
-from books.seal_plant import JTAG, KEY_WORDS, MAP, READ_1, TOKENS, WISHES, WRITE_1, chip_of, large, shown
+from books.seal_plant import JTAG, KEY_WORDS, MAP, READ_1, TOKENS, WISHES, WRITE_1, chip_of, shown
 from books.seal_places import measured, run
 from common.served import Caller
+from common.stores import command_of, run_lives
 from wanekupo.cli.main import main
 from wanekupo.seat.import_rows import csv_of
 from wanekupo.seat.states import STATES
@@ -148,10 +150,11 @@ def test_own_rows(made, served, capsys, tmp_path):
 @pytest.mark.sizes(200, 400_000)
 def test_large(program, tmp_path, size, found):
     """One device of a large store and of its rows: a second, and 100 MB; and a number that is found."""
-    store, _ = large(str(program), tmp_path, size, seconds=7200)
+    replay, store = command_of(str(program), tmp_path, "books.db")
+    run_lives(replay, 7200, size, "with")
     (tmp_path / "seals").mkdir()
     assert run("seal", tmp_path / "seals", "--store", store)[0] == 0
-    for file in (store, tmp_path / "seals/000001.rows"):
+    for file in (Path(store), tmp_path / "seals/000001.rows"):
         for words in (["device", f"{size:012x}"], ["ledger", "000000000001"], ["find", f"L{size:09}"]):
             status, text, seconds, megabytes = measured("look", file, *words, "--customer", "acme")
             found(f"look {words[0]} of {size} in {file.suffix}: {seconds:.2f} s, {megabytes:.0f} MB")
