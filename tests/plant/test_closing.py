@@ -231,9 +231,9 @@ def prepared(house: House) -> None:
     assert house.run("add-seat", "acme", "a2", "--no-token").status == 0
 
 
-REFUSED = [(linked, FOLDER, "no plain file"), (shared, "given/closed", "others may write it"),
+REFUSED = [(linked, FOLDER, "no plain file"), (shared, "given/closed", "can write the folder"),
            (prepared, FOLDER, "is prepared"), (lambda _: None, "given", "is there already"),
-           (lambda _: None, "none/closed", "there is no folder")]  # fmt: skip
+           (lambda _: None, "none/closed", "No such file")]  # fmt: skip
 
 
 @pytest.mark.parametrize(("change", "folder", "said"), REFUSED, ids=[row[2] for row in REFUSED])

@@ -10,10 +10,8 @@ import contextlib
 import itertools
 import json
 import os
-import re
 import shutil
 from collections.abc import Iterator
-from dataclasses import dataclass
 from pathlib import Path
 from typing import Any
 
@@ -24,22 +22,23 @@ from wanekupo.books.store import EMPTY_LOG, StoreCopy
 from wanekupo.books.store_rows import Books, lines_of
 from wanekupo.common.acts import FILE as ACTS
 from wanekupo.common.errors import StationError
-from wanekupo.common.files import make_file, small_bytes, sync
+from wanekupo.common.files import make_file, small_bytes, sync, tested_folder
 from wanekupo.common.moments import now_text
 from wanekupo.common.sentences import sentence_of
-from wanekupo.common.signing import Signer, digest_of_file, signer_of
+from wanekupo.common.signing import digest_of_file, signer_of
 from wanekupo.common.site_file import Site, digest_of, read_site
 from wanekupo.common.store_user import LONGEST, StoreFolder, read_small
 from wanekupo.common.token_file import (
-    NAME, TokenError, Tokens, TokenSeat, alone, check_folder, current_minute, put, read, tokens_of, tokens_text,
+    NAME, TokenError, Tokens, TokenSeat, alone, current_minute, put, read, tokens_of, tokens_text,
 )  # fmt: skip
 from wanekupo.plant.site.apply import say, start_behind
 from wanekupo.plant.site.place import Place, text_in
 from wanekupo.plant.site.plan import PREPARED, read_plan
-from wanekupo.seat.states import FINISHED
+from wanekupo.plant.token import of_form
+from wanekupo.seat.states import FINISHED, STATES
 
-# How many devices that are under way are named, and the most bytes of what root had done.
-NAMED, MOST_ACTS = 10_000, 1 << 26
+# How many devices that are under way are named; the most bytes of a row, and of what root had done.
+NAMED, LONGEST_ROW, MOST_ACTS = 10_000, 1 << 20, 1 << 26
 LIST, NUMBERS, SEALS = "SHA256SUMS", "closed.json", "seals"
 
 COUNTS = {
@@ -50,20 +49,6 @@ COUNTS = {
     "AND o.name = d.ord WHERE d.serial IS NOT NULL GROUP BY 1",
 }
 UNDER_WAY = f"FROM device WHERE state NOT IN {FINISHED}"
-
-
-@dataclass(frozen=True)
-class ClosingWish:
-    """Where the closed books will be, who signs them, and who stamps their seal."""
-
-    folder: Path
-    signer: Signer | None
-    service: Service | None
-
-    @property
-    def begun(self) -> Path:
-        """The folder's name until all of it is there."""
-        return self.folder.with_name(f"{self.folder.name}.new")
 
 
 # ---- what the store's user reads
@@ -97,16 +82,16 @@ def numbers_told(place: Place, copy: Path) -> dict[str, Any]:
     place.user.call(lambda: write_numbers(copy, file), seconds=LONGEST)
     told = read_small(Path(file.name), StoreFolder(file).handle)
     try:
-        found: dict[str, Any] = json.loads(told)["customers"]
         lines = [str(it) for it in json.loads(told)["under_way"]]
-        counts = [(state, int(count)) for it in found.values() for state, count in it["devices"].items()]
-        is_plain = all(re.fullmatch(NAME, it) for it in (*found, *(state for state, _ in counts)))
+        found: dict[str, Any] = {}
+        for name, it in json.loads(told)["customers"].items():
+            states = {state: int(it["devices"][state]) for state in STATES if state in it["devices"]}
+            found[of_form(NAME, name, "customer")] = {**{what: int(it[what]) for what in COUNTS}, "devices": states}
     except (ValueError, TypeError, LookupError, AttributeError, RecursionError):
-        is_plain = False
-    if not is_plain:
-        raise TokenError(1, f"{place.user.name} gives no numbers of a copy of {place.db}: look who works as that user")
+        told_of = f"{place.user.name} gives no numbers of a copy of {place.db}: look who works as that user"
+        raise TokenError(1, told_of) from None
     if lines:
-        count = sum(count for state, count in counts if state not in FINISHED)
+        count = sum(n for it in found.values() for state, n in it["devices"].items() if state not in FINISHED)
         raise TokenError(1, "\n".join([*lines, f"{count} are under way: ship or scrap each. Nothing was closed"]))
     return found
 
@@ -126,14 +111,17 @@ def copy_out(source: StoreFolder, made: Path) -> None:
 
 
 def rows_in(folder: StoreFolder) -> Iterator[str]:
-    """The lines of the rows that the store's user wrote, of whatever length that user made them."""
+    """The lines of the rows that the store's user wrote."""
     with open(folder.file(), encoding="ascii", newline="\n") as rows:
-        yield from (row.removesuffix("\n") for row in rows)
+        for row in iter(lambda: rows.readline(LONGEST_ROW), ""):
+            if not row.endswith("\n"):
+                raise TokenError(1, f"a row of {folder.db} has no end: look who works as {folder.user.name}")
+            yield row[:-1]
 
 
-def fill_folder(wish: ClosingWish, place: Place, copy: Path, numbers: dict[str, Any]) -> str:
+def fill_folder(args: argparse.Namespace, place: Place, copy: Path, numbers: dict[str, Any]) -> str:
     """The books, their seal, the numbers and the list of all in a new folder. Gives the numbers' text."""
-    text, made, rows = text_in(place.site), wish.begun, copy.with_name("closed.rows")
+    text, made, rows = text_in(place.site), begun_folder(args.folder), copy.with_name("closed.rows")
     made.mkdir(mode=0o700)
     copy_out(StoreFolder(copy), made)
     make_file(made / "site.toml", text)
@@ -141,16 +129,16 @@ def fill_folder(wish: ClosingWish, place: Place, copy: Path, numbers: dict[str, 
     place.user.call(lambda: write_rows(copy, rows), seconds=4 * LONGEST)
     acts = act_lines(small_bytes(ACTS, MOST_ACTS)) if ACTS.exists() else iter(())
     lines = itertools.chain(acts, rows_in(StoreFolder(rows)))
-    seal = Chain(made / SEALS).add(lines, now_text(), PLANT, wish.signer, wish.service)
+    seal = Chain(made / SEALS).add(lines, now_text(), PLANT, args.signer, args.service)
     seats = sorted(own_seats(read_site(text, str(place.site)), known(place)))
-    told = {"at": seal.at, "customers": numbers, "folder": str(wish.folder), "seal": seal.line(), "seats": seats}
+    told = {"at": seal.at, "customers": numbers, "folder": str(args.folder), "seal": seal.line(), "seats": seats}
     data = json.dumps({**told, "site_sha256": digest_of(text)}, indent=1, sort_keys=True) + "\n"
     make_file(made / NUMBERS, data)
     files = sorted(it for it in made.rglob("*") if it.is_file())
     listed = "".join(f"{digest_of_file(it)}  {it.relative_to(made)}\n" for it in files)
     make_file(made / LIST, listed)
-    if wish.signer:
-        wish.signer.sign(made / LIST, listed.encode())
+    if args.signer:
+        args.signer.sign(made / LIST, listed.encode())
     sync(made)
     return data
 
@@ -194,8 +182,8 @@ def tell_closed(place: Place) -> None:
     """Says what a site is that is closed; a run that was cut behind its mark ends here."""
     found = json.loads(text_in(place.closed))
     folder = Path(found["folder"])
-    if not folder.exists() and (new := folder.with_name(f"{folder.name}.new")).exists():
-        new.rename(folder)
+    if not folder.exists() and begun_folder(folder).exists():
+        begun_folder(folder).rename(folder)
         sync(folder.parent)
     say(f"{place.site} was closed at {found['at']}; its books are in {folder}")
     for name, it in found["customers"].items():
@@ -204,17 +192,20 @@ def tell_closed(place: Place) -> None:
         say(f"{name}: {counts}; {states}")
 
 
-def wish_of(args: argparse.Namespace) -> ClosingWish:
-    """What the words of a command wish for: a folder that isn't there, in one of root's, and who signs and stamps."""
-    folder = Path(args.folder).absolute()
-    if not folder.parent.is_dir():
-        raise TokenError(1, f"there is no folder {folder.parent}")
-    check_folder(folder.parent)
-    if os.path.lexists(folder):
-        raise TokenError(1, f"{folder} is there already: name another one")
+def begun_folder(folder: Path) -> Path:
+    """A folder's name until all of it is there."""
+    return folder.with_name(f"{folder.name}.new")
+
+
+def test_words(args: argparse.Namespace) -> None:
+    """Makes of a command's words a folder that isn't there, in one of root's alone, and who signs and stamps."""
+    args.folder = Path(args.folder).absolute()
+    tested_folder(args.folder.parent)
+    if os.path.lexists(args.folder):
+        raise TokenError(1, f"{args.folder} is there already: name another one")
     if bool(args.tsa) != bool(args.tsa_ca):
         raise TokenError(1, "a time stamp lacks a word: --tsa URL with --tsa-ca FILE")
-    return ClosingWish(folder, signer_of(args), Service(args.tsa, Path(args.tsa_ca)) if args.tsa else None)
+    args.signer, args.service = signer_of(args), Service(args.tsa, Path(args.tsa_ca)) if args.tsa else None
 
 
 def close(args: argparse.Namespace, place: Place) -> None:
@@ -223,13 +214,14 @@ def close(args: argparse.Namespace, place: Place) -> None:
             if read_plan(place.plan).stage != PREPARED or place.next.exists():
                 raise TokenError(1, "a growth is prepared or under way: end it by apply or drop first")
             try:
-                put(place.closed, closed_up(wish_of(args), args, place))
+                test_words(args)
+                put(place.closed, closed_up(args, place))
             except StationError as error:
                 raise TokenError(1, sentence_of(error)) from error
         tell_closed(place)
 
 
-def closed_up(wish: ClosingWish, args: argparse.Namespace, place: Place) -> str:
+def closed_up(args: argparse.Namespace, place: Place) -> str:
     """All steps that want a server that is stopped, which is started again then for those who look. Gives the mark's
     text: until the mark is there nothing is closed."""
     is_stopped, said = place.service(place.args.stop)
@@ -237,11 +229,11 @@ def closed_up(wish: ClosingWish, args: argparse.Namespace, place: Place) -> str:
         if not is_stopped:
             raise TokenError(1, f"the server wasn't stopped: {said}")
         with contextlib.suppress(FileNotFoundError):
-            shutil.rmtree(wish.begun)  # of a run that was cut
+            shutil.rmtree(begun_folder(args.folder))  # of a run that was cut
         with place.copied(place.db, 2 * place.size()) as copy:  # and its rows
             if said := place.store_refusal(text_in(place.site), copy):
                 raise TokenError(1, f"the program doesn't open a copy of the store: {said}")
-            data = fill_folder(wish, place, copy, numbers_told(place, copy))
+            data = fill_folder(args, place, copy, numbers_told(place, copy))
         end_tokens(args, place, set(json.loads(data)["seats"]))
         return data
     finally:
