@@ -325,6 +325,8 @@ def test_successor(closed: House, port: int) -> None:
     text, records = (house.folder / NEW).read_text(), house.records()
     again = follow(house, "--server", f"127.0.0.1:{port}")
     expect(again.said, (again.status, (house.folder / NEW).read_text(), house.records()), (0, text, records))
+    third = house.run("successor", str(house.folder / "site-3.toml"), "--suffix", "3", "--to", str(house.given))
+    expect(third.said, (third.status, f"{house.folder / NEW} follows already" in third.said), (1, True))
 
 
 def serve_next(house: House, port: int) -> None:

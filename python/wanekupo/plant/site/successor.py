@@ -21,10 +21,11 @@ from wanekupo.seat.station import Station
 
 # What a person does with the new text: the store, its program, the stations and the CA.
 STEPS = """{new} is a site, and shares nothing with the others. Then, in this order:
-1. its store and its program, with a folder and a unit of their own (tokens-and-sites, Several stores), at {server}
+1. its store and its program, with a folder and a unit of their own, and a /health in nginx.conf, at {server}
 2. at each station the new token, seat, state file and journal; the maps again, and new orders there alone
-3. each CA serves the new issuer beside the old one: add its name, a line, to the file `issuer` of the CA's folder
+3. the next issuer is a line more of the file `issuer` of each CA's folder: {issuers}
 4. from now on --other-site {spent}, in the place of {old}: it has but what the first gave"""
+KEPT = "5. before the first order `wanekupo import` of all serial numbers that the first gave"
 
 
 def reached(place: Place, customer: SiteCustomer, tokens: Tokens) -> list[Pool]:
@@ -91,17 +92,32 @@ def writing_ones(tokens: Tokens) -> dict[str, Outer]:
 
 
 def give(args: argparse.Namespace, place: Place, following: Site) -> None:
-    """An outer token, or the certificate of before, for each seat whose predecessor had one."""
+    """An outer token, or the certificate of before, for each seat whose predecessor had one, and that has none yet."""
     tokens, before = known(place), writing_ones(known(place))
+    own = {it.seat for it in tokens.outers}
     for seat, customer in following.seats().items():
         old = before.get(seat.removesuffix(args.suffix))
-        wish = SeatWish(seat, customer.name, str(Path(args.to).absolute() / f"{seat}.token"), old.holder if old else "")
-        if old and not old.subject:
-            outer_token(place, wish)
-            say(f"{old.seat} is followed by {seat} of {customer.name}: {wish.to}")
-        elif old and not any(it.seat == seat for it in tokens.open_ones()):
+        if not old:
+            continue
+        wish = SeatWish(seat, customer.name, str(Path(args.to).absolute() / f"{seat}.token"), old.holder)
+        if seat not in own and old.subject:
             token_run(place, wish, "add", seat, "--certificate", old.subject, "--holder", old.holder)
-            say(f"{old.seat} is followed by {seat} of {customer.name}: its certificate {old.subject} stays")
+        elif seat not in own:
+            outer_token(place, wish)
+        where = f"its certificate {old.subject} stays" if old.subject else wish.to
+        say(f"{old.seat} is followed by {seat} of {customer.name}: {where}")
+    done = place.ran(*place.token_words(), "write")  # a run that was cut may not have told nginx
+    if done.returncode:
+        raise TokenError(5, f"nginx doesn't know the new tokens: {done.stderr.strip()}")
+
+
+def marked(new: Path, spent: Path) -> str:
+    """The line by which what a first gave says who follows, where it does already; an error where that is another."""
+    line = f"# {new} follows\n"
+    there = text_in(spent).partition("\n")[0] if spent.exists() else ""
+    if there.startswith("# ") and f"{there}\n" != line:
+        raise TokenError(1, f"{there[2:]} already, and has the rest: one site alone gets it")
+    return line if there.startswith("# ") else ""
 
 
 def successor(args: argparse.Namespace, place: Place) -> None:
@@ -113,18 +129,20 @@ def successor(args: argparse.Namespace, place: Place) -> None:
             check_folder(folder)
         first = read_site(text_in(place.site), str(place.site))
         gone, following = sites_of(args, place, first)
-        put(spent, joined([gone]))
-        others = [str(spent), *args.other_site]
+        put(spent, marked(new, spent) + joined([gone]))
         for is_trial in (True, False):
             text = next_text(args, place, first, following, is_trial)
             tested_site(place, text, str(new))
-            tested_others(place, text, others)
+            tested_others(place, text, [str(spent), *args.other_site])
         if new.exists() and text_in(new) != text:
             raise TokenError(1, f"{new} is there already, with another text: name another file")
+        put(spent, f"# {new} follows\n{joined([gone])}")
         put(new, text)
         for line in gains(Site(), following):
             say(line)
         give(args, place, following)
-        say(STEPS.format(new=new, server=args.server, spent=spent, old=place.site))
+        pairs = zip(first.customers.values(), following.customers.values())
+        issuers = ", ".join(f"{b} beside {a}" for one, two in pairs for a, b in zip(one.issuers, two.issuers) if a != b)
+        say(STEPS.format(new=new, server=args.server, spent=spent, old=place.site, issuers=issuers or "none"))
         if args.keep_issuers:
-            say("5. before the first order `wanekupo import` of all serial numbers that the first gave")
+            say(KEPT)
