@@ -22,10 +22,10 @@ from pathlib import Path
 import pytest
 
 from common.chip import CHIP, steps
-from common.commands import command, copy_project
+from common.commands import PROJECT, command, copy_project
 from common.deployed import TOOL, expect
 from common.served import Caller, Server, station
-from plant.house import House, was_killed
+from plant.house import House, digest_of, was_killed
 
 pytestmark = [pytest.mark.root, pytest.mark.needs("curl", "sqlite3", "flock")]
 
@@ -247,37 +247,6 @@ def test_refused(house: House, change, folder: str, said: str) -> None:
     expect("what is left", list(house.folder.glob("closed*")), [])
 
 
-@pytest.mark.sizes(6, 1000)
-def test_killed(made: House, size: int) -> None:
-    """A close that is killed right before some of its deeds, or before each, and begun again."""
-    made.project = copy_project(made.folder.parent)
-    deeds, at, kills = killed_at(made, 0), 1, 0
-    expect("deeds are counted", deeds > 20, True)
-    while killed_at(made, at):
-        kills, at = kills + 1, at + max(1, deeds // size)
-    expect("kills", kills >= min(size, deeds), True)
-
-
-def killed_at(made: House, at: int) -> int:
-    """How many deeds a close came to that is killed before one of them, and begun again; none where it ended before."""
-    with tempfile.TemporaryDirectory(dir=made.folder.parent) as folder:
-        os.chmod(folder, 0o755)
-        house = made.copy(Path(folder) / "house")
-        house.project = made.project
-        start(house)
-        try:
-            work(house, steps()[-1:])
-            cut = close(house, kill_at=at)
-            assert was_killed(cut) == bool(at) or cut.status == 0, cut.said
-            if was_killed(cut):
-                run = close(house)
-                expect(run.said, run.status, 0)
-            is_closed(house)
-            return cut.deeds if was_killed(cut) or not at else 0
-        finally:
-            house.end()
-
-
 # ---- the next site
 
 NEW = "site-2.toml"
@@ -291,8 +260,8 @@ def closed(house: House) -> House:
     return house
 
 
-def follow(house: House, *words: str):
-    return house.run("successor", str(house.folder / NEW), "--suffix", "2", "--to", str(house.given), *words)
+def follow(house: House, *words: str, **named: int):
+    return house.run("successor", str(house.folder / NEW), "--suffix", "2", "--to", str(house.given), *words, **named)
 
 
 def test_before_the_end(house: House) -> None:
@@ -386,3 +355,61 @@ def test_others(closed: House, name: str, first: str, said: str) -> None:
     run = follow(closed, "--other-site", str(other))
     expect(run.said, (run.status, said in run.said, closed.records() == before), (1, True, True))
     expect("a text", closed.folder.joinpath(NEW).exists(), False)
+
+
+# ---- kills
+
+
+def shipped(house: House) -> None:
+    work(house, steps()[-1:])
+
+
+def shipped_and_closed(house: House) -> None:
+    shipped(house)
+    expect("closed", close(house).status, 0)
+
+
+def is_followed(house: House) -> None:
+    """The next site is there, and each of its seats has one token, in its file."""
+    expect("customers", list(customers(house)), ["acme-2", "bolt-2"])
+    seats, outers = house.records()
+    digests = {seat["name"]: seat["token"] for it in customers(house).values() for seat in it["seat"]}
+    expect("digests", digests, {f"{it}-2": digest_of(seats[f"{it}-2"]["inner"]) for it in SEATS})
+    texts = sorted((it["seat"], it["text"]) for it in outers if not it["looks"] and not it["ended"])
+    expect("tokens", texts, [(f"{it}-2", (house.given / f"{it}-2.token").read_text().strip()) for it in SEATS])
+    expect("what is left", house.left(), [])
+
+
+@pytest.mark.sizes(6, 1000)
+@pytest.mark.parametrize(("before", "act", "holds"), [
+    pytest.param(shipped, close, is_closed, id="close"),
+    pytest.param(shipped_and_closed, follow, is_followed, id="successor"),
+])  # fmt: skip
+def test_killed(made: House, size: int, before, act, holds) -> None:
+    """Either, killed right before some of its deeds, or before each, and begun again."""
+    made.project = made.project if made.project != PROJECT else copy_project(made.folder.parent)
+
+    def killed_at(at: int) -> int:
+        """How many deeds a run came to that is killed before one, and begun again; none where it ended before."""
+        with tempfile.TemporaryDirectory(dir=made.folder.parent) as folder:
+            os.chmod(folder, 0o755)
+            house = made.copy(Path(folder) / "house")
+            house.project = made.project
+            start(house)
+            try:
+                before(house)
+                cut = act(house, kill_at=at)
+                assert was_killed(cut) == bool(at) or cut.status == 0, cut.said
+                if was_killed(cut):
+                    run = act(house)
+                    expect(run.said, run.status, 0)
+                holds(house)
+                return cut.deeds if was_killed(cut) or not at else 0
+            finally:
+                house.end()
+
+    deeds, at, kills = killed_at(0), 1, 0
+    expect("deeds are counted", deeds > 20, True)
+    while killed_at(at):
+        kills, at = kills + 1, at + max(1, deeds // size)
+    expect("kills", kills >= min(size, deeds), True)
