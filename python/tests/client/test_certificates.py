@@ -464,5 +464,35 @@ class Certificates(CertificateCase):
         self.assertIn("peer did not return a certificate", said)
 
 
+@NEEDS_KEYS
+class TwoIssuers(CertificateCase):
+    """A CA that a person gave a second issuer of its customer, as behind a store's successor."""
+
+    def site(self):
+        made = self.folder / "two.toml"
+        made.write_text(super().site().read_text().replace('["acme-ca"]', '["acme-ca", "acme-ca-2"]'))
+        return made
+
+    def test_one_ca(self):
+        """It serves both with the same certificate of its own, and no number twice, whatever is left of its folder."""
+        self.seat.make_order(**ORDER | {"name": "o3", "issuer": "acme-ca-2", "prefix": "C"})
+        self.seat.make_order(**ORDER | {"name": "o4", "issuer": "acme-ca-2"})
+        anchor, first = (self.ca / "ca.pem").read_bytes(), self.device()
+        self.counted(1, 0, 0)
+        following = self.device("o3")
+        self.assertIn(f"no device with the serial number {following} of acme-ca.", self.counted(0, 1, 1))
+        with open(self.ca / "issuer", "a", encoding="ascii") as issuers:
+            issuers.write("acme-ca-2\n")
+        self.counted(1, 1, 0)
+        self.assertEqual(self.device("o4"), first, "two numbers meet")
+        self.assertIn("has another key than the certificate of its serial number", self.counted(0, 1, 1))
+        (self.ca / f"issued/{first}.pem").unlink()
+        (self.spool / f"{first}.pem").unlink()
+        self.assertIn(f"wo issuers have the serial number {first}", self.counted(0, 1, 1))
+        self.assertIn(f"Two issuers may have given {first}", self.counted(0, 1, 1, "--issuer", "acme-ca-2"))
+        self.assertEqual(self.in_index(), [f"/serialNumber={it}" for it in (first, following)])
+        self.assertEqual((self.ca / "ca.pem").read_bytes(), anchor)
+
+
 if __name__ == "__main__":
     unittest.main()

@@ -36,6 +36,7 @@ class FakePlace:
     def __init__(self, folder):
         self.site, self.next, self.plan = folder / "site.toml", folder / "site.next.toml", folder / "site.growth"
         self.tokens, self.calls = folder / "tokens.conf", []
+        self.closed = folder / "site.closed.json"
         self.site.write_text(TEXT)
 
     def token_words(self):

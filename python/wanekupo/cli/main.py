@@ -18,6 +18,7 @@ from wanekupo.cli import audit
 from wanekupo.bench import bench
 from wanekupo.lots import certificates
 from wanekupo.cli import events
+from wanekupo.cli import look
 from wanekupo.cli import show_commands as looking
 from wanekupo.lots import manifest
 from wanekupo.metrics import prometheus_file as metrics
@@ -75,6 +76,7 @@ EXAMPLES = {
     "shift": "shift acme=line1.journal --from 2026-12-01T06:00 --to 2026-12-01T14:00 --html shift.html",
     "seal": "seal acme-seals --customer acme --minisign seals.key",
     "apart": "apart one/000007.rows two/000007.rows",
+    "look": "look 2026/books.db find 24:0a:c4:00 --customer acme",
     "audit": "audit copy/books.db journals/ --from 2026-12-01T00:00Z --to 2026-12-02T00:00Z --html audit.html",
     "events": "events journals/ --cfx --kept given.json --post https://mes.example/cfx",
     "metrics": "metrics --to wanekupo.prom --kept kept.json --tokens /etc/station/metrics",
@@ -92,6 +94,7 @@ COMMANDS = [
     *shift_report.COMMANDS,
     *seal.COMMANDS,
     *apart.COMMANDS,
+    *look.COMMANDS,
     *audit.COMMANDS,
     *events.COMMANDS,
     *metrics.COMMANDS,

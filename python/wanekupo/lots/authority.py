@@ -2,7 +2,8 @@
 
     ca.pem     the CA's certificate
     ca.cnf     for `openssl ca`: deploy/ca/devices.cnf, with index.txt and newcerts beside it
-    issuer     the issuer of the server whose records this CA certifies: one CA for each
+    issuer     the issuer of the server whose records this CA certifies; a person adds, a line each, those of the same
+               customer whose serial numbers can't be the same
     issued/    SERIAL.pem of each record that got its certificate; SERIAL.asked while the command signs
 
 A record gets one certificate, whenever this program is killed. What `openssl ca` issued and `issued` lacks is taken out
@@ -109,20 +110,20 @@ class Authority:
             yield from [self.folder / unquote(file[1])] if file else []
             yield from [self._config] if PIN in token[1] else []
 
-    # The issuer.
+    # The issuers.
 
-    def issuer(self) -> Optional[str]:
+    def issuers(self) -> list[str]:
         with contextlib.suppress(FileNotFoundError):
-            return (self.folder / "issuer").read_text(encoding="ascii").strip()
-        return None
+            return (self.folder / "issuer").read_text(encoding="ascii").split()
+        return []
 
     def take(self, issuer: str) -> None:
         """Has the CA be an issuer's, for good."""
-        if self.issuer() is None:
+        if not self.issuers():
             replace_bytes(self.folder / "issuer", f"{issuer}\n".encode(), READABLE)
-        if self.issuer() != issuer:
-            told = "Give each issuer a CA of its own, in its own folder."
-            raise NotCertified(f"{self.folder} certifies for {self.issuer()}, and not for {issuer}", told)
+        if issuer not in (known := self.issuers()):
+            told = f"Give it a CA of its own; or, if no number of two can be the same, a line in {self.folder}/issuer."
+            raise NotCertified(f"{self.folder} certifies for {', '.join(known)}, and not for {issuer}", told)
 
     # What was issued.
 
@@ -162,6 +163,8 @@ class Authority:
         found = self._found(serial)
         if found is not None:
             told = f"Nobody got it from here: {_taken_away(certificate_number(found))}, and begin again."
+            if len(self.issuers()) > 1:
+                told = f"Two issuers may have given {serial}: look whose it is, and certify no other one."
             return self.keep(found, record, told), False
         asked = self.issued / f"{serial}.asked"
         if asked.exists() and self.command:

@@ -64,10 +64,10 @@ def add_verify(parser: argparse.ArgumentParser) -> None:
 
 class DevicesBySerial:
     """The devices of some serial numbers, by one reading of the customer's list. A serial number of several issuers is
-    that of the one that is named."""
+    that of one that is named, if any are."""
 
-    def __init__(self, station: Station, serials: Iterable[str], issuer: Optional[str]):
-        self._station, self._issuer, self._wanted = station, issuer, set(serials)
+    def __init__(self, station: Station, serials: Iterable[str], issuers: Sequence[str]):
+        self._station, self._issuers, self._wanted = station, issuers, set(serials)
 
     @functools.cached_property
     def _listed(self) -> Mapping[str, list[Listed]]:
@@ -81,12 +81,12 @@ class DevicesBySerial:
     def record(self, serial: str, chip: str = "") -> tuple[Found, Mapping[str, Any]]:
         """The device of a serial number, and its record. The list has all devices of the customer: it isn't read for a
         few numbers of a known issuer, where each is that of the chip which is said to have it."""
-        is_alone = chip and self._issuer and len(self._wanted) <= FEW
+        is_alone = chip and len(self._issuers) == 1 and len(self._wanted) <= FEW
         named = self._station.find_device(chip) if is_alone else None
         found = self._recorded([named] if named and named.serial == serial else [])
         found = found or self._recorded(self._listed[serial])
         if not found:
-            of = f" of {self._issuer}" if self._issuer else ""
+            of = f" of {' or '.join(self._issuers)}" if self._issuers else ""
             told = "Look whose it is: a token sees the devices of its own customer."
             raise NotCertified(f"this customer has no device with the serial number {serial}{of}", told)
         if len(found) > 1:
@@ -99,9 +99,9 @@ class DevicesBySerial:
         return listed, {"not_before": None, **record}
 
     def _recorded(self, devices: Iterable[Found]) -> list[tuple[Found, Mapping[str, Any]]]:
-        """Those of devices whose record is of the issuer, with it."""
+        """Those of devices whose record is of the issuers, with it."""
         found = [(it, gathering.record(self._station, it.chip)) for it in devices]
-        return [it for it in found if self._issuer in (None, it[1]["issuer"])]
+        return [it for it in found if not self._issuers or it[1]["issuer"] in self._issuers]
 
 
 # certify
@@ -115,10 +115,11 @@ def certify(settings: Settings, args: argparse.Namespace) -> int:
         Authority(Path(args.ca_folder), settings.profile, args.sign_with) as authority,
         looking_station_of(settings) as station,
     ):
-        if args.issuer and authority.issuer() not in (None, args.issuer):
+        issuers = authority.issuers()
+        if args.issuer and args.issuer not in (issuers or [args.issuer]):
             told = "Take that one's folder, or leave --issuer away."
-            raise BadSettings(f"{args.ca_folder} certifies for {authority.issuer()}, and not for {args.issuer}", told)
-        books = DevicesBySerial(station, serials, args.issuer or authority.issuer())
+            raise BadSettings(f"{args.ca_folder} certifies for {', '.join(issuers)}, and not for {args.issuer}", told)
+        books = DevicesBySerial(station, serials, [args.issuer] if args.issuer else issuers)
         try:
             with Progress("requests") as shown:
                 for serial in gathering.watched(serials, shown, len(serials)):
@@ -221,7 +222,7 @@ def verify_certificates(settings: Settings, args: argparse.Namespace) -> int:
     chains = {name: _chain_of(name) for name in dict.fromkeys(args.certificates)}
     serials = {name: _serial_of(chain[0]) for name, chain in chains.items() if chain}
     with looking_station_of(settings) as station:
-        books = DevicesBySerial(station, filter(None, serials.values()), args.issuer)
+        books = DevicesBySerial(station, filter(None, serials.values()), [args.issuer] if args.issuer else [])
         refused = sum(chain is None for chain in chains.values())
         for name, chain in chains.items():
             try:

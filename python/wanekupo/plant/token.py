@@ -51,6 +51,7 @@ from wanekupo.common.store_user import read_small, signals_waiting
 from wanekupo.common.site_file import digest_of, read_site_file
 from wanekupo.common.files import make_file, replace_file
 from wanekupo.plant.site.growth import lines_of, with_seat
+from wanekupo.plant.site.plan import closed_seats
 
 NAMED = "station-token"
 
@@ -283,6 +284,8 @@ def outer_sentence(made: Outer) -> str:
 def add_outer(args: argparse.Namespace, tokens: Tokens) -> Outcome:
     if args.seat not in tokens.seats:
         raise TokenError(1, f"there is no seat {args.seat}: make it with `{NAMED} seat`")
+    if not args.look and (at := closed_seats(Path(args.file).parent).get(args.seat)):
+        raise TokenError(1, f"the site of {args.seat} was closed at {at}: its tokens only look (--look)")
     subject = of_form(SUBJECT, args.certificate, "subject of a certificate") if args.certificate else ""
     if subject and any(it.subject == subject for it in tokens.open_ones()):
         raise TokenError(1, f"the certificate {subject} has a seat already")

@@ -8,6 +8,8 @@
     station-site drop                              gives up what was prepared
     station-site check FILE                        where a site or a map is wrong, and why, by the program
     station-site diff OLD NEW                      what NEW adds, in words; 1 where something goes
+    station-site close FOLDER                      ends all work: seals the books, which lie in FOLDER then
+    station-site successor NEW --suffix 2          the next site of a closed one, with the rest of its addresses
 
 An `add` prepares: it writes the new text beside the site file, as site.next.toml, tests it, and stops nothing. It may
 be given again, and others add to it. With `--apply` the steps of `apply` follow. Before `apply` all of it can be given
@@ -34,11 +36,14 @@ from typing import Any
 
 from wanekupo.common.process import end_tool
 from wanekupo.plant.site.apply import Stopped, apply, is_up, say
+from wanekupo.plant.site.closing import close
 from wanekupo.plant.site.growth import with_customer, with_items
 from wanekupo.plant.site.place import Place, text_in
 from wanekupo.plant.site.plan import PREPARED, GrowthPlan, SeatWish, drop_plan, keep_plan, read_plan
+from wanekupo.plant.site.successor import successor
 from wanekupo.plant.site.trials import checked, is_map, tested_growth, tested_others, tried_over_copy
 from wanekupo.common.rooms import ROOMS
+from wanekupo.common.signing import add_signer
 from wanekupo.common.store_user import STOPS
 from wanekupo.common.files import sync
 from wanekupo.common.token_file import (
@@ -144,6 +149,13 @@ def tested(place: Place, plan: GrowthPlan, text: str) -> list[str]:
     return gains
 
 
+def refuse_closed(place: Place) -> None:
+    """A closed site gets nothing more."""
+    if place.closed.exists():
+        told = f"`{NAMED} close` says what it had, `{NAMED} successor` begins the next one"
+        raise TokenError(1, f"{place.site} is closed ({place.closed}): {told}")
+
+
 def prepare(args: argparse.Namespace, place: Place) -> None:
     """The new text beside the old one, and what it adds."""
     plan = read_plan(place.plan)
@@ -194,6 +206,7 @@ def carry_out(place: Place) -> None:
 
 def add(args: argparse.Namespace, place: Place) -> None:
     with alone(place.plan, args.patience):
+        refuse_closed(place)
         if args.apply and read_plan(place.plan).stage != PREPARED:
             carry_out(place)
         prepare(args, place)
@@ -205,6 +218,7 @@ def add(args: argparse.Namespace, place: Place) -> None:
 
 def apply_command(args: argparse.Namespace, place: Place) -> None:
     with alone(place.plan, args.patience):
+        refuse_closed(place)
         plan = read_plan(place.plan)
         if plan.stage == PREPARED and not place.next.exists():
             say("nothing is prepared, and nothing is under way")
@@ -263,7 +277,8 @@ def diff(args: argparse.Namespace, place: Place) -> None:
 
 
 COMMANDS = {"add-customer": add, "add-seat": add, "add-pool": add, "add-issuer": add, "apply": apply_command,
-            "drop": drop, "check": check, "diff": diff}  # fmt: skip
+            "drop": drop, "check": check, "diff": diff, "close": close,
+            "successor": successor}  # fmt: skip
 
 
 # ---- words
@@ -316,9 +331,19 @@ def parser() -> argparse.ArgumentParser:
         under[name].add_argument("--holder", default="", metavar="TEXT", help="who gets the token, for its list")
         under[name].add_argument("--to", default=".", metavar="FOLDER", help="where SEAT.token is made (here)")
         under[name].add_argument("--no-token", action="store_true", help="no outer tokens for these seats")
-    for name in (*adding, "apply", "check"):
+    under["successor"].add_argument("new", help="the new site file")
+    said = "comes with a - behind the names of customers, seats and issuers"
+    under["successor"].add_argument("--suffix", required=True, type=lambda it: f"-{it}", help=said)
+    under["successor"].add_argument("--keep-issuers", action="store_true", help="the issuers' names stay as they are")
+    under["successor"].add_argument("--server", default="127.0.0.1:881", help="where its program will be (%(default)s)")
+    under["successor"].add_argument("--to", default=".", metavar="FOLDER", help="where SEAT.token is made (here)")
+    for name in (*adding, "apply", "check", "successor"):
         under[name].add_argument("--other-site", action="append", default=[], metavar="FILE", help="another store's")
     under["check"].add_argument("file")
+    under["close"].add_argument("folder", help="a new folder, in one of root's, for the closed books")
+    under["close"].add_argument("--tsa", metavar="URL", help="have the seal time-stamped by this service (RFC 3161)")
+    under["close"].add_argument("--tsa-ca", metavar="FILE", help="the certificates by which its stamps are verified")
+    add_signer(under["close"])
     under["diff"].add_argument("old")
     under["diff"].add_argument("new")
     return made

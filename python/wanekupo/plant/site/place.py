@@ -40,6 +40,7 @@ class Place:
         self.site, self.db, self.backups = (Path(it).absolute() for it in (args.site, args.db, args.backups))
         self.next = self.site.with_name(f"{self.site.stem}.next{self.site.suffix}")
         self.plan = self.site.with_name(f"{self.site.stem}.growth")
+        self.closed = self.site.with_name(f"{self.site.stem}.closed.json")
         self.tokens = Path(args.tokens)
         self.program = args.program
         self.args = args

@@ -10,6 +10,7 @@ from pathlib import Path
 
 from wanekupo.common.token_file import TokenError, put
 from wanekupo.common.files import sync
+from wanekupo.common.store_user import read_small
 
 # PREPARED: the new text lies beside the old one. STOPPING: the server is being stopped, and the old text is in place.
 # PLACED: the new text is in place, and the server is being started.
@@ -59,3 +60,9 @@ def keep_plan(path: Path, plan: GrowthPlan) -> None:
 def drop_plan(path: Path) -> None:
     path.unlink(missing_ok=True)
     sync(path.parent)
+
+
+def closed_seats(folder: Path) -> dict[str, str]:
+    """When the site of each seat was closed, by the marks of closed sites in a folder (closing.py)."""
+    found = [json.loads(read_small(file)) for file in sorted(folder.glob("*.closed.json"))]
+    return {seat: it["at"] for it in found for seat in it["seats"]}
