@@ -45,7 +45,8 @@ class StoreBooks:
         return self._books.device(customer, chip)
 
     def entries(self, customer: str, chip: str) -> Iterator[Row]:
-        return (it.row for it in self._books.entries("WHERE l.customer = ? AND l.chip = ? ORDER BY l.n", customer, chip))
+        entries = self._books.entries("WHERE l.customer = ? AND l.chip = ? ORDER BY l.n", customer, chip)
+        return (it.row for it in entries)
 
     def orders(self, customer: str) -> list[Row]:
         return [row for (whose, _), row in self._books.orders.items() if whose == customer]
