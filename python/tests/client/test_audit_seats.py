@@ -178,7 +178,7 @@ class Turns(SeatCase):
     def last_fault(self, seats, memory):
         """What is told of the last book of a folder of all."""
         book = steps.shipped_books(self.folder, seats, memory)[-1]
-        self.assertEqual(({it.place() for it in book.faults}, book.times), ({str(self.folder / "pc7")}, []))
+        self.assertEqual(({it.place() for it in book.faults}, len(book.times)), ({str(self.folder / "pc7")}, 0))
         return book.faults[0].told
 
     def test_what_a_large_folder_leaves(self):

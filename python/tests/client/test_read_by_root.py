@@ -84,6 +84,8 @@ class Seals(Folder):
         tracemalloc.start()
         self.addCleanup(tracemalloc.stop)
         (told,) = [it for it in self.found() if "rows.gz" in it]
+        with self.assertRaisesRegex(StationError, "is no file of rows"):
+            folder.sealed_text(self.folder / "000001.rows.gz")
         self.assertLess(tracemalloc.get_traced_memory()[1], 8 << 20)
         self.assertIn(f"has more than {2 * folder.LONGEST_ROW} bytes, and its seal is of 1 row.", told)
         with mock.patch.object(folder, "MOST_ROWS", 1 << 20), self.assertRaisesRegex(StationError, "more than 1 MB"):

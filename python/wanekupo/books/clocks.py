@@ -14,16 +14,13 @@ from typing import Any, Iterable, Iterator, NamedTuple, Sequence
 
 from wanekupo.books.scratch import base_of
 from wanekupo.books.shift import Period, seconds_between
-from wanekupo.books.steps import Step, Steps
+from wanekupo.books.steps import Step, Steps, digits_of
 
 # By how many seconds the clocks of two stations may differ, and a station's be ahead of the auditor's.
 APART, AHEAD = 60, 3600
 
 # When a request was answered whose reply never came.
 NEVER = "9999-12-31T23:59:59Z"
-
-# What a moment has beside its digits.
-POINTS = str.maketrans("", "", "-:TZ")
 
 # The id of an entry, and its line.
 Timed = tuple[int, Step]
@@ -102,8 +99,8 @@ def clock_contradictions(pairs: Sequence[Timed]) -> Iterator[Contradiction]:
     order of their ids, and so do these."""
     begins, ends = array("q"), array("q")
     for _, step in pairs:
-        begins.append(_digits(begin_of(step)))
-        ends.append(_digits(end_of(step)))
+        begins.append(digits_of(begin_of(step)))
+        ends.append(digits_of(end_of(step)))
     run = longest_run(begins)
     answered = _answered_behind(ends, run)
     latest: int = -1
@@ -128,11 +125,6 @@ def end_of(step: Step) -> str:
 
 def is_behind(at: str, other: str) -> bool:
     return at > other and seconds_between(other, at) > APART
-
-
-def _digits(at: str) -> int:
-    """A moment as a number, which takes less: 20261130060000."""
-    return int(at.translate(POINTS))
 
 
 def _answered_behind(ends: Sequence[int], run: bytearray) -> array[int]:

@@ -2,7 +2,7 @@
 
 from __future__ import annotations
 
-from typing import Any, Callable
+from typing import Any, Callable, Iterator
 
 from wanekupo.seat import listings as gathering
 from wanekupo.books.lines import device_line, entry_line, order_line, record_line
@@ -14,17 +14,17 @@ from wanekupo.seat.station import Station
 TRIES = 10
 
 
-def lines_of(station: Station, customer: str, told: Callable[[int, int], None]) -> list[str]:
+def lines_of(station: Station, customer: str, told: Callable[[int, int], None]) -> Iterator[str]:
     """The lines of a customer's orders, devices, records and ledgers. What comes while they are gathered is there or
     not; a device and its ledger are of one moment."""
-    found, listed = list[str](), list(gathering.devices(station))
+    listed = list(gathering.devices(station))
     for it in gathering.watched(listed, told, len(listed)):
         device, entries = _of_one_moment(station, it.chip)
-        found.append(device_line(customer, device))
-        found += [entry_line(customer, it.chip, entry) for entry in entries]
+        yield device_line(customer, device)
+        yield from (entry_line(customer, it.chip, entry) for entry in entries)
         if device["serial"] is not None:
-            found.append(record_line(customer, gathering.record(station, it.chip)))
-    return found + [order_line(customer, order) for order in gathering.orders(station)]  # each device's is there by now
+            yield record_line(customer, gathering.record(station, it.chip))
+    yield from (order_line(customer, order) for order in gathering.orders(station))  # each device's is there by now
 
 
 def _of_one_moment(station: Station, chip: str) -> tuple[dict[str, Any], list[dict[str, Any]]]:

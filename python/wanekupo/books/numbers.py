@@ -253,7 +253,7 @@ def _settle(seat: StoredSeat, steps: Sequence[Step], turns: Sequence[Turn], span
 
 def _span_of(seat: StoredSeat, books: list[Book], period: Period) -> Span:
     span = Span(seat.name, seat.customer, "")
-    read = [(book, list(book.steps)) for book in sorted(books, key=lambda it: it.times[:1])]
+    read = [(book, list(book.steps)) for book in sorted(books, key=lambda it: list(it.times[:1]))]
     steps, turns = _in_order(seat, read, period)
     _take_kept(seat, steps)
     gone = _settle(seat, steps, turns, span)

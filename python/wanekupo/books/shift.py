@@ -281,7 +281,7 @@ def _longest_stand(books: Iterable[Book], period: Period) -> tuple[float, str, s
 def _stops(customer: str, books: Iterable[Book], period: Period) -> list[Standstill]:
     """When a station was out of step, and when it went on; and a request whose reply never came. A machine in the place
     of another one has a journal of its own, in which the station goes on."""
-    own = sorted(books, key=lambda it: it.times[:1])
+    own = sorted(books, key=lambda it: list(it.times[:1]))
     steps, name = [it for book in own for it in book.steps], own[0].name()
     told_on = [it.at for book in own for it in book.resynchronized]
     went_on = sorted([it.answered for it in steps if it.is_done()] + told_on)

@@ -263,16 +263,44 @@ class JournalFault:
         return f"line {self.line} of {self.file}" if self.line else self.file
 
 
+# What a moment of a line has beside its digits.
+POINTS = str.maketrans("", "", "-:TZ")
+
+
+def digits_of(at: str) -> int:
+    """A moment as a number, which takes less: 20261130060000."""
+    return int(at.translate(POINTS))
+
+
+class Times(Sequence[str]):
+    """The moments of a journal's lines."""
+
+    def __init__(self) -> None:
+        self._digits = array("q")
+
+    def append(self, at: str) -> None:
+        self._digits.append(digits_of(at))
+
+    def __len__(self) -> int:
+        return len(self._digits)
+
+    def __getitem__(self, place: Any) -> Any:
+        if isinstance(place, slice):
+            return [self[it] for it in range(*place.indices(len(self)))]
+        it = f"{self._digits[place]:014}"
+        return f"{it[:4]}-{it[4:6]}-{it[6:8]}T{it[8:10]}:{it[10:12]}:{it[12:]}Z"
+
+
 @dataclass
 class Book:
     """A seat's journal: its files, its requests in their order, what is wrong with it, and who it is of. `seat` is
-    empty where no line has a name. Of its times there are the first one, the least, the greatest and the last."""
+    empty where no line has a name."""
 
     files: list[str]
     steps: Steps = field(default_factory=lambda: Steps(Values()))
     resynchronized: list[Resynchronized] = field(default_factory=list)
     faults: list[JournalFault] = field(default_factory=list)
-    times: list[str] = field(default_factory=list)
+    times: Times = field(default_factory=lambda: Times())
     seat: str = ""
     is_asked: bool = False
 
@@ -320,7 +348,7 @@ def _answered(last: Optional[Step], line: Members) -> str:
 def _take(book: Book, file: str, number: int, line: Members) -> None:
     """Adds a line to a journal's requests."""
     _tested_clock(book, file, number, line["at"])
-    book.times = [*book.times[:1], min([*book.times, line["at"]]), max([*book.times, line["at"]]), line["at"]]
+    book.times.append(line["at"])
     seat = line.get("seat", "")
     if seat and book.seat and seat != book.seat:
         book.faults.append(JournalFault(file, number, line["at"], f"is of the seat {seat}, among lines of {book.seat}"))

@@ -13,6 +13,7 @@ from wanekupo.books import store_rows as stored
 from wanekupo.books.chain import PLANT, Chain
 from wanekupo.books.compare import Text
 from wanekupo.books.lines import KEY, act_lines
+from wanekupo.books.scratch import in_order
 from wanekupo.books.stamp import Service
 from wanekupo.books.store import StoreCopy, is_store
 from wanekupo.seat.command_line import Command
@@ -79,7 +80,7 @@ def _seal(settings: Settings, args: argparse.Namespace) -> int:
                 seal = chain.add(itertools.chain(acts, _lines_of(store)), now_text(), PLANT, signer, service)
         else:
             with looking_station_of(settings) as station, Progress("devices") as told_of:
-                lines = sorted(shown.lines_of(station, args.customer, told_of))
+                lines = in_order(shown.lines_of(station, args.customer, told_of))
             seal = chain.add(lines, now_text(), args.customer, signer, service)
     print_shown(seal.line() + "\n")
     return DONE
