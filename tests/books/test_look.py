@@ -133,6 +133,10 @@ def test_over_several(made, served, capsys):
     assert main(["look", *files, "find", "0001", "--customer", "acme", "--customer", "bolt"]) == 0
     found = [json.loads(it) for it in capsys.readouterr().out.splitlines()]
     assert {(it["store"], it["customer"]) for it in found} == {(it, name) for it in files for name in SEAT_OF}
+    one = next(it for it in served[0].records("acme") if it["serial"] == "G00001")
+    for part in (one["mac"], one["chip"], one["serial"]):  # no number of the earlier store has two addresses
+        assert main(["look", files[0], "find", part, "--customer", "acme"]) == 0
+        assert [json.loads(it)["serial"] for it in capsys.readouterr().out.splitlines()] == ["G00001"]
 
 
 def test_own_rows(made, served, capsys, tmp_path):

@@ -63,8 +63,9 @@ class StoreBooks:
         return self._books.given_of(order)
 
     def given(self, customer: str, parts: tuple[str, ...]) -> Iterator[Row]:
-        rows = self._books.records("WHERE g.customer = ? ORDER BY g.issuer, g.serial", customer)
-        return (row for _, row in rows)
+        has = "AND (instr(g.serial, ?) OR instr(g.chip, ?) OR instr(g.mac, ?))" if parts else ""
+        more = f"WHERE g.customer = ? {has} ORDER BY g.issuer, g.serial"
+        return (row for _, row in self._books.records(more, customer, *parts, *parts[1:]))
 
     def unnamed(self, customer: str, part: str) -> Iterator[str]:
         sql = "SELECT chip FROM device WHERE customer = ? AND serial IS NULL AND instr(chip, ?) ORDER BY chip"
