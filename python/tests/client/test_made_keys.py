@@ -83,6 +83,7 @@ class PrintedKeys(BenchCase):
         self.name = f'printf %s "${{CHIP}}{self.folder.name}" |'
         self.printing = f'echo "for $CHIP $FIELD" >&2; {self.name} sha256sum | cut -c -64\n'
         self.key = hashlib.sha256(f"{MAC}{self.folder.name}".encode()).digest()
+        self.others = set(Path("/dev/shm").rglob("*"))
 
     def bench(self, printed="", tool=None):
         own = {"command": [script(self.folder / "print-key", printed or self.printing)], "timeout": 20}
@@ -100,7 +101,8 @@ class PrintedKeys(BenchCase):
         pieces = [data[at : at + 8] for data in (self.key, self.key[::-1]) for at in (0, 8, 16, 24)]
         digits = [it.hex().encode() for piece in pieces for it in (piece, piece[3::-1] + piece[:3:-1])]
         whole = [base64.b64encode(it)[:40] for it in (self.key, self.key[::-1])]
-        for file in [it for place in (self.folder, Path("/dev/shm")) for it in place.rglob("*") if it.is_file()]:
+        shared = set(Path("/dev/shm").rglob("*")) - self.others
+        for file in [it for it in (*self.folder.rglob("*"), *shared) if it.is_file()]:
             data = file.read_bytes() if file.exists() else b""
             bare = re.sub(rb"[^0-9a-f]", b"", data.lower())
             if any(it in data for it in (*pieces, *whole)) or any(it in bare for it in digits):
