@@ -8,9 +8,9 @@ from pathlib import Path
 from wanekupo.common.errors import StationError
 from wanekupo.common.sentences import sentence_of
 from wanekupo.common.site_file import Pool, Site, SiteCustomer, digest_of, read_site
-from wanekupo.common.token_file import HEALTH, Outer, TokenError, Tokens, TokenSeat, alone, check_folder, put
+from wanekupo.common.token_file import HEALTH, TokenError, Tokens, TokenSeat, alone, check_folder, put
 from wanekupo.plant.site.apply import outer_token, say, token_run
-from wanekupo.plant.site.closing import known
+from wanekupo.plant.site.closing import known_seats
 from wanekupo.plant.site.difference import gains, joined
 from wanekupo.plant.site.growth import lines_of
 from wanekupo.plant.site.place import Place, text_in
@@ -51,7 +51,7 @@ def cut(pool: Pool, orders: list[Pool]) -> int:
 
 def sites_of(args: argparse.Namespace, place: Place, first: Site) -> tuple[Site, Site]:
     """What the first gave, as a site, and what the next one has: without digests of tokens."""
-    spent, following, tokens = Site(), Site(), known(place)
+    spent, following, tokens = Site(), Site(), known_seats(place)
     for it in first.customers.values():
         orders = reached(place, it, tokens) if it.pools else []
         given = [(pool, cut(pool, orders)) for pool in it.pools]
@@ -70,7 +70,7 @@ def made_seat(args: argparse.Namespace, place: Place, name: str, customer: str) 
     done = place.ran(*place.token_words(), "--no-reload", "seat", name, *more, "--server", args.server)
     if done.returncode:
         raise TokenError(1, done.stderr.strip())
-    return known(place).seats[name]
+    return known_seats(place).seats[name]
 
 
 def next_text(args: argparse.Namespace, place: Place, first: Site, following: Site, is_trial: bool) -> str:
@@ -86,15 +86,10 @@ def next_text(args: argparse.Namespace, place: Place, first: Site, following: Si
     return joined([following]) + lines_of(seat)
 
 
-def writing_ones(tokens: Tokens) -> dict[str, Outer]:
-    """The last outer token of each seat that might more than look."""
-    return {it.seat: it for it in tokens.outers if not it.looks and it.seat != HEALTH}
-
-
 def give(args: argparse.Namespace, place: Place, following: Site) -> None:
     """An outer token, or the certificate of before, for each seat whose predecessor had one, and that has none yet."""
-    tokens, before = known(place), writing_ones(known(place))
-    own = {it.seat for it in tokens.outers}
+    outers = known_seats(place).outers
+    own, before = {it.seat for it in outers}, {it.seat: it for it in outers if not it.looks and it.seat != HEALTH}
     for seat, customer in following.seats().items():
         old = before.get(seat.removesuffix(args.suffix))
         if not old:
