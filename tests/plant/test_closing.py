@@ -130,7 +130,7 @@ def is_closed(house: House) -> None:
     folder = house.folder / FOLDER
     expect("its files", {it.name for it in folder.iterdir()}, FILES)
     expect("whose they are", {it.owner() for it in (folder, *folder.rglob("*"))}, {"root"})
-    expect("who reads them", {it.stat().st_mode & 0o077 for it in (folder, folder / "seals")}, {0})
+    expect("who writes them", {it.stat().st_mode & 0o027 for it in (folder, *folder.rglob("*"))}, {0})
     listed = subprocess.run(["sha256sum", "-c", "--quiet", "SHA256SUMS"], cwd=folder, capture_output=True, check=False)
     expect(listed.stderr, listed.returncode, 0)
     told = json.loads((folder / "closed.json").read_text())
@@ -140,9 +140,10 @@ def is_closed(house: House) -> None:
     expect("addresses and imports", [told["customers"]["acme"][it] for it in ("addresses", "imported")], [1, 0])
     expect("tokens", open_tokens(house), LOOKS)
     for kind in ("device", "ledger", "identity"):
-        words = [*command("wanekupo"), "look", folder / "books.db", kind, CHIP, "--customer", "acme"]
-        shown = subprocess.run(words, capture_output=True, text=True, check=True).stdout
-        expect(kind, shown, asked(house, "abc", f"/v1/{kind}?chip={CHIP}") + "\n")
+        words = [*house.as_owner(), *command("wanekupo"), "look", folder / "books.db", kind, CHIP, "--customer", "acme"]
+        alone = {**os.environ, "HOME": "/nonexistent"}
+        shown = subprocess.run(words, env=alone, capture_output=True, text=True, check=False)
+        expect(shown.stderr, shown.stdout, asked(house, "abc", f"/v1/{kind}?chip={CHIP}") + "\n")
     words = [*command("wanekupo"), "seal", "--verify", folder / "seals/000001.rows", folder / "books.db"]
     expect("the seal", subprocess.run(words, capture_output=True, check=False).returncode, 0)
     expect("what is left", house.left(), [])

@@ -1,4 +1,5 @@
-"""Closes a site: nothing is under way, no token may more than look, and its books lie sealed in a folder of root's.
+"""Closes a site: nothing is under way, no token may more than look, and its books lie sealed in a folder of root's,
+which the store's user reads.
 
 The store's user has its copy opened and read; root takes the bytes of plain files out of that by descriptors, and text.
 The folder gets its name, and the site its mark, SITE.closed.json, once all else is done: a run that was cut is begun
@@ -139,6 +140,9 @@ def fill_folder(args: argparse.Namespace, place: Place, copy: Path, numbers: dic
     make_file(made / LIST, listed)
     if args.signer:
         args.signer.sign(made / LIST, listed.encode())
+    for it in (made, *made.rglob("*")):  # who reads what the store's user made isn't root
+        os.chown(it, -1, place.user.group)
+        it.chmod(0o750 if it.is_dir() else 0o640)
     sync(made)
     return data
 
