@@ -21,6 +21,7 @@ from pathlib import Path
 
 import pytest
 
+from books.seal_places import make_keys, stamp_service
 from common.chip import CHIP, steps
 from common.commands import PROJECT, command, copy_project
 from common.deployed import TOOL, expect
@@ -180,6 +181,32 @@ def test_put_back(house: House) -> None:
     after = [asked(house, "abc", f"/v1/{it}") for it in (f"device?chip={CHIP}", f"ledger?chip={CHIP}", "report")]
     expect("what is shown", after, before)
     expect("tokens", (open_tokens(house), token(house, "add", "b1").returncode), (LOOKS, 1))
+
+
+@pytest.mark.needs("minisign", "openssl")
+def test_signed_and_stamped(house: House, tmp_path: Path) -> None:
+    """The list is signed, say minisign itself and `seal --verify`; where the stamp is none nothing is closed."""
+    work(house, steps()[-1:])
+    pair = ["minisign", "-G", "-W", "-p", tmp_path / "own.pub", "-s", tmp_path / "own.key"]
+    subprocess.run(pair, check=True, capture_output=True)
+    make_keys(tmp_path)
+    with stamp_service(tmp_path) as service:
+        words = ["--minisign", str(tmp_path / "own.key"), "--tsa", service.url]
+        words += ["--tsa-ca", str(tmp_path / "tsa-ca.pem")]
+        service.fault = "page"
+        run = house.run("close", str(house.folder / FOLDER), *words)
+        expect(run.said, (run.status, "is no time stamp" in run.said, open_tokens(house)), (1, True, ALL))
+        service.fault = ""
+        run = house.run("close", str(house.folder / FOLDER), *words)
+        expect(run.said, run.status, 0)
+    folder = house.folder / FOLDER
+    verify = ["minisign", "-V", "-q", "-p", tmp_path / "own.pub", "-m", folder / "SHA256SUMS"]
+    expect("the list", subprocess.run(verify, check=False, capture_output=True).returncode, 0)
+    trusted = ["--minisign", tmp_path / "own.pub", "--tsa-ca", tmp_path / "tsa-ca.pem"]
+    verify = [*command("wanekupo"), "seal", "--verify", folder / "seals", *trusted]
+    done = subprocess.run(verify, check=False, capture_output=True, text=True)
+    lines = done.stdout.splitlines()
+    expect("the seal", (done.returncode, lines[0].startswith("No pair was compared")), (3, True))
 
 
 @pytest.mark.nginx
