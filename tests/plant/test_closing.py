@@ -297,6 +297,15 @@ def test_before_the_end(house: House) -> None:
     expect(run.said, (run.status, "isn't closed" in run.said, house.folder.joinpath(NEW).exists()), (1, True, False))
 
 
+def test_an_order_behind_the_end(closed: House) -> None:
+    """Somebody with an inner token ordered since the seal: the rest isn't known, and nothing is written."""
+    members = dict(steps()[1][1], nr=len(steps()) + 1, name="late", first=1)
+    work(closed, [("/v1/order", members)])
+    run = follow(closed)
+    expect(run.said, (run.status, "acme has other orders than" in run.said), (1, True))
+    expect("what is left", list(closed.folder.glob("*spent*")), [])
+
+
 def customers(house: House, name: str = NEW) -> dict[str, dict]:
     return {it["name"]: it for it in tomllib.loads((house.folder / name).read_text())["customer"]}
 

@@ -41,6 +41,7 @@ from wanekupo.seat.states import FINISHED, STATES
 # How many devices that are under way are named; the most bytes of a row, and of what root had done.
 NAMED, LONGEST_ROW, MOST_ACTS = 10_000, 1 << 20, 1 << 26
 LIST, NUMBERS, SEALS = "SHA256SUMS", "closed.json", "seals"
+FIRST_ROWS = f"{SEALS}/000001.rows"
 
 COUNTS = {
     "orders": "SELECT customer, count(*) FROM orders GROUP BY 1",
