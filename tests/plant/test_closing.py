@@ -21,6 +21,7 @@ from pathlib import Path
 
 import pytest
 
+from books.seal_places import make_keys, stamp_service
 from common.chip import CHIP, steps
 from common.commands import PROJECT, command, copy_project
 from common.deployed import TOOL, expect
@@ -130,7 +131,7 @@ def is_closed(house: House) -> None:
     folder = house.folder / FOLDER
     expect("its files", {it.name for it in folder.iterdir()}, FILES)
     expect("whose they are", {it.owner() for it in (folder, *folder.rglob("*"))}, {"root"})
-    expect("who reads them", {it.stat().st_mode & 0o077 for it in (folder, folder / "seals")}, {0})
+    expect("who writes them", {it.stat().st_mode & 0o027 for it in (folder, *folder.rglob("*"))}, {0})
     listed = subprocess.run(["sha256sum", "-c", "--quiet", "SHA256SUMS"], cwd=folder, capture_output=True, check=False)
     expect(listed.stderr, listed.returncode, 0)
     told = json.loads((folder / "closed.json").read_text())
@@ -140,9 +141,10 @@ def is_closed(house: House) -> None:
     expect("addresses and imports", [told["customers"]["acme"][it] for it in ("addresses", "imported")], [1, 0])
     expect("tokens", open_tokens(house), LOOKS)
     for kind in ("device", "ledger", "identity"):
-        words = [*command("wanekupo"), "look", folder / "books.db", kind, CHIP, "--customer", "acme"]
-        shown = subprocess.run(words, capture_output=True, text=True, check=True).stdout
-        expect(kind, shown, asked(house, "abc", f"/v1/{kind}?chip={CHIP}") + "\n")
+        words = [*house.as_owner(), *command("wanekupo"), "look", folder / "books.db", kind, CHIP, "--customer", "acme"]
+        alone = {**os.environ, "HOME": "/nonexistent"}
+        shown = subprocess.run(words, env=alone, capture_output=True, text=True, check=False)
+        expect(shown.stderr, shown.stdout, asked(house, "abc", f"/v1/{kind}?chip={CHIP}") + "\n")
     words = [*command("wanekupo"), "seal", "--verify", folder / "seals/000001.rows", folder / "books.db"]
     expect("the seal", subprocess.run(words, capture_output=True, check=False).returncode, 0)
     expect("what is left", house.left(), [])
@@ -179,6 +181,32 @@ def test_put_back(house: House) -> None:
     after = [asked(house, "abc", f"/v1/{it}") for it in (f"device?chip={CHIP}", f"ledger?chip={CHIP}", "report")]
     expect("what is shown", after, before)
     expect("tokens", (open_tokens(house), token(house, "add", "b1").returncode), (LOOKS, 1))
+
+
+@pytest.mark.needs("minisign", "openssl")
+def test_signed_and_stamped(house: House, tmp_path: Path) -> None:
+    """The list is signed, say minisign itself and `seal --verify`; where the stamp is none nothing is closed."""
+    work(house, steps()[-1:])
+    pair = ["minisign", "-G", "-W", "-p", tmp_path / "own.pub", "-s", tmp_path / "own.key"]
+    subprocess.run(pair, check=True, capture_output=True)
+    make_keys(tmp_path)
+    with stamp_service(tmp_path) as service:
+        words = ["--minisign", str(tmp_path / "own.key"), "--tsa", service.url]
+        words += ["--tsa-ca", str(tmp_path / "tsa-ca.pem")]
+        service.fault = "page"
+        run = house.run("close", str(house.folder / FOLDER), *words)
+        expect(run.said, (run.status, "is no time stamp" in run.said, open_tokens(house)), (1, True, ALL))
+        service.fault = ""
+        run = house.run("close", str(house.folder / FOLDER), *words)
+        expect(run.said, run.status, 0)
+    folder = house.folder / FOLDER
+    verify = ["minisign", "-V", "-q", "-p", tmp_path / "own.pub", "-m", folder / "SHA256SUMS"]
+    expect("the list", subprocess.run(verify, check=False, capture_output=True).returncode, 0)
+    trusted = ["--minisign", tmp_path / "own.pub", "--tsa-ca", tmp_path / "tsa-ca.pem"]
+    verify = [*command("wanekupo"), "seal", "--verify", folder / "seals", *trusted]
+    done = subprocess.run(verify, check=False, capture_output=True, text=True)
+    lines = done.stdout.splitlines()
+    expect("the seal", (done.returncode, lines[0].startswith("No pair was compared")), (3, True))
 
 
 @pytest.mark.nginx
@@ -267,6 +295,15 @@ def follow(house: House, *words: str, **named: int):
 def test_before_the_end(house: House) -> None:
     run = follow(house)
     expect(run.said, (run.status, "isn't closed" in run.said, house.folder.joinpath(NEW).exists()), (1, True, False))
+
+
+def test_an_order_behind_the_end(closed: House) -> None:
+    """Somebody with an inner token ordered since the seal: the rest isn't known, and nothing is written."""
+    members = dict(steps()[1][1], nr=len(steps()) + 1, name="late", first=1)
+    work(closed, [("/v1/order", members)])
+    run = follow(closed)
+    expect(run.said, (run.status, "acme has other orders than" in run.said), (1, True))
+    expect("what is left", list(closed.folder.glob("*spent*")), [])
 
 
 def customers(house: House, name: str = NEW) -> dict[str, dict]:

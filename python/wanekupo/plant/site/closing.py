@@ -1,4 +1,5 @@
-"""Closes a site: nothing is under way, no token may more than look, and its books lie sealed in a folder of root's.
+"""Closes a site: nothing is under way, no token may more than look, and its books lie sealed in a folder of root's,
+which the store's user reads.
 
 The store's user has its copy opened and read; root takes the bytes of plain files out of that by descriptors, and text.
 The folder gets its name, and the site its mark, SITE.closed.json, once all else is done: a run that was cut is begun
@@ -29,7 +30,7 @@ from wanekupo.common.signing import digest_of_file, signer_of
 from wanekupo.common.site_file import Site, digest_of, read_site
 from wanekupo.common.store_user import LONGEST, StoreFolder, read_small
 from wanekupo.common.token_file import (
-    NAME, TokenError, Tokens, TokenSeat, alone, current_minute, put, read, tokens_of, tokens_text,
+    NAME, TokenError, Tokens, alone, current_minute, put, read, tokens_of, tokens_text,
 )  # fmt: skip
 from wanekupo.plant.site.apply import say, start_behind
 from wanekupo.plant.site.place import Place, text_in
@@ -40,6 +41,7 @@ from wanekupo.seat.states import FINISHED, STATES
 # How many devices that are under way are named; the most bytes of a row, and of what root had done.
 NAMED, LONGEST_ROW, MOST_ACTS = 10_000, 1 << 20, 1 << 26
 LIST, NUMBERS, SEALS = "SHA256SUMS", "closed.json", "seals"
+FIRST_ROWS = f"{SEALS}/000001.rows"
 
 COUNTS = {
     "orders": "SELECT customer, count(*) FROM orders GROUP BY 1",
@@ -130,7 +132,7 @@ def fill_folder(args: argparse.Namespace, place: Place, copy: Path, numbers: dic
     acts = act_lines(small_bytes(ACTS, MOST_ACTS)) if ACTS.exists() else iter(())
     lines = itertools.chain(acts, rows_in(StoreFolder(rows)))
     seal = Chain(made / SEALS).add(lines, now_text(), PLANT, args.signer, args.service)
-    seats = sorted(own_seats(read_site(text, str(place.site)), known(place)))
+    seats = sorted(own_seats(read_site(text, str(place.site)), known_seats(place)))
     told = {"at": seal.at, "customers": numbers, "folder": str(args.folder), "seal": seal.line(), "seats": seats}
     data = json.dumps({**told, "site_sha256": digest_of(text)}, indent=1, sort_keys=True) + "\n"
     make_file(made / NUMBERS, data)
@@ -139,6 +141,9 @@ def fill_folder(args: argparse.Namespace, place: Place, copy: Path, numbers: dic
     make_file(made / LIST, listed)
     if args.signer:
         args.signer.sign(made / LIST, listed.encode())
+    for it in (made, *made.rglob("*")):  # who reads what the store's user made isn't root
+        os.chown(it, -1, place.user.group)
+        it.chmod(0o750 if it.is_dir() else 0o640)
     sync(made)
     return data
 
@@ -146,24 +151,21 @@ def fill_folder(args: argparse.Namespace, place: Place, copy: Path, numbers: dic
 # ---- tokens
 
 
-def known(place: Place) -> Tokens:
+def known_seats(place: Place) -> Tokens:
     text = read(place.tokens)
     return tokens_of(text, place.tokens) if text is not None else Tokens()
 
 
 def own_seats(site: Site, tokens: Tokens) -> set[str]:
     """The seats of the tokens' file that are a site's, and its manager's name there."""
-
-    def is_own(it: TokenSeat) -> bool:
-        return digest_of(it.inner) == site.manager if it.is_manager() else it.seat in site.seats()
-
-    return {name for name, it in tokens.seats.items() if is_own(it)}
+    managers = {name for name, it in tokens.seats.items() if it.is_manager() and digest_of(it.inner) == site.manager}
+    return managers | {name for name in tokens.seats if name in site.seats()}
 
 
 def end_tokens(args: argparse.Namespace, place: Place, seats: set[str]) -> None:
     """Ends each outer token of these seats that may more than look, and has nginx read that."""
     with alone(place.tokens, args.patience):
-        tokens = known(place)
+        tokens = known_seats(place)
         gone = [it for it in tokens.open_ones() if it.seat in seats and not it.looks]
         for it in gone:
             tokens.change(it, text="", ended=current_minute())

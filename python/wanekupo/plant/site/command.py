@@ -36,7 +36,7 @@ from typing import Any
 
 from wanekupo.common.process import end_tool
 from wanekupo.plant.site.apply import Stopped, apply, is_up, say
-from wanekupo.plant.site.closing import close
+from wanekupo.plant.site.closing import close, known_seats
 from wanekupo.plant.site.growth import with_customer, with_items
 from wanekupo.plant.site.place import Place, text_in
 from wanekupo.plant.site.plan import PREPARED, GrowthPlan, SeatWish, drop_plan, keep_plan, read_plan
@@ -46,9 +46,7 @@ from wanekupo.common.rooms import ROOMS
 from wanekupo.common.signing import add_signer
 from wanekupo.common.store_user import STOPS
 from wanekupo.common.files import sync
-from wanekupo.common.token_file import (
-    HEALTH, NAME, TokenError, Tokens, alone, check_folder, put, read, tokens_of, tokens_text,
-)  # fmt: skip
+from wanekupo.common.token_file import HEALTH, NAME, TokenError, alone, check_folder, put, tokens_text
 from wanekupo.common.site_file import SiteCustomer, digest_of, read_site
 
 NAMED = "station-site"
@@ -68,11 +66,6 @@ def pool_of(first: str, count: str) -> dict[str, Any]:
     if not re.fullmatch(r"[0-9a-f]{12}", first) or not re.fullmatch(r"[1-9]\d{0,7}", count):
         raise TokenError(1, f"{first} {count} is no pool: twelve lowercase hexadecimal digits, and a number from 1 on")
     return {"first": first, "count": int(count)}
-
-
-def known_seats(place: Place) -> Tokens:
-    text = read(place.tokens)
-    return tokens_of(text, place.tokens) if text is not None else Tokens()
 
 
 def seat_of(place: Place, customer: str, name: str, is_trial: bool) -> dict[str, Any]:

@@ -1,16 +1,19 @@
 """The site that follows a closed one: the same customers under other names, seats with new tokens, and of each pool
-what no order of the first reached, by the first program's own replies. Begun again by the same words it goes on."""
+what no order of the first reached, by the first program's own replies, which have to be what its seal has. Begun again
+by the same words it goes on."""
 
 import argparse
+import json
 from dataclasses import replace
 from pathlib import Path
 
+from wanekupo.books.documents import SealBooks
 from wanekupo.common.errors import StationError
 from wanekupo.common.sentences import sentence_of
 from wanekupo.common.site_file import Pool, Site, SiteCustomer, digest_of, read_site
-from wanekupo.common.token_file import HEALTH, Outer, TokenError, Tokens, TokenSeat, alone, check_folder, put
+from wanekupo.common.token_file import HEALTH, TokenError, Tokens, TokenSeat, alone, check_folder, put
 from wanekupo.plant.site.apply import outer_token, say, token_run
-from wanekupo.plant.site.closing import known
+from wanekupo.plant.site.closing import FIRST_ROWS, known_seats
 from wanekupo.plant.site.difference import gains, joined
 from wanekupo.plant.site.growth import lines_of
 from wanekupo.plant.site.place import Place, text_in
@@ -28,7 +31,7 @@ STEPS = """{new} is a site, and shares nothing with the others. Then, in this or
 KEPT = "5. before the first order `wanekupo import` of all serial numbers that the first gave"
 
 
-def reached(place: Place, customer: SiteCustomer, tokens: Tokens) -> list[Pool]:
+def reached(place: Place, customer: SiteCustomer, tokens: Tokens, sealed: SealBooks) -> list[Pool]:
     """The addresses of each order of a customer, by the replies of the closed site's program."""
     seat = next((it for name, it in tokens.seats.items() if name in customer.seats), None)
     if seat is None:
@@ -36,11 +39,14 @@ def reached(place: Place, customer: SiteCustomer, tokens: Tokens) -> list[Pool]:
         raise TokenError(1, f"no seat of {customer.name} is in {place.tokens}: {told}")
     try:
         with Station(f"http://127.0.0.1:{place.args.port}", seat.inner, None, patience=place.args.wait) as station:
-            orders = [it for it in listings.orders(station) if it["mac"] is not None]
+            orders = list(listings.orders(station))
+            if orders != sealed.orders(customer.name):
+                told = f"somebody orders still. Remove {place.closed}, and close it anew"
+                raise TokenError(1, f"{customer.name} has other orders than {sealed.file}: {told}")
     except StationError as error:
         told = f"the closed site has to run, as its program says what it gave: {sentence_of(error)}"
         raise TokenError(1, told) from None
-    return [(int(it["mac"], 16), it["quantity"] * it["macs"]) for it in orders]
+    return [(int(it["mac"], 16), it["quantity"] * it["macs"]) for it in orders if it["mac"] is not None]
 
 
 def cut(pool: Pool, orders: list[Pool]) -> int:
@@ -51,9 +57,10 @@ def cut(pool: Pool, orders: list[Pool]) -> int:
 
 def sites_of(args: argparse.Namespace, place: Place, first: Site) -> tuple[Site, Site]:
     """What the first gave, as a site, and what the next one has: without digests of tokens."""
-    spent, following, tokens = Site(), Site(), known(place)
+    spent, following, tokens = Site(), Site(), known_seats(place)
+    sealed = SealBooks(Path(json.loads(text_in(place.closed))["folder"], FIRST_ROWS))
     for it in first.customers.values():
-        orders = reached(place, it, tokens) if it.pools else []
+        orders = reached(place, it, tokens, sealed) if it.pools else []
         given = [(pool, cut(pool, orders)) for pool in it.pools]
         rest = [(begin + used, count - used) for (begin, count), used in given if used < count]
         issuers = it.issuers if args.keep_issuers else [f"{name}{args.suffix}" for name in it.issuers]
@@ -61,6 +68,7 @@ def sites_of(args: argparse.Namespace, place: Place, first: Site) -> tuple[Site,
         spent.customers[it.name] = replace(its, issuers=[] if args.keep_issuers else it.issuers)
         name = f"{it.name}{args.suffix}"
         following.customers[name] = SiteCustomer(name, issuers, rest, {f"{seat}{args.suffix}": "" for seat in it.seats})
+    sealed.close()
     return spent, following
 
 
@@ -70,7 +78,7 @@ def made_seat(args: argparse.Namespace, place: Place, name: str, customer: str) 
     done = place.ran(*place.token_words(), "--no-reload", "seat", name, *more, "--server", args.server)
     if done.returncode:
         raise TokenError(1, done.stderr.strip())
-    return known(place).seats[name]
+    return known_seats(place).seats[name]
 
 
 def next_text(args: argparse.Namespace, place: Place, first: Site, following: Site, is_trial: bool) -> str:
@@ -86,15 +94,10 @@ def next_text(args: argparse.Namespace, place: Place, first: Site, following: Si
     return joined([following]) + lines_of(seat)
 
 
-def writing_ones(tokens: Tokens) -> dict[str, Outer]:
-    """The last outer token of each seat that might more than look."""
-    return {it.seat: it for it in tokens.outers if not it.looks and it.seat != HEALTH}
-
-
 def give(args: argparse.Namespace, place: Place, following: Site) -> None:
     """An outer token, or the certificate of before, for each seat whose predecessor had one, and that has none yet."""
-    tokens, before = known(place), writing_ones(known(place))
-    own = {it.seat for it in tokens.outers}
+    outers = known_seats(place).outers
+    own, before = {it.seat for it in outers}, {it.seat: it for it in outers if not it.looks and it.seat != HEALTH}
     for seat, customer in following.seats().items():
         old = before.get(seat.removesuffix(args.suffix))
         if not old:
