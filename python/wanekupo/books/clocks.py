@@ -31,13 +31,12 @@ class Pairs(Sequence[Timed]):
 
     def __init__(self) -> None:
         self._base = base_of("CREATE TABLE pair (id INTEGER, home INTEGER, place INTEGER)")
-        self._homes, self._columns = list[Steps](), [array("q"), array("i"), array("i")]
+        self._homes, self._columns = dict[int, Steps](), [array("q"), array("q"), array("i")]
 
     def append(self, number: int, step: Step) -> None:
         assert step.home is not None
-        if step.home not in self._homes[-1:]:
-            self._homes.append(step.home)
-        self._base.execute("INSERT INTO pair VALUES (?, ?, ?)", (number, len(self._homes) - 1, step.place_of))
+        self._homes[id(step.home)] = step.home
+        self._base.execute("INSERT INTO pair VALUES (?, ?, ?)", (number, id(step.home), step.place_of))
 
     def end(self) -> None:
         for row in self._base.execute("SELECT id, home, place FROM pair ORDER BY id, rowid"):
