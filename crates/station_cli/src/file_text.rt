@@ -1,5 +1,5 @@
 //! The files that the program reads, and their texts.
-ghost use Rattle.std.specs.Prelude.{◌≡◌, ◌+◌, ◌<◌, ◌^◌, IfOk, IfSome, take};
+ghost use Rattle.std.specs.Prelude.{◌≡◌, ◌+◌, ◌-◌, ◌^◌, min, IfOk, IfSome, take};
 ghost use Rattle.text_core.specs.Prelude.{result_map};
 ghost use Rattle.station_cli.specs.Prelude.{IsUnread, text_of_file};
 
@@ -15,21 +15,20 @@ use std::{fs, io, str};
 /// # Errors
 ///
 /// The file can't be opened or read, or memory runs out.
-pub fn read_file(rt: &impl Files, alloc: Global, name: &str, limit: usize) -> io::Result<Vec<u8>>
-    requires { limit + 1 < 2 ^ 64 }
-{
+pub fn read_file(rt: &impl Files, alloc: Global, name: &str, limit: usize) -> io::Result<Vec<u8>> {
     let file = fs::open(rt, name)?;
     first_bytes(alloc, file, limit)
 }
 
 /// The bytes that a reader gives up to its end, or the first of them, as far as one past this limit.
 fn first_bytes<R: Read + Drop>(alloc: Global, reader: R, limit: usize) -> io::Result<Vec<u8>>
-    requires { limit + 1 < 2 ^ 64 }
-    ensures { IfOk result (λ bytes.
-        IfSome (R.remaining reader) (λ all. bytes.items ≡ take (limit + 1) all)) }
+    ensures { IfOk result (λ bytes. IfSome (R.remaining reader) (λ all.
+        bytes.items ≡ take (min (limit + 1) (2 ^ 64 - 1)) all)) }
 {
     let mut bytes = Vec::new(alloc);
-    reader.take(limit as u64 + 1).read_to_end(&mut bytes)?;
+    reader
+        .take((limit as u64).saturating_add(1))
+        .read_to_end(&mut bytes)?;
     Ok(bytes)
 }
 
