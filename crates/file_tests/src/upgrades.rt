@@ -14,6 +14,34 @@ use test_fixtures::schema_one::{CHANGED_ONE, ONE};
 use test_fixtures::schema_two::{CHANGED_TWO, TWO};
 use test_support::stores::tell_of;
 
+/// The sample site without its manager.
+const SITE_WITHOUT_MANAGER: &str = r#"[[customer]]
+name = "acme"
+issuer = ["acme-ca"]
+[[customer.pool]]
+first = "020000000010"
+count = 4
+[[customer.pool]]
+first = "020000000020"
+count = 4
+[[customer.seat]]
+name = "a1"
+token = "ba7816bf8f01cfea414140de5dae2223b00361a396177a9cb410ff61f20015ad"
+[[customer]]
+name = "bolt"
+issuer = ["bolt-ca"]
+[[customer.seat]]
+name = "b1"
+token = "2cf24dba5fb0a30e26e83b2ac5b9e29e1b161e5c1fa7425e73043362938b9824"
+"#;
+
+/// A change that makes a store one of that site, by the digest of Python's hashlib.
+const OF_NO_MANAGER: &[(&str, &str, u8)] = &[(
+    "UPDATE meta SET site = X'57f16c3795389af9c4138eb58746fddebd856797ea95cd484bf9bff69c4bcfe0'",
+    SITE_WITHOUT_MANAGER,
+    0,
+)];
+
 /// The store of an earlier schema in files.
 fn store_of<K: InFiles>(alloc: Global, earlier: &Earlier) -> Result<Store, Fail> {
     let sql = sql_of(alloc, earlier)?;
@@ -150,6 +178,8 @@ impl FilesCase for ChangedStores {
             (&EARLIEST, CHANGED_EARLY),
             (&EARLY, CHANGED_EARLY),
             (&TWO, CHANGED_TWO),
+            (&ONE, OF_NO_MANAGER),
+            (&TWO, OF_NO_MANAGER),
         ] {
             let found = first_other_fault::<K>(alloc, row.0, row.1)?;
             if !found.is_empty() {

@@ -143,27 +143,6 @@ token = "2c70e12b7a0646f92279f427c7b38e7334d8e5389cff167a1dc30e73f826b683"
 token = "9f86d081884c7d659a2feaa0c55ad015a3bf4f1b2b0b822cd15d6c15b0f00a08"
 "#;
 
-/// The sample site without its manager.
-pub const SITE_WITHOUT_MANAGER: &str = r#"[[customer]]
-name = "acme"
-issuer = ["acme-ca"]
-[[customer.pool]]
-first = "020000000010"
-count = 4
-[[customer.pool]]
-first = "020000000020"
-count = 4
-[[customer.seat]]
-name = "a1"
-token = "ba7816bf8f01cfea414140de5dae2223b00361a396177a9cb410ff61f20015ad"
-[[customer]]
-name = "bolt"
-issuer = ["bolt-ca"]
-[[customer.seat]]
-name = "b1"
-token = "2cf24dba5fb0a30e26e83b2ac5b9e29e1b161e5c1fa7425e73043362938b9824"
-"#;
-
 /// The text of a site that isn't the sample.
 pub const OTHER_SITE: &str = "customer = []\n";
 

@@ -1,7 +1,7 @@
 //! A store of schema 1, as the program wrote it before records had a beginning of validity, and what is
 //! served over it.
 use crate::earlier::Earlier;
-use crate::samples::{OTHER_SITE, SITE, SITE_WITH_A_POOL, SITE_WITHOUT_MANAGER};
+use crate::samples::{OTHER_SITE, SITE, SITE_WITH_A_POOL};
 
 /// The store as SQL that makes it anew, in three parts: its tables in the order in which they were made, and
 /// their rows. It is `bench/schema1.sql`, with `$TEXT` in place of the sample map's text, its digest and long
@@ -228,12 +228,6 @@ pub const CHANGED_ONE: &[(&str, &str, u8)] = &[
     ("", SITE, 0),
     ("", OTHER_SITE, 1),
     ("", SITE_WITH_A_POOL, 1),
-    // It is the store of the sample site without its manager, by the digest of Python's hashlib.
-    (
-        "UPDATE meta SET site = X'57f16c3795389af9c4138eb58746fddebd856797ea95cd484bf9bff69c4bcfe0'",
-        SITE_WITHOUT_MANAGER,
-        0,
-    ),
     // Nothing but the site.
     (
         "DELETE FROM ledger; DELETE FROM given; DELETE FROM device; DELETE FROM orders; DELETE FROM link; DELETE FROM map; DELETE FROM seat",

@@ -1,7 +1,7 @@
 //! A store of schema 2, as the program of that schema took one of schema 1 to it and went on, and what is
 //! served over it.
 use crate::earlier::Earlier;
-use crate::samples::{OTHER_SITE, SITE, SITE_WITH_A_POOL, SITE_WITHOUT_MANAGER};
+use crate::samples::{OTHER_SITE, SITE, SITE_WITH_A_POOL};
 use crate::schema_one::{BEFORE_GIVEN, BEHIND_GIVEN, GIVEN};
 
 /// What that program did to the store of schema 1: two tables more, in which no order and no record has a
@@ -105,12 +105,6 @@ pub const CHANGED_TWO: &[(&str, &str, u8)] = &[
     ("", SITE, 0),
     ("", OTHER_SITE, 1),
     ("", SITE_WITH_A_POOL, 1),
-    // It is the store of the sample site without its manager, by the digest of Python's hashlib.
-    (
-        "UPDATE meta SET site = X'57f16c3795389af9c4138eb58746fddebd856797ea95cd484bf9bff69c4bcfe0'",
-        SITE_WITHOUT_MANAGER,
-        0,
-    ),
     // Nothing but the site.
     (
         "DELETE FROM ledger; DELETE FROM given_start; DELETE FROM given; DELETE FROM device; DELETE FROM order_start; DELETE FROM orders; DELETE FROM link; DELETE FROM map; DELETE FROM seat",
