@@ -1,10 +1,11 @@
 """Wrong bodies behind switches: the tests are built once, and each of these bodies is on in a run of its own.
 
 In a copy of the tree a function that wrong bodies change has them all, and a variable of the environment turns one of
-them on. A test that is added to each crate of tests copies its own program, which `rt try --test` builds and runs, and
-which then runs one test for each of these bodies. No proof is made.
+them on. Each program of tests copies itself when `rt try` first runs it, and then runs one test for each of these
+bodies. So does the server's, which tests of tests/ are run over. No proof is made.
 """
 
+import os
 import pathlib
 import re
 import shutil
@@ -21,21 +22,32 @@ from edits import TOP, Edit
 FUNCTION = re.compile(r"^( *)(?:pub(?:\(\w+\))? )?fn \w+", re.M)
 LIMIT = 1800  # seconds of one test, which is built with looks at its memory and no optimization
 
-# A test that comes before the others, by its name.
-KEEPER = """//! The program of these tests, which is kept to be run again.
-use std::test::Fail;
+# The program of tests, or the server's, copies itself where it is kept: by a test that comes before the others, or in
+# its first start.
+KEEPER = """//! The program, which is kept to be run again.
 use std::{{env, fs}};
 
+/// Copies the program to where it is kept.
+pub fn keep(rt: &HostRuntime) -> Option<()> {{
+    let program = env::args(rt).ok()?.next()?;
+    fs::copy(rt, program.as_str(), "{0}.part").ok()?;
+    fs::rename(rt, "{0}.part", "{0}").ok()
+}}
+
 #[test]
-fn the_program_is_kept(rt: HostRuntime) -> Result<(), Fail> {{
-    let mut words = env::args(&rt)?;
-    if let Some(program) = words.next() {{
-        fs::copy(&rt, program.as_str(), "{0}.part")?;
-        fs::rename(&rt, "{0}.part", "{0}")?;
-    }}
+fn the_program_is_kept(rt: HostRuntime) -> Result<(), std::test::Fail> {{
+    keep(&rt).ok_or("the program isn't copied")?;
     Ok(())
 }}
 """
+SERVER = "station"
+START = "fn start(rt: &HostRuntime) -> u8 {\n"
+FIRST = '    if std::fs::metadata(rt, "{0}").is_err() && a_kept_program::keep(rt).is_some() {{ return 0; }}\n'
+
+
+def program_of(test: str) -> str:
+    """The crate whose program a test is run with: its own, or the server's for one of tests/."""
+    return SERVER if test.startswith("tests/") else test.partition("::")[0]
 
 
 def body_at(text: str, place: int) -> tuple[int, int] | None:
@@ -59,9 +71,10 @@ def switched(bodies: dict[str, str], right: str) -> str:
 
 def fault_of(edit: Edit, room: pathlib.Path) -> str:
     """Why an edit can't be put behind a switch; nothing where it can."""
-    crate = edit.test.partition("::")[0]
-    if not (room / "crates" / crate / "src" / "lib.rt").is_file() or "::" not in edit.test:
-        return f"its line 'test:' names no test of a crate: {edit.test or 'there is none'}"
+    place = edit.test.partition("::")[0]
+    file = TOP / place if place.startswith("tests/") else room / "crates" / place / "src" / "lib.rt"
+    if not file.is_file() or "::" not in edit.test:
+        return f"its line 'test:' names no test of a crate, nor of tests/: {edit.test or 'there is none'}"
     for change in edit.changes:
         text = (room / "crates" / edit.crate / change.file).read_text(encoding="utf-8")
         if text.count(change.old) != 1:
@@ -100,16 +113,26 @@ def switch(edits: dict[str, Edit], room: pathlib.Path) -> None:
     (room / "crates.txt").write_text(table, encoding="utf-8")
 
 
+def keep_program(crate: str, room: pathlib.Path, program: pathlib.Path) -> None:
+    """Has the program of a crate of tests, or the server's, copy itself when it is first run."""
+    folder = room / "crates" / crate / "src"
+    (folder / "a_kept_program.rt").write_text(KEEPER.format(program), encoding="utf-8")
+    root, module = folder / "lib.rt", "#[cfg(test)]\nmod a_kept_program;\n"
+    if crate == SERVER:
+        root, module = folder / "main.rt", "mod a_kept_program;\n"
+    text = root.read_text(encoding="utf-8").replace(START, START + FIRST.format(program))
+    root.write_text(f"{text}\n{module}", encoding="utf-8")
+
+
 def built(crate: str, room: pathlib.Path) -> tuple[pathlib.Path, str]:
-    """The program of a crate of tests, and `isn't built` where it isn't, of which the toolchain's words are told."""
-    folder, program = room / "crates" / crate, room / "programs" / crate
+    """The program of a crate of tests, or the server's. Where it isn't built the second says so, and the toolchain why."""
+    program = room / "programs" / crate
     program.parent.mkdir(exist_ok=True)
-    (folder / "src" / "a_kept_program.rt").write_text(KEEPER.format(program), encoding="utf-8")
-    with (folder / "src" / "lib.rt").open("a", encoding="utf-8") as root:
-        root.write("\n#[cfg(test)]\nmod a_kept_program;\n")
+    keep_program(crate, room, program)
     with tempfile.TemporaryFile("w+", errors="replace") as said:
-        words = ["rt", "try", "--test", "--steps", "1", "--seconds", str(LIMIT)]
-        with subprocess.Popen(words, cwd=folder, stdin=subprocess.DEVNULL, stdout=said, stderr=said) as making:
+        words = ["rt", "try", *["--test"] * (crate != SERVER), "--steps", "1", "--seconds", str(LIMIT)]
+        how = {"cwd": room / "crates" / crate, "stdin": subprocess.DEVNULL, "stdout": said, "stderr": said}
+        with subprocess.Popen(words, **how) as making:
             while making.poll() is None and not program.is_file():
                 time.sleep(0.2)
             making.terminate()
@@ -122,14 +145,18 @@ def built(crate: str, room: pathlib.Path) -> tuple[pathlib.Path, str]:
 
 
 def end_of(program: pathlib.Path, test: str, *variables: str) -> str:
-    """How a test of a program ends where these variables are set: it passes, fails, or takes too long. It runs in a
-    folder of its own."""
-    known = dict.fromkeys(variables, "1")
+    """How a test of a program, or one of tests/ over it, ends where these variables are set, in a folder of its own: it
+    passes, fails, takes too long, or isn't run."""
+    known, words = dict.fromkeys(variables, "1"), [program, test.partition("::")[2]]
+    if test.startswith("tests/"):
+        known, words = os.environ | known, [TOP / "tests/all", "--program", program, "-q", test.removeprefix("tests/")]
     with tempfile.TemporaryDirectory(prefix="test-") as folder:
         try:
-            ran = subprocess.run([program, test], cwd=folder, env=known, capture_output=True, timeout=LIMIT)
+            ran = subprocess.run(words, cwd=folder, env=known, capture_output=True, timeout=LIMIT)
         except subprocess.TimeoutExpired:
             return f"takes more than {LIMIT} seconds"
+    if test.startswith("tests/") and ran.returncode > 1:
+        return f"ends with status {ran.returncode}"
     return "fails" if ran.returncode else "passes"
 
 
@@ -140,12 +167,11 @@ def tried(edits: list[Edit], room: pathlib.Path, jobs: int) -> Iterator[tuple[Ed
     named = {f"WRONG_BODY_{place}": edit for place, edit in enumerate(edits) if not faults[edit.name]}
     switch(named, room)
     tests = sorted({edit.test for edit in named.values()})
-    programs = {crate: built(crate, room) for crate in sorted({test.partition("::")[0] for test in tests})}
+    programs = {crate: built(crate, room) for crate in sorted({program_of(test) for test in tests})}
 
     def end(test: str, *variables: str) -> str:
-        crate, _, name = test.partition("::")
-        program, fault = programs[crate]
-        return fault or end_of(program, name, *variables)
+        program, fault = programs[program_of(test)]
+        return fault or end_of(program, test, *variables)
 
     with ThreadPoolExecutor(jobs) as pool:
         without = dict(zip(tests, pool.map(end, tests), strict=True))

@@ -13,6 +13,7 @@ import resource
 import select
 import shlex
 import socket
+import struct
 import subprocess
 from pathlib import Path
 
@@ -25,7 +26,7 @@ from common.served import Caller
 
 UNIT = ROOT / "deploy/station.service"
 SECONDS = 600
-THOUSANDS = 5000
+THOUSANDS, TENS_OF_THOUSANDS = 5000, 66_000
 
 # The most bytes of a file of a map, and of a site.
 MAP_BYTES, SITE_BYTES = 32_768, 1_048_576
@@ -108,6 +109,12 @@ class Served:
             connection.sendall(request)
             connection.shutdown(socket.SHUT_WR)
             return replies_in(b"".join(iter(lambda: connection.recv(65536), b"")))[0]
+
+    def hang_up(self):
+        """A connection that says nothing and is reset, so that its port is free at once."""
+        with socket.socket() as connection:
+            connection.setsockopt(socket.SOL_SOCKET, socket.SO_LINGER, struct.pack("ii", 1, 0))
+            connection.connect((HOST, self.port))
 
     def end(self):
         """The status, and what else is printed."""
@@ -391,6 +398,14 @@ class TestServing(ProgramCase):
         with self.serve("--site", "site.toml", "--db", "books.db", connections=THOUSANDS) as server:
             asked = {server.ask("GET", "/v1/order?name=o1") for _ in range(THOUSANDS)}
             assert (asked, server.end()) == ({404}, (0, b"", b""))
+
+    @pytest.mark.slow
+    def test_it_goes_on_behind_those_that_hang_up(self):
+        """More of them than 16 bits count: the last connection is answered, and behind it the program ends."""
+        with self.serve("--site", "site.toml", "--db", "books.db", connections=TENS_OF_THOUSANDS) as server:
+            for _ in range(TENS_OF_THOUSANDS - 1):
+                server.hang_up()
+            assert (server.ask("GET", "/v1/order?name=o1"), server.end()) == (404, (0, b"", b""))
 
     def test_a_port_that_is_taken(self):
         with socket.create_server((HOST, 0)) as taken:
