@@ -125,7 +125,7 @@ def keep_program(crate: str, room: pathlib.Path, program: pathlib.Path) -> None:
 
 
 def built(crate: str, room: pathlib.Path) -> tuple[pathlib.Path, str]:
-    """The program of a crate of tests, or the server's; and `isn't built` where it isn't, for what the toolchain says."""
+    """The program of a crate of tests, or the server's, and `isn't built` where it isn't: the toolchain says why."""
     program = room / "programs" / crate
     program.parent.mkdir(exist_ok=True)
     keep_program(crate, room, program)
