@@ -29,7 +29,8 @@ use std::{{env, fs}};
 
 /// Copies the program to where it is kept.
 pub fn keep(rt: &HostRuntime) -> Option<()> {{
-    let program = env::args(rt).ok()?.next()?;
+    let mut words = env::args(rt).ok()?;
+    let program = words.next()?;
     fs::copy(rt, program.as_str(), "{0}.part").ok()?;
     fs::rename(rt, "{0}.part", "{0}").ok()
 }}
