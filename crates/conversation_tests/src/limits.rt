@@ -35,21 +35,21 @@ token = "9f86d081884c7d659a2feaa0c55ad015a3bf4f1b2b0b822cd15d6c15b0f00a08"
 
 /// The first order, of one device with an address.
 const FIRST_ORDER: &str = r#"
-a1 POST /v1/order {"nr":1,"name":"o1001","issuer":"acme-ca","prefix":"A","width":4,"first":1001,"quantity":1,"macs":1}
-200 {"first":1001,"issuer":"acme-ca","mac":"020000000000","macs":1,"name":"o1001","next":"A1001",
+a1 POST /v1/order {"nr":1,"name":"order-of-thirty-two-letters.1001","issuer":"acme-ca","prefix":"A","width":4,"first":1001,"quantity":1,"macs":1}
+200 {"first":1001,"issuer":"acme-ca","mac":"020000000000","macs":1,"name":"order-of-thirty-two-letters.1001","next":"A1001",
   "not_before":null,"prefix":"A","quantity":1,"width":4}
 "#;
 
 /// Behind 4,095 orders of an address each: the last that there may be, with the next address, and the
 /// one that is one too many.
 const LAST_ORDER: &str = r#"
-a1 POST /v1/order {"nr":2,"name":"o5096","issuer":"acme-ca","prefix":"A","width":4,"first":5096,"quantity":1,"macs":1}
-200 {"first":5096,"issuer":"acme-ca","mac":"020000000fff","macs":1,"name":"o5096","next":"A5096",
+a1 POST /v1/order {"nr":2,"name":"order-of-thirty-two-letters.5096","issuer":"acme-ca","prefix":"A","width":4,"first":5096,"quantity":1,"macs":1}
+200 {"first":5096,"issuer":"acme-ca","mac":"020000000fff","macs":1,"name":"order-of-thirty-two-letters.5096","next":"A5096",
   "not_before":null,"prefix":"A","quantity":1,"width":4}
-a1 POST /v1/order {"nr":3,"name":"o5097","issuer":"acme-ca","prefix":"A","width":4,"first":5097,"quantity":1,"macs":1}
+a1 POST /v1/order {"nr":3,"name":"order-of-thirty-two-letters.5097","issuer":"acme-ca","prefix":"A","width":4,"first":5097,"quantity":1,"macs":1}
 409 {"error":"limit","no":40}
-a1 GET /v1/order?name=o5096
-200 {"first":5096,"issuer":"acme-ca","mac":"020000000fff","macs":1,"name":"o5096","next":"A5096",
+a1 GET /v1/order?name=order-of-thirty-two-letters.5096
+200 {"first":5096,"issuer":"acme-ca","mac":"020000000fff","macs":1,"name":"order-of-thirty-two-letters.5096","next":"A5096",
   "not_before":null,"prefix":"A","quantity":1,"width":4}
 manager GET /v1/site/report
 csv customer,orders,quantity,registered,planned,settled,identified,shipped,quarantined,scrapped,serials_left|
@@ -62,7 +62,7 @@ const REPORT: &str =
     "a1 GET /v1/report\ncsv order,quantity,registered,planned,settled,identified,shipped,quarantined,scrapped,serials_left|";
 
 /// The line of an order in the report.
-const ORDER_LINE: &str = "o#,1,0,0,0,0,0,0,0,1|";
+const ORDER_LINE: &str = "order-of-thirty-two-letters.#,1,0,0,0,0,0,0,0,1|";
 
 /// An order as large as an order may be, a map, and the order's first device.
 const FIRST_DEVICE: &str = r#"
@@ -191,9 +191,9 @@ a1 POST /v1/readback {"nr":#,"chip":"00000000000a","blocks":<>}
 
 /// The one in which it is, and the end of the device.
 const BURNT: &str = r#"
-a1 POST /v1/readback {"nr":10005,"chip":"00000000000a","blocks":<0.6=00000040>}
+a1 POST /v1/readback {"nr":16395,"chip":"00000000000a","blocks":<0.6=00000040>}
 200 {"outcome":"match","rest":$NONE,"state":"settled"}
-a1 POST /v1/scrap {"nr":10006,"chip":"00000000000a"}
+a1 POST /v1/scrap {"nr":16396,"chip":"00000000000a"}
 200 {"chip":"00000000000a","state":"scrapped"}
 "#;
 
@@ -209,9 +209,9 @@ const ENTRY: &str = r#",{"bits":[],"event":"read","keys":{},"n":#,"note":"short"
 
 /// The entries of what comes behind them.
 const LAST_ENTRIES: &str = r#",
-  {"bits":[{"block":0,"mask":"00000040","word":6}],"event":"read","keys":{},"n":10003,"note":"match",
+  {"bits":[{"block":0,"mask":"00000040","word":6}],"event":"read","keys":{},"n":16393,"note":"match",
     "seat":"a1"},
-  {"bits":[],"event":"scrapped","keys":{},"n":10004,"note":"","seat":"a1"}"#;
+  {"bits":[],"event":"scrapped","keys":{},"n":16394,"note":"","seat":"a1"}"#;
 
 /// An order of 10,000 addresses, and a device of it with the first of its records.
 const FIRST_RECORD: &str = r#"
@@ -335,7 +335,7 @@ pub enum Rows {
     Page,
     /// 1,000 devices behind the first: two pages and a device.
     Pages,
-    /// 10,000 entries of a chip, by as many requests.
+    /// 16,390 entries of a chip, by as many requests.
     Entries,
     /// 66,001 records with addresses.
     Records,
@@ -360,7 +360,7 @@ fn add_order<K: Keep>(
 ) -> Result<(), Fail>
     requires { (1001 ≤ number) × (number < 10000) }
 {
-    let name = format!(in alloc; "o{number}")?;
+    let name = format!(in alloc; "order-of-thirty-two-letters.{number}")?;
     let order = OfCustomer {
         customer: first.customer,
         row: Order {
@@ -380,7 +380,7 @@ fn add_order<K: Keep>(
 /// Puts 4,094 orders behind the first, as requests would.
 fn add_orders<K: Keep>(alloc: Global, keep: &mut K) -> Result<(), Fail> {
     let customer = Name::parse("acme").ok_or("no name")?;
-    let name = Name::parse("o1001").ok_or("no name")?;
+    let name = Name::parse("order-of-thirty-two-letters.1001").ok_or("no name")?;
     let first = keep.order(&customer, &name)?.ok_or("no order")?;
     for number in 1002..5096 {
         add_order(alloc, keep, &first, number)?;
@@ -430,9 +430,9 @@ fn add_behind<K: Keep>(alloc: Global, keep: &mut K, first: u64, end: u64) -> Res
     Ok(())
 }
 
-/// Has 10,000 read-backs in one stream for the sample site.
+/// Has 16,390 read-backs in one stream for the sample site.
 fn add_entries<K: Keep>(alloc: Global, keep: &mut K) -> Result<(), Fail> {
-    let conversation = numbered(alloc, SHORT, "#", 5, 10_005)?;
+    let conversation = numbered(alloc, SHORT, "#", 5, 16_395)?;
     let exchanges = exchanges(alloc, conversation.as_str())?;
     let (asked, wanted) = streams_of(alloc, exchanges.as_slice())?;
     let (served, written) = serve(alloc, keep, asked.as_slice(), 65_536)?;
@@ -568,9 +568,9 @@ fn all_but_one_imported(alloc: Global) -> Result<String, AllocError> {
     Ok(text)
 }
 
-/// The entries of a ledger where 10,000 read-backs are short; and what comes then.
-fn ten_thousand_entries(alloc: Global) -> Result<String, AllocError> {
-    let entries = numbered(alloc, ENTRY, "#", 3, 10_003)?;
+/// The entries of a ledger where 16,390 read-backs are short; and what comes then.
+fn thousands_of_entries(alloc: Global) -> Result<String, AllocError> {
+    let entries = numbered(alloc, ENTRY, "#", 3, 16_393)?;
     format!(in alloc; "{LEDGER}{entries}]}}\n{BURNT}{LEDGER}{entries}{LAST_ENTRIES}]}}\n")
 }
 
@@ -661,7 +661,7 @@ fn the_last_of_ten_thousand_numbers_is_found(rt: HostRuntime) -> Result<(), Fail
 
 #[test]
 fn ledgers_go_on_behind_ten_thousand_entries(rt: HostRuntime) -> Result<(), Fail> {
-    let rest = ten_thousand_entries(rt.alloc())?;
+    let rest = thousands_of_entries(rt.alloc())?;
     let limit = Limit {
         site: SITE,
         first: PLANNED,

@@ -30,7 +30,7 @@ pub fn grown_texts(alloc: Global) -> Result<Vec<String>, AllocError> {
 
 /// Opens a store, in which something stands, for a text: what differs, the number of the fault, the
 /// text that the store tells of then, or what it shows.
-fn difference_of_text<K: InFiles>(
+pub fn difference_of_text<K: InFiles>(
     alloc: Global,
     store: &Store,
     text: &str,

@@ -2,7 +2,7 @@
 use crate::disks::{
     FilesCase, InFiles, Store, held_over, opened_and_closed, over_files, rows_in, undisturbed,
 };
-use crate::grown::{first_difference_grown, grown_texts, shown_of};
+use crate::grown::{difference_of_text, first_difference_grown, grown_texts, shown_of};
 use crate::stops::first_lost;
 use std::alloc::Global;
 use std::test::Fail;
@@ -13,6 +13,31 @@ use test_fixtures::samples::SITE;
 use test_fixtures::schema_one::{CHANGED_ONE, ONE};
 use test_fixtures::schema_two::{CHANGED_TWO, TWO};
 use test_support::stores::tell_of;
+
+/// The sample site without its manager.
+const SITE_WITHOUT_MANAGER: &str = r#"[[customer]]
+name = "acme"
+issuer = ["acme-ca"]
+[[customer.pool]]
+first = "020000000010"
+count = 4
+[[customer.pool]]
+first = "020000000020"
+count = 4
+[[customer.seat]]
+name = "a1"
+token = "ba7816bf8f01cfea414140de5dae2223b00361a396177a9cb410ff61f20015ad"
+[[customer]]
+name = "bolt"
+issuer = ["bolt-ca"]
+[[customer.seat]]
+name = "b1"
+token = "2cf24dba5fb0a30e26e83b2ac5b9e29e1b161e5c1fa7425e73043362938b9824"
+"#;
+
+/// A change that makes a store one of that site, by the digest of Python's hashlib.
+const OF_NO_MANAGER: &str =
+    "UPDATE meta SET site = X'57f16c3795389af9c4138eb58746fddebd856797ea95cd484bf9bff69c4bcfe0'";
 
 /// The store of an earlier schema in files.
 fn store_of<K: InFiles>(alloc: Global, earlier: &Earlier) -> Result<Store, Fail> {
@@ -97,12 +122,32 @@ fn first_difference_behind_upgrade<K: InFiles>(
     first_difference_grown::<K>(alloc, &upgraded, shown.as_slice())
 }
 
+/// Opens a store of an earlier schema as one of the site without a manager, and then for the site with it:
+/// what differs first of what is shown then.
+fn first_difference_with_manager<K: InFiles>(
+    alloc: Global,
+    store: &Store,
+    shown: &str,
+) -> Result<String, Fail> {
+    let (_, changed) = K::changed(alloc, store, OF_NO_MANAGER)?;
+    let (fault, upgraded) = opened_and_closed::<K>(alloc, &changed, SITE_WITHOUT_MANAGER)?;
+    if fault != 0 {
+        return Ok(format!(in alloc; "fault {fault} without a manager")?);
+    }
+    let books = exchanges(alloc, shown)?;
+    difference_of_text::<K>(alloc, &upgraded, SITE, 0, books.as_slice())
+}
+
 /// What differs first where the site of an earlier store grows: before its upgrade, or behind it.
 fn first_difference_in_growth<K: InFiles>(
     alloc: Global,
     earlier: &Earlier,
 ) -> Result<String, Fail> {
     let store = store_of::<K>(alloc, earlier)?;
+    let found = first_difference_with_manager::<K>(alloc, &store, earlier.shown)?;
+    if !found.is_empty() {
+        return Ok(found);
+    }
     let found = first_growth_taken::<K>(alloc, &store)?;
     if !found.is_empty() {
         return Ok(found);
@@ -214,6 +259,7 @@ fn stores_of_earlier_schemas_go_on(rt: HostRuntime) -> Result<(), Fail> {
     Ok(())
 }
 
+/// They don't grow before it; and behind it a site without a manager gets one too.
 #[test]
 fn sites_of_earlier_schemas_grow_behind_their_upgrade(rt: HostRuntime) -> Result<(), Fail> {
     assert_eq!(rt; over_files::<GrownUpgrades>(rt.alloc())?.as_str(), "");

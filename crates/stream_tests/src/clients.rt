@@ -240,7 +240,7 @@ impl OpenStream for Client<'_> {
     }
 
     fn set_nonblocking(&self, nonblocking: bool) -> io::Result<()> {
-        if matches!(self.taking, Taking::Stuck) && !self.is_waited_for.get() {
+        if matches!(self.taking, Taking::Stuck) && !nonblocking {
             return Err(io::Error::from(ErrorKind::Other));
         }
         self.is_waited_for.set(!nonblocking);

@@ -6,6 +6,8 @@ mod clients;
 #[cfg(test)]
 mod connections;
 #[cfg(test)]
+mod files;
+#[cfg(test)]
 mod jobs;
 #[cfg(test)]
 mod kept;

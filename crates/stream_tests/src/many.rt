@@ -13,15 +13,15 @@ use test_support::conversation::streams_of;
 
 /// A record with an address, and none of an order's numbers, with a comma behind it; `#` stands for its number.
 const RECORD: &str =
-    "('acme-ca', 'Z#', 'acme', x'00000000000000000000000000000000000000000000000000000000000#', NULL, '0200001#', '99991231235959Z'),";
+    "('acme-ca', 'Z#', 'acme', x'0000000000000000000000000000000000000000000000000000000000#', NULL, '020000#', '99991231235959Z'),";
 
-/// The number of the first record, how many one statement adds, and how many statements there are: 41,000 records.
+/// The number of the first record, how many one statement adds, and how many statements there are: 100,500 records.
 /// One that reads them all takes some steps for each, and more than 100,000.
-const FIRST: u64 = 10_000;
+const FIRST: u64 = 100_000;
 
 const AT_A_TIME: u64 = 500;
 
-const STATEMENTS: u64 = 82;
+const STATEMENTS: u64 = 201;
 
 /// The jobs over the store; the first takes it to schema 3.
 const JOBS: &[&str] = &[

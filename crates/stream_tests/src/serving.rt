@@ -22,6 +22,9 @@ pub const UNKNOWN: &str =
 /// A client that asks once and closes its side.
 const ONE: Script = (0, &[(0, SHOWN, 1), (0, "", 1)], Taking::After(0));
 
+/// A client that asks once and says nothing more.
+const SILENT: Script = (0, &[(0, SHOWN, 1)], Taking::After(0));
+
 /// Ports that not everybody may listen on, and that may be taken: the least that is asked for by name, and the
 /// greatest.
 const FIXED_PORTS: &[u16] = &[80, 65_535];
@@ -280,13 +283,15 @@ fn failures_of_a_port_are_told_behind_those_of_the_store(rt: HostRuntime) -> Res
     Ok(())
 }
 
-/// Serves so many simulated clients that ask once, for a site without a manager, where as many come:
-/// how many replies they took, or the line of the failure.
+/// Serves so many simulated clients that ask once, for a site without a manager, where as many come: how many
+/// of them took their reply and gave way to the next in their time, which is 50 ms each, or the line of the
+/// failure. All but the last say nothing more.
 fn replies_to_many(alloc: Global, count: u32, come: usize) -> Result<String, Fail> {
     let mut scripts = Vec::new(alloc);
-    for _client in 0..come {
-        scripts.push(ONE)?;
+    for _client in 1..come {
+        scripts.push(SILENT)?;
     }
+    scripts.push(ONE)?;
     let scene = Scene {
         site: SITE_ALONE,
         begun: 0,
@@ -298,8 +303,10 @@ fn replies_to_many(alloc: Global, count: u32, come: usize) -> Result<String, Fai
     match accepted {
         Ok(accepted) => {
             let mut replies = 0u32;
-            for outcome in outcomes.iter() {
-                if outcome.told(alloc)?.as_str() == "404:33 until 0" {
+            for (place, outcome) in outcomes.iter().enumerate() {
+                let behind = place.saturating_add(1).min(come.saturating_sub(1));
+                let wanted = format!(in alloc; "404:33 until {}", behind.saturating_mul(50))?;
+                if outcome.told(alloc)?.as_str() == wanted.as_str() {
                     replies = replies.saturating_add(1);
                 }
             }
