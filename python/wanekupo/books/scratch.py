@@ -25,9 +25,24 @@ def base_of(created: str) -> sqlite3.Connection:
 
 def in_order(lines: Iterable[str]) -> Iterator[str]:
     """Lines in the order of their bytes."""
-    base = base_of("CREATE TABLE line (text TEXT)")
-    base.executemany("INSERT INTO line VALUES (?)", ((it,) for it in lines))
-    return (text for (text,) in base.execute("SELECT text FROM line ORDER BY text"))
+    rows = Sorted(1, 1)
+    rows.put((it,) for it in lines)
+    return (text for (text,) in rows)
+
+
+class Sorted:
+    """Rows in the order of their first columns; those that are alike there come as they were put."""
+
+    def __init__(self, columns: int, by: int):
+        self._base = base_of(f"CREATE TABLE it ({', '.join(f'c{place}' for place in range(columns))})")
+        self._put = f"INSERT INTO it VALUES ({', '.join('?' * columns)})"
+        self._walk = f"SELECT * FROM it ORDER BY {', '.join(f'c{place}' for place in range(by))}, rowid"
+
+    def put(self, rows: Iterable[tuple[Any, ...]]) -> None:
+        self._base.executemany(self._put, rows)
+
+    def __iter__(self) -> Iterator[tuple[Any, ...]]:
+        return iter(self._base.execute(self._walk))
 
 
 class Values:
