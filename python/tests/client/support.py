@@ -1,7 +1,5 @@
 """The program on a scratch store and a free port, a proxy that fails, and the life of a chip, for the tests."""
 
-from __future__ import annotations
-
 import contextlib
 import hashlib
 import http.client

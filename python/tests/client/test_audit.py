@@ -3,8 +3,6 @@
 Stores are forged by sqlite3, journals are made up, and the states of a device are those of the drawing of the docs.
 """
 
-from __future__ import annotations
-
 import contextlib
 import hashlib
 import json

@@ -3,8 +3,6 @@
 Journals are made up line by line. Beside them are the time stamps of seals, and what a chain of seals tells of gaps.
 """
 
-from __future__ import annotations
-
 import hashlib
 import json
 import os

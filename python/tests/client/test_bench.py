@@ -4,8 +4,6 @@ Expected values are those of docs/integrate/api.md and docs/line/bench.md. How s
 test_endings.py.
 """
 
-from __future__ import annotations
-
 import hashlib
 import json
 import os

@@ -4,8 +4,6 @@ a store is forged to is by sqlite3, and digests are those of hashlib over the pa
 `tests/books` tries many more forged stores, kills, signatures, time stamps and large stores.
 """
 
-from __future__ import annotations
-
 import base64
 import contextlib
 import gzip

@@ -3,8 +3,6 @@
 Expected are the outcomes of docs/integrate/api.md, and that no key is on a screen, whoever runs the lines.
 """
 
-from __future__ import annotations
-
 import json
 import os
 import shlex

@@ -1,7 +1,5 @@
 """The commands `certify` and `verify`, over requests and a CA that openssl makes: what they issue, once, and refuse."""
 
-from __future__ import annotations
-
 import json
 import os
 import re

@@ -3,8 +3,6 @@
 The replies that it prints are compared with those that the server gives to plain requests, keys with openssl's.
 """
 
-from __future__ import annotations
-
 import contextlib
 import hashlib
 import json

@@ -3,8 +3,6 @@
 Expected values are those of docs/reference/files.md and docs/line/bench.md.
 """
 
-from __future__ import annotations
-
 import contextlib
 import os
 import re

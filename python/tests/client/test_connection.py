@@ -1,7 +1,5 @@
 """The client's connection: it is kept between requests, and made anew where it was closed, at whichever moment."""
 
-from __future__ import annotations
-
 import json
 import time
 import unittest

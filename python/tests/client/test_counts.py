@@ -2,8 +2,6 @@
 docs/line/bench.md.
 """
 
-from __future__ import annotations
-
 import contextlib
 import json
 import tempfile

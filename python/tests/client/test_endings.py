@@ -4,8 +4,6 @@ network and of the disk, over the program and simulated chips.
 Expected values are those of docs/integrate/api.md and docs/line/bench.md.
 """
 
-from __future__ import annotations
-
 import hashlib
 import json
 import os

@@ -3,8 +3,6 @@
 The names of messages are those of IPC-2591; an UUID of version 5 is told by RFC 9562.
 """
 
-from __future__ import annotations
-
 import json
 import subprocess
 import sys

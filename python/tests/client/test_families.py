@@ -5,8 +5,6 @@ Expected are espefuse's own definitions and what its own commands burn, and the 
 ESPEFUSE has no words that run espefuse 4, the tests of it are left out.
 """
 
-from __future__ import annotations
-
 import base64
 import functools
 import hashlib

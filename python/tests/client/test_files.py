@@ -1,7 +1,5 @@
 """The files of a station: whose they are, who can put or replace them, and what of a key stays in them."""
 
-from __future__ import annotations
-
 import contextlib
 import json
 import os

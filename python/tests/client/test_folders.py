@@ -3,8 +3,6 @@
 Expected are the rules of docs/line/bench.md, over the program and simulated chips.
 """
 
-from __future__ import annotations
-
 import json
 import os
 import subprocess

@@ -4,8 +4,6 @@ The honest plant is the program's own, with three stations of two customers. Wha
 docs/integrate/api.md. Beside them are honest plants of which nothing may be said.
 """
 
-from __future__ import annotations
-
 import contextlib
 import gzip
 import hashlib

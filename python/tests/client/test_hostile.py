@@ -3,8 +3,6 @@
 A text is plain here by the categories of Unicode (its section 4.5), and not by the client's own rule.
 """
 
-from __future__ import annotations
-
 import csv
 import json
 import os

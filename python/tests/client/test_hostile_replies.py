@@ -1,8 +1,6 @@
 """Each member of a reply is held to its form (docs/integrate/api.md). A server that breaks one gets nothing done: no
 hook runs, nothing is burnt, and the request goes on where the server is its own again."""
 
-from __future__ import annotations
-
 import copy
 import json
 import re

@@ -1,8 +1,6 @@
 """Whether a certificate is held to each line of the page on certificates: openssl makes one that breaks the line, and
 that line alone. The sentences of a chain are openssl's own (X509_verify_cert_error_string)."""
 
-from __future__ import annotations
-
 import hashlib
 import os
 import re

@@ -1,7 +1,5 @@
 """The station's own log: what stands in it, what doesn't, and what a restore by it brings back."""
 
-from __future__ import annotations
-
 import errno
 import hashlib
 import json

@@ -3,8 +3,6 @@
 Keys are made by openssl, and the digests of records are compared with its own.
 """
 
-from __future__ import annotations
-
 import json
 import os
 import unittest

@@ -3,8 +3,6 @@
 What is expected is of docs/integrate/api.md: its refusals, and that a request is done once.
 """
 
-from __future__ import annotations
-
 import hashlib
 import json
 import os

@@ -1,7 +1,5 @@
 """The command `manifest`: its list against the replies and the store, what it refuses, and what stands beside it."""
 
-from __future__ import annotations
-
 import base64
 import csv
 import hashlib

@@ -3,8 +3,6 @@
 Expected values are those of docs/line/bench.md.
 """
 
-from __future__ import annotations
-
 import base64
 import hashlib
 import json

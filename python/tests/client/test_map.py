@@ -3,8 +3,6 @@
 What a wish comes to is counted here, from the map's text and docs/integrate/api.md.
 """
 
-from __future__ import annotations
-
 import hashlib
 import json
 import re

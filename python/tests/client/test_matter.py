@@ -1,8 +1,6 @@
 """A bench that writes Matter's certificates: each device's is signed by a PAI behind its identity, before it is
 shipped, by the hook `dac` of deploy/thermostat as it stands; and keys that no certificate of a profile has."""
 
-from __future__ import annotations
-
 import os
 import shutil
 import sys

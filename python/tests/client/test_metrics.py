@@ -3,8 +3,6 @@ of that is missing. The expected values are counted by hand of what was asked; t
 it is on the machine. The names in deploy/prometheus are held to what the command writes.
 """
 
-from __future__ import annotations
-
 import contextlib
 import json
 import os

@@ -1,7 +1,5 @@
 """A request is done once: by whichever faults it is befallen, and whoever answers it."""
 
-from __future__ import annotations
-
 import http.client
 import json
 import os

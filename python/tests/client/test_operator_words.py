@@ -3,8 +3,6 @@
 The endings are those of the table in docs/line/bench.md.
 """
 
-from __future__ import annotations
-
 import copy
 import re
 import string

@@ -4,8 +4,6 @@ It needs Debian's chromium, and is left out where there is none. With PICTURES=1
 docs/line/bench.md.
 """
 
-from __future__ import annotations
-
 import json
 import os
 import unittest

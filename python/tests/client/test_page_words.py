@@ -3,8 +3,6 @@
 The statuses are those of RFC 9110; no browser and no server is needed.
 """
 
-from __future__ import annotations
-
 import contextlib
 import io
 import json

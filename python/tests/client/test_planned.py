@@ -4,8 +4,6 @@ place in the order.
 Expected values are those of docs/integrate/api.md and docs/line/bench.md.
 """
 
-from __future__ import annotations
-
 import unittest
 
 from running import GREEN, RED, BenchCase, macs_of, script

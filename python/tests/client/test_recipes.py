@@ -3,8 +3,6 @@
 Expected are the sentences of docs/line/bench.md's rules, and that nothing is sent.
 """
 
-from __future__ import annotations
-
 import json
 import unittest
 

@@ -3,8 +3,6 @@
 Expected values are those of docs/line/bench.md, and what the shell's own commands print.
 """
 
-from __future__ import annotations
-
 import unittest
 
 from running import ASK_WHERE, ENDED, BenchCase, macs_of, script

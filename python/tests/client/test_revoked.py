@@ -1,8 +1,6 @@
 """What a CA revoked, in `manifest` and `verify`, and what is named wrongly: folders, files, secrets that others can
 read."""
 
-from __future__ import annotations
-
 import json
 import unittest
 

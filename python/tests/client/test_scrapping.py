@@ -3,8 +3,6 @@
 Expected are the sentences and rules of docs/line/bench.md, and the states of docs/integrate/api.md.
 """
 
-from __future__ import annotations
-
 import json
 import os
 import subprocess

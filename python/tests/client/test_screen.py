@@ -5,8 +5,6 @@ docs/line/bench.md. What it expects is that page's: capitals of 12.8 mm (22 minu
 is 2 * 2000 mm * tan(11')), letters at least half as wide as high (ISO 9241-303), and controls of 20 mm.
 """
 
-from __future__ import annotations
-
 import copy
 import json
 import math

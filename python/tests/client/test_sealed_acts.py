@@ -1,7 +1,5 @@
 """What root had done is sealed with a plant's books: `wanekupo seal --store COPY --acts FILE`."""
 
-from __future__ import annotations
-
 import unittest
 
 from commanding import ran

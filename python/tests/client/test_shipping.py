@@ -1,7 +1,5 @@
 """`wanekupo ship-journal`, as a user gives it: what is at the other place, and that nothing there is replaced."""
 
-from __future__ import annotations
-
 import contextlib
 import io
 import os

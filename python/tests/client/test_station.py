@@ -4,8 +4,6 @@ Expected values are those of docs/integrate/api.md and docs/first-chip.md, never
 `crates/station/out/station`, or what the variable STATION_PROGRAM names; `bench/client` sets it.
 """
 
-from __future__ import annotations
-
 import os
 import shlex
 import subprocess

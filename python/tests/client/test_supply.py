@@ -4,8 +4,6 @@ scrapped behind their identity, which gives their places back and not their numb
 Expected values are those of docs/integrate/api.md and docs/line/bench.md.
 """
 
-from __future__ import annotations
-
 import hashlib
 import os
 import random

@@ -1,7 +1,5 @@
 """A seat that gets another token, as from a proxy that knows tokens of its own, and a token that is another seat's."""
 
-from __future__ import annotations
-
 import json
 import unittest
 

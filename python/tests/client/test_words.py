@@ -1,7 +1,5 @@
 """The command line over the program."""
 
-from __future__ import annotations
-
 import io
 import json
 import shutil

@@ -1,8 +1,6 @@
 """What two printed reports say of a period, and which chips were lost. The counts are made up, and subtracted by hand.
 """
 
-from __future__ import annotations
-
 import json
 import unittest
 from datetime import datetime, timezone

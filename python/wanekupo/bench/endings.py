@@ -4,8 +4,6 @@ An ending says what happened, and what the operator does. docs/line/bench.md has
 a test holds the two to each other. `ended_by` finds the ending of an error.
 """
 
-from __future__ import annotations
-
 import errno
 import ssl
 import subprocess

@@ -4,8 +4,6 @@ No program looks at another one's store. Each file is held to its seal, and has 
 was given is sorted by SQLite, in a file of its own.
 """
 
-from __future__ import annotations
-
 from dataclasses import dataclass
 from itertools import groupby
 from operator import itemgetter

@@ -1,7 +1,5 @@
 """What an audit finds: a store's ledgers against the journals of its stations, and what has to be there but once."""
 
-from __future__ import annotations
-
 import bisect
 import sys
 from collections import Counter, defaultdict

@@ -1,7 +1,5 @@
 """What an audit looks like: a page that is printed, tables for a terminal, and a file of comma-separated values."""
 
-from __future__ import annotations
-
 from collections import Counter
 from typing import Sequence
 

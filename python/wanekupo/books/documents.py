@@ -3,8 +3,6 @@
 Nothing of either is held: a store is asked by its keys, and rows, which are in the order of their bytes, by halves.
 """
 
-from __future__ import annotations
-
 import json
 import os
 from bisect import bisect_right

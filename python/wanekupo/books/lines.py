@@ -4,8 +4,6 @@ What a token shows over HTTP and what a copy of the store has are the same lines
 the plant's.
 """
 
-from __future__ import annotations
-
 import json
 import re
 from typing import Any, Callable, Iterator, Mapping

@@ -4,8 +4,6 @@ Entries have no times: each has that of its line. Of one chip and one seat both 
 beside each other from the first to the last.
 """
 
-from __future__ import annotations
-
 import difflib
 import sqlite3
 from collections import Counter, defaultdict, deque

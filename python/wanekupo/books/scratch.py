@@ -1,7 +1,5 @@
 """What is larger than the memory: a base in a file of SQLite's own, in /var/tmp, which ends with it."""
 
-from __future__ import annotations
-
 import json
 import marshal
 import sqlite3

@@ -5,8 +5,6 @@ An order, a map or an import has no entry. Clocks say when it came, but it waits
 for its addresses, a device for its order, its map and its serial number, an import for what devices were given.
 """
 
-from __future__ import annotations
-
 from array import array
 from collections import defaultdict
 from dataclasses import dataclass, replace

@@ -4,8 +4,6 @@ A step counts when its reply was written down, by the station's clock. A chip is
 chip is counted by customer and name. `wanekupo.books.yields` says what the yield is.
 """
 
-from __future__ import annotations
-
 import statistics
 from bisect import bisect_left
 from collections import Counter, defaultdict

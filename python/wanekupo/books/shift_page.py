@@ -1,7 +1,5 @@
 """What a shift looks like: tables for a terminal and for files of comma-separated values, and a page to be printed."""
 
-from __future__ import annotations
-
 from typing import Iterator, Optional, Sequence
 
 from wanekupo.books.pages import Table, bars, heading, looks, page, paragraph

@@ -1,7 +1,5 @@
 """The command `events`: what stations' journals say, as IPC-CFX's messages in JSON, from where the last run stopped."""
 
-from __future__ import annotations
-
 import argparse
 import contextlib
 import json

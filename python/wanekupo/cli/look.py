@@ -1,7 +1,5 @@
 """The command `look`: what a server would show, out of a copy of its store or a seal's rows, without the server."""
 
-from __future__ import annotations
-
 import argparse
 import contextlib
 from pathlib import Path

@@ -3,8 +3,6 @@
 `argparse` of the standard library reads the words, and shows the help.
 """
 
-from __future__ import annotations
-
 import argparse
 import io
 import os

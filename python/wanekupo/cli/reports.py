@@ -1,7 +1,5 @@
 """The commands of journals and of printed reports: what was issued, what was lost, the yield, and a restore."""
 
-from __future__ import annotations
-
 import argparse
 from pathlib import Path
 

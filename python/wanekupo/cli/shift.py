@@ -1,7 +1,5 @@
 """The command `shift`: what was done between two moments, over all customers and lines, by the stations' journals."""
 
-from __future__ import annotations
-
 import argparse
 import os
 from datetime import datetime, timedelta, timezone

@@ -1,7 +1,5 @@
 """The commands that look at what the server has. They change nothing, and want neither a state file nor a journal."""
 
-from __future__ import annotations
-
 import argparse
 from typing import Any, Callable, Iterator, Sequence
 

@@ -4,8 +4,6 @@ A store in which a seat's last number is lower is an older one. Who starts a sto
 before any station asks (docs/operate/second-machine.md).
 """
 
-from __future__ import annotations
-
 import argparse
 from pathlib import Path
 from typing import Any, Iterable, Mapping

@@ -3,8 +3,6 @@
 No name of a class stands in them, and no control character of a server or a chip.
 """
 
-from __future__ import annotations
-
 import os
 import ssl
 import subprocess

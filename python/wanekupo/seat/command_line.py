@@ -1,7 +1,5 @@
 """A command of the command line, and what several of them share."""
 
-from __future__ import annotations
-
 import argparse
 import re
 import sys

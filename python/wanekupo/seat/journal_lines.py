@@ -5,8 +5,6 @@ counts what is new in them (`journal_counts`). A journal may be another machine'
 what a reader uses has the form that it relies on. Folders are bounded, and so is what is read of them.
 """
 
-from __future__ import annotations
-
 import argparse
 import json
 import os

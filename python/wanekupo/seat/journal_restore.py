@@ -1,7 +1,5 @@
 """The restore of a store by the logs of its stations (docs/operate/backup-and-restore.md)."""
 
-from __future__ import annotations
-
 import contextlib
 import hashlib
 import itertools

@@ -5,8 +5,6 @@ The command line wins over the environment, that over `~/.config/wanekupo.toml`,
 the files, so that no parser of our own does.
 """
 
-from __future__ import annotations
-
 import os
 import re
 import ssl
