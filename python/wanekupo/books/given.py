@@ -1,11 +1,9 @@
 """What lines say was given: serial numbers, keys and addresses, each of them once, whatever the store has of these."""
 
-from __future__ import annotations
-
 import contextlib
 from itertools import groupby, islice
 from operator import itemgetter
-from typing import Iterator, NamedTuple, Optional, Sequence
+from typing import Iterator, NamedTuple, Optional, Self, Sequence
 
 from wanekupo.books.matches import Seated
 from wanekupo.books.scratch import Known, Sorted
@@ -24,7 +22,7 @@ class GivenNumbers(NamedTuple):
     chip: Optional[str]
     step: Step
 
-    def differs_from(self, other: GivenNumbers) -> bool:
+    def differs_from(self, other: Self) -> bool:
         """Whether both can't be true: another chip; or, where one is of an import, another key or serial number."""
         if self.chip is not None and other.chip is not None:
             return self.chip != other.chip
