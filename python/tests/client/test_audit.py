@@ -482,7 +482,3 @@ class States(unittest.TestCase):
         ways = ((start, name, ends) for name, its in states.STEPS.items() for start, ends in its.items())
         self.assertEqual({(start, name, end) for start, name, ends in ways for end in ends}, drawn)
         self.assertEqual(tuple(it.state for it in LOOKS), states.REPORTED)
-
-
-if __name__ == "__main__":
-    unittest.main()

@@ -533,7 +533,3 @@ class Seals(unittest.TestCase):
                 except BadChain as error:
                     self.assertFalse(is_taken, error)
         self.assertEqual(len(chain.seals()), 2)
-
-
-if __name__ == "__main__":
-    unittest.main()

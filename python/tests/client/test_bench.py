@@ -214,7 +214,3 @@ class Table(unittest.TestCase):
         for ending in TABLE:
             self.assertEqual(shown.get(ending.name), (ending.told.format(**blank), ending.todo.format(**blank)))
         self.assertEqual(len(rows), len(TABLE))
-
-
-if __name__ == "__main__":
-    unittest.main()

@@ -276,7 +276,3 @@ class Books(BooksCase):
         states = re.search(r"const STATES = (\[.*?\n  \]);", page, re.DOTALL)[1]
         found = json.loads(re.sub(r",\s*\]$", "]", states))
         self.assertEqual(found, [[it.state, it.colour, it.ink, it.lines] for it in LOOKS])
-
-
-if __name__ == "__main__":
-    unittest.main()

@@ -8,7 +8,6 @@ import os
 import shlex
 import subprocess
 import sys
-import unittest
 
 from commanding import CommandCase
 from simulated_chip import NEWER, new_chip
@@ -87,7 +86,3 @@ class Burning(CommandCase):
                 words = self.planned(mac, family, tool)
                 self.assertEqual(self.burnt(mac, words, tool, family), ("match", "awaiting2"))
                 self.assertEqual(self.burnt(mac, words, tool, family), ("match", "settled"))
-
-
-if __name__ == "__main__":
-    unittest.main()

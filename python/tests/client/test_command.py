@@ -13,7 +13,6 @@ import shlex
 import subprocess
 import sys
 import tomllib
-import unittest
 
 from commanding import CLIENT, NEEDS_KEYS, OTHER_MAC, CommandCase, digest_by_openssl, made_key
 from simulated_chip import FAMILIES, chip_class
@@ -382,7 +381,3 @@ class SecondSeat(CommandCase):
         self.assertEqual(self.ran("scrap", OTHER_MAC, *self.own)[::2], (0, ""))
         with self.station(file="maker.json") as bench, self.assertRaises(OutOfStep):
             bench.plan(OTHER_MAC, [])
-
-
-if __name__ == "__main__":
-    unittest.main()

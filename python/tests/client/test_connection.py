@@ -2,7 +2,6 @@
 
 import json
 import time
-import unittest
 from unittest import mock
 
 from support import DIGEST, LIFE, MAP, ORDER, KeptProxy, StationCase, life, rows, steps
@@ -132,7 +131,3 @@ class Connections(StationCase):
                 station.report()
             took = time.monotonic() - began
         self.assertTrue(0.9 < took < 1.9, took)
-
-
-if __name__ == "__main__":
-    unittest.main()

@@ -79,7 +79,3 @@ class Counts(unittest.TestCase):
             self.stay(kept, 0, "c1", "stray")
             shift = kept.shift()
         self.assertEqual((shift.passed, shift.failed, len(shift.row)), (7, {"stray": 3}, 2))
-
-
-if __name__ == "__main__":
-    unittest.main()

@@ -11,7 +11,6 @@ import re
 import socket
 import subprocess
 import time
-import unittest
 from pathlib import Path
 
 from running import (
@@ -468,7 +467,3 @@ class Endings(BenchCase):
             self.assertEqual(life_of(self.ledger(mac)), LIFE)
             self.take("left", mac)
         self.assertGreater(len(reached), 1, reached)
-
-
-if __name__ == "__main__":
-    unittest.main()

@@ -232,7 +232,3 @@ class Enrolling(Oem):
         if lock.exists():
             with open(lock, "rb") as opened:
                 fcntl.flock(opened, fcntl.LOCK_EX)
-
-
-if __name__ == "__main__":
-    unittest.main()

@@ -453,7 +453,3 @@ class FreshStore:
         for file in [*case.program.db.parent.glob("books.db*"), *case.folder.glob("a1.json*"), case.folder / MAC]:
             file.unlink(missing_ok=True)
         case.program.start()
-
-
-if __name__ == "__main__":
-    unittest.main()

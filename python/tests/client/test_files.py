@@ -251,7 +251,3 @@ class Cut(StationCase):
             with self.assertRaises(BadJournal):
                 Journal(file)
             self.assertEqual(file.read_bytes(), text)
-
-
-if __name__ == "__main__":
-    unittest.main()

@@ -141,7 +141,3 @@ class Folders(BenchCase):
         done = subprocess.run(command, env=own, input=f"{answer}\n", capture_output=True, text=True, timeout=60)
         self.assertEqual((done.returncode, done.stderr), (0, ""))
         return done.stdout
-
-
-if __name__ == "__main__":
-    unittest.main()

@@ -397,7 +397,3 @@ class Rules(unittest.TestCase):
             self.assertEqual(list(others_of(base.execute)), [])
             base.execute("INSERT INTO seat VALUES ('a9', 'acme', -1, x'', '')")
             self.assertIn("a seat's last number is below 1", " ".join(excluded(base.execute)))
-
-
-if __name__ == "__main__":
-    unittest.main()

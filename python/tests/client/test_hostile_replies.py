@@ -239,7 +239,3 @@ class AtBench(BenchCase):
         self.assertEqual(bench.ended("left")[:2], ("FAIL", "other_wishes"))
         self.assertEqual((self.folder / "places" / "left").read_bytes(), blank)
         self.assertFalse((self.folder / "hooked").exists())
-
-
-if __name__ == "__main__":
-    unittest.main()

@@ -324,7 +324,3 @@ class Idevid(unittest.TestCase):
             certificate = self.made("device", "root", {"start": start}, OWN)
             found = list(late_fault(certificate, {"not_before": begins}, asked))
             self.assertEqual(found, [f"it begins at {start}, which isn't its time of issue"] if is_late else [])
-
-
-if __name__ == "__main__":
-    unittest.main()

@@ -425,7 +425,3 @@ class Records(StationCase):
                 status, out, err = ran("issued", self.written("one.journal", *requests))
                 self.assertEqual((status, err), (0, ""), more)
                 self.assertIn(f"{MAC},acme-ca,A998,{'a' * 64},\n", out)
-
-
-if __name__ == "__main__":
-    unittest.main()

@@ -246,7 +246,3 @@ class Late(StationCase):
                 os._exit(status)
         status = os.waitpid(child, 0)[1]
         return os.WTERMSIG(status) if os.WIFSIGNALED(status) else os.WEXITSTATUS(status)
-
-
-if __name__ == "__main__":
-    unittest.main()

@@ -12,7 +12,6 @@ import re
 import shutil
 import subprocess
 import sys
-import unittest
 import zipfile
 from unittest import mock
 from xml.etree import ElementTree
@@ -387,7 +386,3 @@ class Manifest(StationCase):
         shutil.copy(self.folder / "one.csr", spool / "A998.csr")
         status, _, err = self.manifest("--all", *more)
         self.assertEqual((status, "with another key than the record" in err), (2, True), err)
-
-
-if __name__ == "__main__":
-    unittest.main()

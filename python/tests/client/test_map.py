@@ -132,7 +132,3 @@ class Esp32(unittest.TestCase):
             self.assertEqual(status, 200, asked)
             if expected is not None:
                 self.assertEqual(reply, expected, asked)
-
-
-if __name__ == "__main__":
-    unittest.main()

@@ -96,7 +96,3 @@ class Matter(BenchCase):
                 self.assertIn(told, said)
                 self.assertEqual(self.asked("GET", "/v1/device?chip=0200000000a1")[1]["state"], "settled")
                 bench.end()
-
-
-if __name__ == "__main__":
-    unittest.main()

@@ -486,7 +486,3 @@ class Form(unittest.TestCase):
             status, _, told = ran("metrics", "--shift", hours)
             self.assertEqual(status, 2)
             self.assertRegex(told, "no hours like 'Mon-Fri 06:00-14:00'|ends behind 24:00")
-
-
-if __name__ == "__main__":
-    unittest.main()

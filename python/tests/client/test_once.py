@@ -299,7 +299,3 @@ class Peers(unittest.TestCase):
             self.assertNotIn("hell", str(found.exception))
         with self.assertRaises(ValueError):
             Station("htps://127.0.0.1", "abc", None)
-
-
-if __name__ == "__main__":
-    unittest.main()

@@ -169,7 +169,3 @@ class Words(unittest.TestCase):
             with self.assertRaises(BadRecipe, msg=more) as caught:
                 read(more)
             self.assertIn(told, str(caught.exception), more)
-
-
-if __name__ == "__main__":
-    unittest.main()

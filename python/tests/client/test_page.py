@@ -259,7 +259,3 @@ class Page(BenchCase):
             self.assertTrue(fields["Content-Security-Policy"].startswith("default-src 'none';"), path)
             self.assertNotIn(b"abc", body if path.startswith("/board") else b"")
         self.assertEqual(json.loads(bench.asked("GET", "/board?after=0")[2])["order"], "o1")
-
-
-if __name__ == "__main__":
-    unittest.main()

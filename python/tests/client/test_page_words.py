@@ -132,7 +132,3 @@ class Words(unittest.TestCase):
             self.assertLess(time.monotonic(), end)
             time.sleep(0.2)
         self.assertEqual(self.bench.done, ["stop"])
-
-
-if __name__ == "__main__":
-    unittest.main()

@@ -176,7 +176,3 @@ class Journals(Folder):
         (self.folder / "link").symlink_to(self.folder / "all/pc7")
         with self.assertRaisesRegex(UnsafeFile, "others than root write .*/all,"):
             files.tested_reading(self.folder / "link")
-
-
-if __name__ == "__main__":
-    unittest.main()

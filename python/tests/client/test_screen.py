@@ -380,7 +380,3 @@ class Screen(unittest.TestCase):
     def assert_within(self, inner, outer, told):
         for place, sign in enumerate((1, 1, -1, -1)):
             self.assertGreaterEqual(sign * (inner[place] - outer[place]), -1.5, told)
-
-
-if __name__ == "__main__":
-    unittest.main()

@@ -114,7 +114,3 @@ class Shipping(unittest.TestCase):
                 self.assertEqual((status, out), (2, ""))
                 self.assertTrue(err.startswith(line), err)
                 self.assertEqual(err.count("\n"), 1)
-
-
-if __name__ == "__main__":
-    unittest.main()

@@ -347,7 +347,3 @@ class Quarantine(StationCase):
             device = self.seat.settle(MAC, self.held)
         self.assertEqual((device.state, device.batch1, device.batch2), ("awaiting1", FIRST, SECOND))
         self.assertEqual(steps(self.ledger())[2:], ["read short"])
-
-
-if __name__ == "__main__":
-    unittest.main()

@@ -8,7 +8,6 @@ import hashlib
 import os
 import random
 import threading
-import unittest
 from unittest import mock
 
 from running import BenchCase, is_passed, macs_of, script
@@ -261,7 +260,3 @@ class Moments(StationCase):
         ask(lambda station: station.read_back(mac, chip.read()))
         ask(lambda station: station.identify(mac, mac.encode()))
         return ask(lambda station: station.ship(mac))
-
-
-if __name__ == "__main__":
-    unittest.main()

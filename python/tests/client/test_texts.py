@@ -93,7 +93,3 @@ class Texts(unittest.TestCase):
         self.assertTrue(shows_work(blocks, Work((Word(0, 6, 0x40), Word(0, 0, 0x110080)), {"BLOCK2": KEY_SHA256})))
         self.assertFalse(shows_work(blocks, Work((Word(0, 6, 0x41),), {})))
         self.assertFalse(shows_work(blocks, Work((), {"BLOCK1": hashlib.sha256(bytes(range(31, -1, -1))).hexdigest()})))
-
-
-if __name__ == "__main__":
-    unittest.main()

@@ -110,7 +110,3 @@ class Words(StationCase):
             self.assertEqual(self.ran("devices", *words)[:2], (0, f"{MAC},o1,quarantined,stray,\n"))
         for words in (["--state", "shipped"], ["--after", MAC]):
             self.assertEqual(self.ran("devices", *words)[:2], (0, ""))
-
-
-if __name__ == "__main__":
-    unittest.main()

@@ -212,7 +212,3 @@ class Lost(StationCase):
         status, out, _ = ran("lost", *words, "--to", DAY + "06:00Z")
         self.assertEqual([line.split()[2:] for line in out.splitlines()[1:]], [[self.STRAY, "stray"]])
         self.assertEqual(ran("lost", *words, *moments[2:], "--from", DAY + "14:00Z")[0], 2)
-
-
-if __name__ == "__main__":
-    unittest.main()
