@@ -17,9 +17,10 @@ from pathlib import Path
 
 import pytest
 
+from common.customers import EVENTS, site_text, token_of
 from common.ports import HOST
 from common.served import Caller, Server, station
-from faults.test_kill import EVENTS, FAR, Load, site_text
+from faults.test_kill import FAR, Load
 
 SEATS = [(customer, seat) for customer in range(2) for seat in range(2)]
 # How often a process is killed, a request is sent twice, and a reply is dropped; and the latest copy, in seconds.
@@ -90,7 +91,7 @@ class Seat(threading.Thread):
 
     def __init__(self, words: list[str], folder: Path, customer: int, seat: int, until: float) -> None:
         super().__init__(daemon=True)
-        self.token, self.until = f"token-{customer}-{seat}", until
+        self.token, self.until = token_of(customer, seat), until
         self.load, self.random = Load(7, customer, seat), random.Random(f"{customer} {seat}")
         state, token = folder / f"{customer}{seat}", folder / f"{customer}{seat}.token"
         token.write_text(self.token)
@@ -162,7 +163,7 @@ def differences(seat: Seat, caller: Caller) -> list[str]:
 @pytest.mark.sizes(8, 3600)
 def test_asks(program: Path, tmp_path: Path, port: int, size: int, found: Callable[[str], None]) -> None:
     site, db = tmp_path / "site.toml", tmp_path / "books.db"
-    site.write_text(site_text())
+    site.write_text(site_text(range(3)))
     server = Server([str(word) for word in station(program, site, db, port)], port).wait(Server.is_listening)
     network = Network(port, 7)
     network.start()
