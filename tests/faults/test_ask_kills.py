@@ -18,7 +18,7 @@ from pathlib import Path
 import pytest
 
 from common.customers import EVENTS, site_text, token_of
-from common.ports import HOST
+from common.ports import HOST, accepted, whole_request
 from common.served import Caller, Server, station
 from faults.test_kill import FAR, Load
 
@@ -37,11 +37,7 @@ class Network(threading.Thread):
         self.own = self.listener.getsockname()[1]
 
     def run(self) -> None:
-        while True:
-            try:
-                client = self.listener.accept()[0]
-            except OSError:
-                return
+        for client in accepted(self.listener):
             threading.Thread(target=self.serve, args=(client,), daemon=True).start()
 
     def serve(self, client: socket.socket) -> None:
@@ -68,22 +64,6 @@ class Network(threading.Thread):
                 return b"".join(iter(lambda: server.recv(65536), b""))
         except OSError:
             return b""
-
-
-def whole_request(client: socket.socket) -> bytes:
-    """The request that comes; nothing where its process is gone before its end."""
-    data = b""
-    while True:
-        head, end, body = data.partition(b"\r\n\r\n")
-        if end and len(body) >= int(head.lower().partition(b"content-length: ")[2].split(b"\r\n")[0]):
-            return data
-        try:
-            some = client.recv(65536)
-        except OSError:
-            return b""
-        if not some:
-            return b""
-        data += some
 
 
 class Seat(threading.Thread):

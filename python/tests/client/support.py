@@ -160,16 +160,9 @@ class Proxy:
         threading.Thread(target=self.serve, daemon=True).start()
 
     def serve(self):
-        while True:
-            try:
-                client = self.listener.accept()[0]
-            except OSError:
-                return
-            with client:
-                try:
-                    self.pass_on(client)
-                except OSError:
-                    pass
+        for client in accepted(self.listener):
+            with client, contextlib.suppress(OSError):
+                self.pass_on(client)
 
     def pass_on(self, client):
         request = whole(client)
@@ -326,11 +319,7 @@ class Canned:
         return cls(head.encode() + body, **options)
 
     def serve(self):
-        while True:
-            try:
-                client = self.listener.accept()[0]
-            except OSError:
-                return
+        for client in accepted(self.listener):
             with client, contextlib.suppress(OSError):
                 whole(client)
                 if not self.pause:
@@ -358,6 +347,13 @@ def exchanged(port, request):
         server.sendall(request)
         server.shutdown(socket.SHUT_WR)
         return b"".join(iter(lambda: server.recv(65536), b""))
+
+
+def accepted(listener):
+    """Each connection to a port, until its listener is closed."""
+    with contextlib.suppress(OSError):
+        while True:
+            yield listener.accept()[0]
 
 
 def whole(client):

@@ -97,6 +97,11 @@ def both_alone(place: Place) -> None:
     place.expect("Primary" in states[1] and "UpToDate" in states[1], f"(d): the second is {states[1]}")
     found = place.answers(place.first, numbers)
     place.expect(not found, f"(d): the frozen machine answers behind the mended cable {found}")
+    first_follows(place)
+
+
+def first_follows(place: Place) -> None:
+    """The line goes on over the second. The first is switched off and on, and follows; then it has the store again."""
     place.line.wait_for(BEHIND, ANSWERS)
     place.first.cut()
     place.pair.start(place.first)
@@ -193,11 +198,7 @@ def hangs(place: Place) -> None:
     place.pair.wait_address_gone(place.first, SEEN)
     found = place.answers(place.first, numbers)
     place.expect(not found, f"(g): the machine that woke up answers {found}")
-    place.line.wait_for(BEHIND, ANSWERS)
-    place.first.cut()
-    place.pair.start(place.first)
-    joined_again(place, place.second, place.first)
-    place.swap()
+    first_follows(place)
 
 
 def upgrade(place: Place) -> None:

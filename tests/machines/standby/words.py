@@ -37,6 +37,14 @@ def mended(place: Place, cut: Cut) -> None:
     place.cuts.append(cut)
 
 
+def goes_on(place: Place, cut: Cut) -> None:
+    """The first goes on alone. The cable is mended, and the second comes back."""
+    cut.replied = place.next_reply()
+    place.cuts.append(cut)
+    place.pair.cable.mend()
+    back(place, place.second)
+
+
 def fenced(place: Place) -> None:
     """The plant's power switch says that the other machine is off: the first goes on alone without anybody, and so does
     a takeover, which wants the witness still."""
@@ -77,10 +85,7 @@ def fence_fails(place: Place) -> None:
         place.expect(place.second.is_on(), "the power switch cut power that it didn't say")
         place.second.cut()
         place.word()
-        cut.replied = place.next_reply()
-        place.cuts.append(cut)
-        place.pair.cable.mend()
-        back(place, place.second)
+        goes_on(place, cut)
 
 
 def frozen_long(place: Place) -> None:
@@ -94,10 +99,7 @@ def frozen_long(place: Place) -> None:
     place.second.cut()
     place.word()
     place.tell(f"a word behind the handler's end: {place.pair.state(place.first)}")
-    cut.replied = place.next_reply()
-    place.cuts.append(cut)
-    place.pair.cable.mend()
-    back(place, place.second)
+    goes_on(place, cut)
 
 
 def frozen_until_ended(place: Place, seconds: float = 120) -> float:
@@ -116,7 +118,4 @@ def frozen_ten_minutes(place: Place) -> None:
     cut = Cut("cable, a word behind ten minutes", seen=frozen_until_ended(place, 900))
     place.second.cut()
     place.word()
-    cut.replied = place.next_reply()
-    place.cuts.append(cut)
-    place.pair.cable.mend()
-    back(place, place.second)
+    goes_on(place, cut)
