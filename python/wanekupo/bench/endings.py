@@ -45,9 +45,6 @@ class Ending:
         filled = {name: shown(str(facts.get(name) or "")) for name in FACTS}
         return f"{self.told.format(**filled).replace(' ()', '').replace(': )', ')')}: {self.todo.format(**filled)}."
 
-    def is_pass(self) -> bool:
-        return self.effect == PASS
-
     def is_last(self) -> bool:
         """Whether the chip isn't awaited any more: it doesn't go on where it was."""
         return self.effect in (PASS, RED) or self.name in SENT_AWAY

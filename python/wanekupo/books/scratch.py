@@ -3,7 +3,7 @@
 import json
 import marshal
 import sqlite3
-from functools import lru_cache
+from functools import lru_cache, partial
 from typing import Any, Callable, Iterable, Iterator, Mapping
 
 # A base that is there for one run needs no journal, and 8 MB of its file are in memory.
@@ -48,7 +48,7 @@ class Values:
 
     def __init__(self) -> None:
         self._base = base_of("CREATE TABLE it (place INTEGER PRIMARY KEY, data BLOB, members BLOB)")
-        self._members = lru_cache(LAST)(self._members_at)
+        self._members = lru_cache(LAST)(partial(self._loaded, "members"))
 
     def add(self, data: Any, members: Any) -> int:
         words = marshal.dumps(data), marshal.dumps(members)
@@ -59,16 +59,13 @@ class Values:
         self._members.cache_clear()
 
     def at(self, place: int) -> Any:
-        return self._loaded(place, "data")
+        return self._loaded("data", place)
 
     def members(self, place: int) -> tuple[Mapping[str, Any], Mapping[str, Any]]:
         """Both of the members at a place."""
         return Part(self._members, place, 0), Part(self._members, place, 1)
 
-    def _members_at(self, place: int) -> Any:
-        return self._loaded(place, "members")
-
-    def _loaded(self, place: int, name: str) -> Any:
+    def _loaded(self, name: str, place: int) -> Any:
         ((data,),) = self._base.execute(f"SELECT {name} FROM it WHERE place = ?", (place,))
         return marshal.loads(data)
 

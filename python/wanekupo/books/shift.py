@@ -9,7 +9,7 @@ from bisect import bisect_left
 from collections import Counter, defaultdict
 from dataclasses import dataclass, field
 from datetime import datetime
-from typing import Iterable, Optional
+from typing import Iterable, NamedTuple, Optional
 
 from wanekupo.books.steps import SET_BACK, Book, Step
 from wanekupo.common.moments import moment_of, text_of
@@ -127,8 +127,7 @@ class StationShift:
         return max(self.seconds) if self.seconds else (None, "")
 
 
-@dataclass(frozen=True)
-class Lost:
+class Lost(NamedTuple):
     """A chip that was given up, with who did it and why."""
 
     at: str
@@ -140,8 +139,7 @@ class Lost:
     reason: str
 
 
-@dataclass(frozen=True)
-class UnfinishedChip:
+class UnfinishedChip(NamedTuple):
     """A chip that isn't finished: its state since its last step."""
 
     customer: str

@@ -35,6 +35,14 @@ def required_words(*names: str) -> Callable[[argparse.ArgumentParser], None]:
     return add_arguments
 
 
+def add_journals(parser: argparse.ArgumentParser) -> None:
+    parser.add_argument("journals", nargs="+", metavar="JOURNAL", help="a journal, or a folder with journals")
+
+
+def add_json(parser: argparse.ArgumentParser, other: str = "values and commas") -> None:
+    parser.add_argument("--json", action="store_true", help=f"a line of JSON each, in place of {other}")
+
+
 def chip_word(word: str) -> str:
     """A chip's name, also with the colons that it has in a list."""
     return word.replace(":", "").lower() if COLONS.fullmatch(word) else word
