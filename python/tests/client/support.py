@@ -403,16 +403,23 @@ def life(station, chip_io, public_key=PUBLIC_KEY, order=ORDER["name"]):
     return station.device(chip)
 
 
-class StationCase(unittest.TestCase):
+class FolderCase(unittest.TestCase):
+    """A folder that goes with its test."""
+
+    def setUp(self):
+        folder = tempfile.TemporaryDirectory()
+        self.addCleanup(folder.cleanup)
+        self.folder = Path(folder.name)
+
+
+class StationCase(FolderCase):
     """A folder with a program, a key's file, and a seat with an order and the map. With `over_office` the tests run
     over the office of the API's page too, where no program is built."""
 
     over_office = False
 
     def setUp(self):
-        folder = tempfile.TemporaryDirectory()
-        self.addCleanup(folder.cleanup)
-        self.folder = Path(folder.name)
+        super().setUp()
         self.program = Program(self.folder, self.site(), self.over_office)
         self.addCleanup(lambda: self.program.kill())
         (self.folder / "flash.key").write_bytes(FLASH_KEY)
@@ -435,6 +442,13 @@ class StationCase(unittest.TestCase):
     def station(self, url=None, token="abc", file="a1.json", **options):
         station = Station(url or self.program.url, token, self.folder / file, **options)
         self.addCleanup(station.close)
+        return station
+
+    def prepared(self, **options):
+        """A seat with the order and the map."""
+        station = self.station(**options)
+        station.make_order(**ORDER)
+        station.import_map(MAP)
         return station
 
     def proxy(self, faults=(), kind=Proxy):

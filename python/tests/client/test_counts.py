@@ -4,12 +4,11 @@ docs/line/bench.md.
 
 import contextlib
 import json
-import tempfile
-import unittest
-from pathlib import Path
 from unittest import mock
 
 import support  # noqa: F401  it finds the package
+
+from support import FolderCase
 
 from wanekupo.bench.board import ShiftCounts, ended_socket
 from wanekupo.bench.endings import Ended
@@ -38,13 +37,8 @@ CASES = [
 ]
 
 
-class Counts(unittest.TestCase):
+class Counts(FolderCase):
     """The counts that a bench keeps."""
-
-    def setUp(self):
-        folder = tempfile.TemporaryDirectory()
-        self.addCleanup(folder.cleanup)
-        self.folder = Path(folder.name)
 
     def test_each_chip_once(self):
         for place, (stays, *expected) in enumerate(CASES):

@@ -152,9 +152,7 @@ class Keys(StationCase):
     def setUp(self):
         super().setUp()
         self.proxy_of = self.proxy()
-        self.seat = self.station(self.proxy_of.url, patience=0)
-        self.seat.make_order(**ORDER)
-        self.seat.import_map(MAP)
+        self.seat = self.prepared(url=self.proxy_of.url, patience=0)
         self.held = self.chip()
         self.seat.register(MAC, "o1", DIGEST, self.held.read())
         self.seat.plan(MAC, WISHES)

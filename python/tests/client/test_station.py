@@ -121,9 +121,7 @@ class Commands(StationCase):
     @unittest.skipUnless(os.environ.get("ESPEFUSE"), "the words of a real espefuse.py aren't in ESPEFUSE")
     def test_a_life_over_espefuse_itself(self):
         """espefuse's own virtual chip; without --no-protect-key the same key ends as `stray`."""
-        station = self.station()
-        station.make_order(**ORDER)
-        station.import_map(MAP)
+        station = self.prepared()
         for mac, protects in ((MAC, False), ("240ac4000002", True)):
             words = ["--chip", "esp32", "--virt", "--path-efuse-file", str(self.folder / mac), "--do-not-confirm"]
             chip_io = Espefuse([*shlex.split(os.environ["ESPEFUSE"]), *words], self.keys)
@@ -143,9 +141,7 @@ class Commands(StationCase):
                 self.assertEqual(steps(self.ledger(mac)), LIFE)
 
     def test_refusals_have_their_numbers(self):
-        station = self.station()
-        station.make_order(**ORDER)
-        station.import_map(MAP)
+        station = self.prepared()
         station.register(MAC, "o1", DIGEST, self.chip().read())
         other, others = "240ac4000002", self.chip("240ac4000002").read()
         overlapping = MAP.replace("count = 4, write = 0", "count = 5, write = 0")
@@ -176,9 +172,7 @@ class Commands(StationCase):
 
     def test_imports(self):
         """A number that an import gave is passed over; one that is there with its key changes nothing."""
-        station = self.station()
-        station.make_order(**ORDER)
-        station.import_map(MAP)
+        station = self.prepared()
         self.assertEqual(station.import_serials("acme-ca", rows("A998 Z1")), Imported(2, 0))
         self.assertEqual(station.import_serials("acme-ca", rows("Z1 Z2")), Imported(1, 1))
         self.assertEqual(station.import_serials("acme-ca", []), Imported(0, 0))
@@ -226,9 +220,7 @@ class Commands(StationCase):
         self.assertEqual(station.import_all("acme-ca", given), (Imported(200, 500), 0))
 
     def test_a_long_ledger_is_shown_whole(self):
-        station = self.station()
-        station.make_order(**ORDER)
-        station.import_map(MAP)
+        station = self.prepared()
         chip = self.chip()
         station.register(MAC, "o1", DIGEST, chip.read())
         station.plan(MAC, WISHES)
@@ -280,9 +272,7 @@ class Quarantine(StationCase):
 
     def setUp(self):
         super().setUp()
-        self.seat = self.station()
-        self.seat.make_order(**ORDER)
-        self.seat.import_map(MAP)
+        self.seat = self.prepared()
         self.held = self.chip()
         self.seat.register(MAC, "o1", DIGEST, self.held.read())
         self.seat.plan(MAC, WISHES)

@@ -98,9 +98,7 @@ class Yield(StationCase):
 
     def test_the_report_of_now(self):
         """A customer's and the site's, each with what a chip's life adds to what was printed before."""
-        station = self.station()
-        station.make_order(**ORDER)
-        station.import_map(MAP)
+        station = self.prepared()
         for name, token in (("acme", "abc"), ("site", "test")):
             self.written(f"{name}.token", token)
             (self.folder / f"{name}.token").chmod(0o600)

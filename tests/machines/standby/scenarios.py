@@ -5,16 +5,8 @@ import time
 
 from machines.standby.pair import JOINED, SEEN, UP
 from machines.standby.place import (
-    ANSWERS,
-    BEHIND,
-    DISK_FAILS,
-    Cut,
-    Place,
-    back,
-    is_alone,
-    joined_again,
-    new_disk,
-)
+    ANSWERS, BEHIND, DISK_FAILS, Cut, Place, back, first_lost, is_alone, joined_again, new_disk,
+)  # fmt: skip
 
 
 # What a refusal says.
@@ -25,10 +17,7 @@ def power_cut(place: Place) -> None:
     """(a), and with the roles exchanged (b): the power of the first is cut, the second takes over, and the first
     follows."""
     place.work()
-    moment = time.monotonic()
-    place.first.cut()
-    place.pair.address.move(None)
-    seen = is_alone(place, place.second, moment)
+    seen = first_lost(place)
     place.refused("without a word", place.second, "", NO_WORD)
     place.taken_over("power of the first", seen, place.off())
     back(place, place.first)

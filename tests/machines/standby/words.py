@@ -5,7 +5,7 @@ import time
 
 from machines.standby.image import STANDBY
 from machines.standby.pair import SEEN
-from machines.standby.place import Cut, Place, back, is_alone
+from machines.standby.place import Cut, Place, back, first_lost, is_alone
 from machines.standby.power import PowerSwitch
 from machines.standby.scenarios import NO_WORD
 
@@ -59,10 +59,7 @@ def fenced(place: Place) -> None:
         back(place, place.second)
         switch.install(place.second)
         place.work()
-        moment = time.monotonic()
-        place.first.cut()
-        place.pair.address.move(None)
-        seen = is_alone(place, place.second, moment)
+        seen = first_lost(place)
         place.taken_over("power of the first, the switch asked", seen, "")
         place.expect(switch.asked[-1] == place.first.name, f"the power switch was asked for {switch.asked}")
         back(place, place.first)
