@@ -1,10 +1,10 @@
 """station-site: what it says of a text, growths of a site over a served store, kills and failed starts.
 
 Each text of sites_faults.py has its number and the words that the program tells. Where a map is wrong the tool's reader
-says (map_cases.py of python/tests/plant has the texts), and it has the program's number, also of texts that were changed by chance. Growths are said
-in words, tried over a copy of the store, and put in place with one stop. A growth that is killed right before one of
-its deeds (a file, a rename, a program) and begun again ends as one that nobody cut, and no token is lost, made twice,
-printed, or in a program's words.
+says (python/tests/plant/map_cases.py has the texts), and it has the program's number, also of texts that were changed
+by chance. Growths are said in words, tried over a copy of the store, and put in place with one stop. A growth that is
+killed right before one of its deeds (a file, a rename, a program) and begun again ends as one that nobody cut, and no
+token is lost, made twice, printed, or in a program's words.
 """
 
 import os
