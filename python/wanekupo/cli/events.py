@@ -16,7 +16,7 @@ from wanekupo.common.errors import BadSettings, BadStateFile, NoReply
 from wanekupo.common.files import hold_lock, opened_own, replace_file, tested_folder
 from wanekupo.common.printing import print_shown
 from wanekupo.common.texts import compact_json
-from wanekupo.seat.command_line import Command, add_journals
+from wanekupo.seat.command_line import Command, add_journal_words
 from wanekupo.seat.journal import OF_A_DAY, Asked, merged
 from wanekupo.seat.settings import Settings
 
@@ -101,7 +101,7 @@ def _place_in(kept: Path) -> dict[str, str]:
 
 
 def _add_arguments(parser: argparse.ArgumentParser) -> None:
-    add_journals(parser)
+    add_journal_words(parser)
     parser.add_argument("--cfx", action="store_true", required=True, help="in the form of IPC-CFX: there is no other")
     parser.add_argument("--kept", type=Path, required=True, metavar="FILE", help="where the place is, with FILE.lock")
     parser.add_argument("--post", metavar="URL", help="give each message to a listener, in place of printing it")

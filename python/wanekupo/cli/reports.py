@@ -5,7 +5,7 @@ from pathlib import Path
 
 from wanekupo.cli.change_commands import asks
 from wanekupo.cli.shift import add_period
-from wanekupo.seat.command_line import Command, add_journals, add_json, file_text
+from wanekupo.seat.command_line import Command, add_journal_words, add_json, file_text
 from wanekupo.seat.settings import Settings, looking_station_of
 from wanekupo.common.errors import BadSettings, NotTheServer, StationError
 from wanekupo.seat.journal import issued, merged
@@ -30,7 +30,7 @@ site file, or where that isn't there its folder's: then one that two stations ga
 
 
 def _add_issued(parser: argparse.ArgumentParser) -> None:
-    add_journals(parser)
+    add_journal_words(parser)
     add_json(parser)
 
 
@@ -46,7 +46,7 @@ def _issued(_: Settings, args: argparse.Namespace) -> int:
 
 
 def _add_lost(parser: argparse.ArgumentParser) -> None:
-    add_journals(parser)
+    add_journal_words(parser)
     add_period(parser, is_required=False)
     add_folders(parser)
     said = "with --folders, the site file, which says whose each seat is (%(default)s)"
@@ -126,5 +126,5 @@ COMMANDS = [
     Command("issued", "show the records that journals have", _add_issued, _issued),
     Command("lost", "show which chips were lost or scrapped, when and why, by journals", _add_lost, _lost, GIVEN_UP),
     Command("yield", "show what was done between two reports that were printed", _add_yield, _yield, YIELDED),
-    Command("restore", "bring what journals say into a restored store", add_journals, asks(restore_journals)),
+    Command("restore", "bring what journals say into a restored store", add_journal_words, asks(restore_journals)),
 ]

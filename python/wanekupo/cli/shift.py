@@ -10,7 +10,7 @@ from wanekupo.books.numbers_left import asked, rests
 from wanekupo.books.shift import Owned, period_of, shift_of
 from wanekupo.books.shift_page import as_html, as_text, shift_tables
 from wanekupo.books.steps import books_of, named, told_faults
-from wanekupo.seat.command_line import Command, add_journals, told_as_error
+from wanekupo.seat.command_line import Command, add_journal_words, told_as_error
 from wanekupo.seat.settings import Settings
 from wanekupo.common.errors import BadSettings
 from wanekupo.common.moments import moment_of, tested_period
@@ -29,7 +29,7 @@ def add_period(parser: argparse.ArgumentParser, is_required: bool = True) -> Non
 
 
 def _add_arguments(parser: argparse.ArgumentParser) -> None:
-    add_journals(parser)
+    add_journal_words(parser)
     add_period(parser)
     said = "ask what orders have left, by a customer's token that looks: FILE, or acme=FILE; may come again"
     parser.add_argument("--left", action="append", default=[], metavar="TOKEN", help=said)

@@ -8,7 +8,7 @@ import argparse
 from pathlib import Path
 from typing import Any, Iterable, Mapping
 
-from wanekupo.seat.command_line import Command, add_journals
+from wanekupo.seat.command_line import Command, add_journal_words
 from wanekupo.seat.settings import Settings
 from wanekupo.common.errors import BadJournal
 from wanekupo.common.moments import now_text
@@ -56,4 +56,4 @@ def _witness(settings: Settings, args: argparse.Namespace) -> int:
     return 0
 
 
-COMMANDS = [Command("witness", "show the highest accepted number of each seat", add_journals, _witness, MORE)]
+COMMANDS = [Command("witness", "show the highest accepted number of each seat", add_journal_words, _witness, MORE)]

@@ -35,7 +35,7 @@ def required_words(*names: str) -> Callable[[argparse.ArgumentParser], None]:
     return add_arguments
 
 
-def add_journals(parser: argparse.ArgumentParser) -> None:
+def add_journal_words(parser: argparse.ArgumentParser) -> None:
     parser.add_argument("journals", nargs="+", metavar="JOURNAL", help="a journal, or a folder with journals")
 
 
