@@ -8,7 +8,6 @@ from pathlib import Path
 
 import pytest
 from wanekupo.common import token_file
-from wanekupo.standby.half import StandbySettings
 from scripts import script
 from wanekupo.common.token_file import LAST, Outer, TokenSeat, TokenError, Tokens, mark_of, tokens_of
 
@@ -191,20 +190,3 @@ def test_a_site_file_lies_where_nobody_else_puts_another(tmp_path):
     with pytest.raises(TokenError, match="others may write it"):
         token.run_token(args_of(*words, str(site)))
     assert there.read_text() == site.read_text() == SITE and not path.exists()
-
-
-def test_a_list_that_cant_be_left_is_status_6(tmp_path, monkeypatch):
-    path, _ = files(tmp_path)
-    monkeypatch.setattr(token, "SETTINGS", tmp_path)
-    monkeypatch.setattr(token, "read_settings", lambda: StandbySettings(tokens=str(path)))
-    monkeypatch.setattr(token.Half, "is_mounted", lambda self: True)
-    frozen = token.StandbyError("frozen.")
-    monkeypatch.setattr(token.living, "leave", lambda half, tokens: (_ for _ in ()).throw(frozen))
-    with pytest.raises(TokenError, match="the other machine doesn't know it. frozen") as error:
-        token.run_token(args_of("--file", str(path), "--no-reload", "seat", "a1", "--customer", "acme"))
-    assert error.value.status == 6 and "a1" in tokens_of(path.read_text(), path).seats
-    left = []
-    monkeypatch.setattr(token.living, "leave", lambda half, tokens: left.append(sorted(tokens.seats)))
-    token.run_token(args_of("--file", str(path), "--no-reload", "seat", "b1", "--customer", "bolt"))
-    token.run_token(args_of("--file", str(path), "--no-reload", "list"))
-    assert left == [["a1", "b1"]]

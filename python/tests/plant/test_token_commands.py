@@ -1,5 +1,6 @@
 """The commands for tokens: what each makes, ends and prints, what is refused, and what is left where nginx refuses."""
 
+import contextlib
 import os
 import re
 import stat
@@ -463,7 +464,10 @@ def test_one_of_two_machines(file, tmp_path, monkeypatch, capsys, is_mounted, le
     monkeypatch.setattr(token, "read_settings", lambda: StandbySettings(tokens=str(file)))
     monkeypatch.setattr(token.Half, "is_mounted", lambda it: is_mounted)
 
+    lists = []
+
     def leave(half, tokens):
+        lists.append(sorted(tokens.seats))
         if left:
             raise token.StandbyError(left)
 
@@ -471,10 +475,14 @@ def test_one_of_two_machines(file, tmp_path, monkeypatch, capsys, is_mounted, le
     missed = token.left_to_the_other(file, seats())
     assert (missed and missed.status) == status and told in capsys.readouterr().err
     put(file, tokens_text(seats()))
-    monkeypatch.setattr(token, "commit", lambda *_: TokenError(5, "no worker"))
-    with pytest.raises(TokenError, match="no worker" + ("\n.*frozen" if left else "")) as error:
-        token.run_token(words(file, "add", "a1"))
-    assert error.value.status == 5
+    for late, wanted in ((None, status), (TokenError(5, "no worker"), 5)):
+        monkeypatch.setattr(token, "commit", lambda *_, late=late: late)
+        said = "\n.*".join(filter(None, (late and "no worker", left)))
+        with pytest.raises(TokenError, match=said) if wanted else contextlib.nullcontext() as error:
+            token.run_token(words(file, "add", "a1"))
+        assert wanted is None or error.value.status == wanted
+    token.run_token(words(file, "list"))
+    assert lists == is_mounted * 3 * [["a1", "b1"]], "a look leaves none"
 
 
 def test_on_one_machine_alone_nothing_is_left(file, tmp_path, monkeypatch):
