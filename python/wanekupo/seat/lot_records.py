@@ -141,8 +141,11 @@ def fields_of(row: Row, names: Sequence[str]) -> list[str]:
     """A row's fields in a list for people. Addresses of a serial number stand in one, with a space between."""
     found = ((name, "" if row[name] is None else row[name]) for name in names)
     texts = {name: it if isinstance(it, list) else [it] for name, it in found}
-    addresses = {name: " ".join(bytes.fromhex(it).hex(":") for it in texts[name]) for name in texts.keys() & ADDRESSES}
-    return [addresses.get(name, its[0]) for name, its in texts.items()]
+    return [" ".join(map(with_colons, its)) if name in ADDRESSES else its[0] for name, its in texts.items()]
+
+
+def with_colons(address: str) -> str:
+    return bytes.fromhex(address).hex(":") if address else ""
 
 
 def is_row(row: Mapping[str, Any]) -> bool:
