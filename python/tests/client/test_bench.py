@@ -13,18 +13,7 @@ import sys
 import time
 import unittest
 
-from running import (
-    FACTS,
-    GREEN,
-    PAGE,
-    BenchCase,
-    Robot,
-    Running,
-    macs_of,
-    script,
-    table_rows,
-    tool,
-)
+from running import FACTS, GREEN, PAGE, BenchCase, Robot, Running, macs_of, script, table_rows, tool
 from simulated_chip import NEWER, chip_class, new_chip
 from support import ROOT, SIMULATED, Proxy, steps
 

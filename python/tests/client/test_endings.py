@@ -13,20 +13,7 @@ import subprocess
 import time
 from pathlib import Path
 
-from running import (
-    ASK_WHERE,
-    FACTS,
-    GREEN,
-    PAGE,
-    RED,
-    BenchCase,
-    is_passed,
-    life_of,
-    macs_of,
-    script,
-    table_rows,
-    tool,
-)
+from running import ASK_WHERE, FACTS, GREEN, PAGE, RED, BenchCase, is_passed, life_of, macs_of, script, table_rows, tool
 from support import DIGEST, LIFE, MAC, MAP, ORDER, Proxy, TlsProxy, steps, whole
 
 from wanekupo.seat.journal import issued, strict_lines, requests_of

@@ -13,22 +13,8 @@ from unittest import mock
 from books_case import ALWAYS, audited
 from simulated_chip import SimulatedChip
 from support import (
-    CHUNKED,
-    DIGEST,
-    DRIPPING,
-    LIFE,
-    MAC,
-    MAP,
-    ORDER,
-    OTHERS,
-    Canned,
-    Held,
-    Proxy,
-    StationCase,
-    life,
-    rows,
-    steps,
-)
+    CHUNKED, DIGEST, DRIPPING, LIFE, MAC, MAP, ORDER, OTHERS, Canned, Held, Proxy, StationCase, life, rows, steps,
+)  # fmt: skip
 
 import wanekupo.seat.connection
 from wanekupo.common.errors import BadStateFile, NoReply, NotTheServer, OutOfStep

@@ -14,23 +14,9 @@ from unittest import mock
 
 from simulated_chip import SimulatedChip
 from support import (
-    BLANK,
-    DIGEST,
-    FIRST,
-    FLASH_DIGEST,
-    LIFE,
-    MAC,
-    MAP,
-    NOTHING,
-    ORDER,
-    PUBLIC_KEY,
-    SECOND,
-    WISHES,
-    StationCase,
-    life,
-    rows,
-    steps,
-)
+    BLANK, DIGEST, FIRST, FLASH_DIGEST, LIFE, MAC, MAP, NOTHING, ORDER, PUBLIC_KEY, SECOND, WISHES, StationCase, life,
+    rows, steps,
+)  # fmt: skip
 
 from wanekupo.chips.chip import bit
 from wanekupo.seat.import_rows import import_parts
