@@ -407,9 +407,7 @@ class FolderCase(unittest.TestCase):
     """A folder that goes with its test."""
 
     def setUp(self):
-        folder = tempfile.TemporaryDirectory()
-        self.addCleanup(folder.cleanup)
-        self.folder = Path(folder.name)
+        self.folder = Path(self.enterContext(tempfile.TemporaryDirectory()))
 
 
 class StationCase(FolderCase):
@@ -435,9 +433,7 @@ class StationCase(FolderCase):
         return SITE
 
     def journal(self, file="a1.journal"):
-        journal = Journal(self.folder / file)
-        self.addCleanup(journal.close)
-        return journal
+        return self.enterContext(contextlib.closing(Journal(self.folder / file)))
 
     def station(self, url=None, token="abc", file="a1.json", **options):
         station = Station(url or self.program.url, token, self.folder / file, **options)
@@ -452,9 +448,7 @@ class StationCase(FolderCase):
         return station
 
     def proxy(self, faults=(), kind=Proxy):
-        proxy = kind(self.program, faults)
-        self.addCleanup(proxy.close)
-        return proxy
+        return self.enterContext(contextlib.closing(kind(self.program, faults)))
 
     def canned(self, *words, **options):
         """The URL of what isn't the program, and answers each request with a page, or with bytes and a pause."""

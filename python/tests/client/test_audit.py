@@ -383,8 +383,7 @@ class Seals(BooksCase):
     def test_a_service_that_is_none(self):
         """A time stamp is asked of what doesn't speak HTTP: that is told in words, and nothing is added."""
         seals, store = self.sealed(), self.folder / "copy" / "books.db"
-        server = socket.create_server(("127.0.0.1", 0))
-        self.addCleanup(server.close)
+        server = self.enterContext(contextlib.closing(socket.create_server(("127.0.0.1", 0))))
 
         def answer():
             with contextlib.closing(server.accept()[0]) as client:

@@ -82,8 +82,7 @@ class Looking(CommandCase):
         """As `wanekupo devices | head -1`: quiet, whether the reader went before the first line or between."""
         device = {"chip": MAC, "order": "o1", "state": "shipped", "reason": None, "serial": "A998"}
         page = json.dumps({"devices": 5000 * [device], "next": None}).encode()
-        canned = Canned.page(200, "application/json", page)
-        self.addCleanup(canned.close)
+        canned = self.enterContext(contextlib.closing(Canned.page(200, "application/json", page)))
         words = [sys.executable, "-B", "-m", "wanekupo", "devices", "--url", canned.url]
         environment = {**os.environ, "HOME": str(self.folder), "PYTHONPATH": str(CLIENT)}
         for lines in (0, 1):

@@ -213,9 +213,7 @@ class Cut(StationCase):
             station.import_map("# \u0416\n" + MAP)
             station.make_order(**ORDER)
         whole = (self.folder / "a1.journal").read_bytes().splitlines(keepends=True)
-        patch = mock.patch.object(os, "fsync")  # nothing is cut here by a power failure
-        patch.start()
-        self.addCleanup(patch.stop)
+        self.enterContext(mock.patch.object(os, "fsync"))  # nothing is cut here by a power failure
         for lines in (whole, whole[:-1]):
             before, last = b"".join(lines[:-1]), lines[-1]
             for end in range(len(last) + 1):

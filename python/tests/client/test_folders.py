@@ -25,9 +25,7 @@ class Removing(unittest.TestCase):
     """What is in a folder that goes."""
 
     def setUp(self):
-        room = tempfile.TemporaryDirectory()
-        self.addCleanup(room.cleanup)
-        self.room = Path(room.name)
+        self.room = Path(self.enterContext(tempfile.TemporaryDirectory()))
         self.folder = self.room / "chips" / MAC
         (self.folder / "deeper").mkdir(parents=True)
 

@@ -287,9 +287,7 @@ class Days(StationCase):
         self.days.mkdir(mode=0o700)
         self.now = "2026-11-28T23:59:59Z"
         moment = lambda: time.strptime(self.now, "%Y-%m-%dT%H:%M:%SZ")
-        patch = mock.patch.object(time, "gmtime", moment)
-        patch.start()
-        self.addCleanup(patch.stop)
+        self.enterContext(mock.patch.object(time, "gmtime", moment))
         self.wire = self.proxy()
 
     def opened(self):

@@ -30,9 +30,7 @@ class Late(StationCase):
 
     def setUp(self):
         super().setUp()
-        patch = mock.patch.object(wanekupo.seat.connection, "FIRST_PAUSE", 0.01)
-        patch.start()
-        self.addCleanup(patch.stop)
+        self.enterContext(mock.patch.object(wanekupo.seat.connection, "FIRST_PAUSE", 0.01))
         self.told, self.wire = [], self.proxy()
         self.seat, self.other = self.opened(), self.station(token="second", file="a2.json")
         self.seat.make_order(**{**ORDER, "macs": 0})

@@ -39,9 +39,7 @@ class Matter(BenchCase):
         (self.folder / "bin").mkdir()
         script(self.folder / "bin" / "wanekupo", f'exec {sys.executable} -B -m wanekupo "$@"\n')
         named = {"PATH": f"{self.folder}/bin:{os.environ['PATH']}", "WANEKUPO_URL": self.program.url}
-        patch = mock.patch.dict(os.environ, named)
-        patch.start()
-        self.addCleanup(patch.stop)
+        self.enterContext(mock.patch.dict(os.environ, named))
 
     def bench(self, csr, hooks=None, profile=PROFILE):
         """A bench for two parts without fuses, whose requests this script makes."""

@@ -44,9 +44,7 @@ class Words(FolderCase):
     def setUp(self):
         """What a file changes is taken back."""
         for place, values in ((ENDINGS, {}), (words.SAID, copy.deepcopy(words.SAID))):
-            patch = mock.patch.dict(place, values)
-            self.addCleanup(patch.stop)
-            patch.start()
+            self.enterContext(mock.patch.dict(place, values))
         super().setUp()
 
     def file(self, text):

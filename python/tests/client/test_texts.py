@@ -37,9 +37,7 @@ def blocks_of(text):
 
 class Texts(unittest.TestCase):
     def setUp(self):
-        folder = tempfile.TemporaryDirectory()
-        self.addCleanup(folder.cleanup)
-        self.path = str(Path(folder.name) / "a.key")
+        self.path = str(Path(self.enterContext(tempfile.TemporaryDirectory())) / "a.key")
         Path(self.path).write_bytes(bytes(range(32)))
 
     def test_a_dump(self):
