@@ -100,10 +100,10 @@ class House:
         self.other_words: dict[str, object] = {}
         self.owner, self.project = "", PROJECT
 
-    def build(self) -> None:
+    def build(self, site: Path = SITE) -> None:
         """A store that is made, and a backup of it."""
         self.folder.mkdir()
-        self.site.write_bytes(SITE.read_bytes())
+        self.site.write_bytes(site.read_bytes())
         self.site.chmod(0o640)
         for made in (self.backups, self.given, self.db.parent, self.rooms):
             made.mkdir()
@@ -174,13 +174,13 @@ class House:
             shutil.chown(path, OWNER, GROUP)
         shutil.chown(self.site, group=GROUP)
 
-    def proxied(self) -> "subprocess.Popen[bytes]":
-        """nginx by deploy/nginx.conf in front, with other ports and paths."""
+    def proxied(self, *more: tuple[str, str]) -> "subprocess.Popen[bytes]":
+        """nginx by deploy/nginx.conf in front, with other ports and paths, and more words in the place of others."""
         port, certificate = free_port(), self.folder / "cert.pem"
-        certify(self.folder, name="station.example", names="DNS:station.example")
+        certify(self.folder, name="station.example", names="DNS:station.example,DNS:localhost")
         pairs = [("listen 8443", f"listen 127.0.0.1:{port}"), ("127.0.0.1:880;", f"127.0.0.1:{self.port};"),
                  ("/etc/station/", f"{self.folder}/"), ("/var/lib/nginx/", f"{self.folder}/lib-"),
-                 ("/var/log/nginx/", f"{self.folder}/log-")]  # fmt: skip
+                 ("/var/log/nginx/", f"{self.folder}/log-"), *more]  # fmt: skip
         path, pid = self.folder / "nginx.conf", self.folder / "nginx.pid"
         path.write_text(replaced(CONF, pairs))
         subprocess.run([TOOL, "--file", self.tokens, "--no-reload", "write"], capture_output=True, check=True)
