@@ -6,11 +6,10 @@ import shlex
 import shutil
 import signal
 import time
-from collections.abc import Iterable, Iterator
+from collections.abc import Iterable
 from concurrent.futures import ThreadPoolExecutor
-from contextlib import contextmanager
+from contextlib import ExitStack
 from pathlib import Path
-from subprocess import CompletedProcess
 
 import pytest
 
@@ -28,36 +27,31 @@ from wanekupo.standby.witness import compare_numbers, highest_numbers
 
 # The site of the first day, whose customer has nothing; and the customers that station-site adds.
 FIRST, CUSTOMERS = '[[customer]]\nname = "plant"\nissuer = []\n', ("east", "west", "south")
-# Of an order: addresses of a serial number, a beginning, and so many numbers that benches seldom ask for a report.
-MACS, BEGINS, QUANTITY = 2, "20260101000000Z", 5000
+# The addresses of a serial number. Orders are so large that benches seldom ask for a report.
+MACS, ORDER = 2, "--width 5 --first 1 --quantity 5000 --not-before 20260101000000Z --macs".split()
 # A day takes a minute, so nginx gives a caller the shares of an hour in one.
 FAST = ("rate=20r/s", "rate=1000r/s"), ("rate=6r/m", "rate=600r/m")
-# The number of the next year's shift, the longest shift, and a pause in which a journal's second is over.
+# The number of the next year's shift; the seconds of the longest shift, and of a pause between two moments.
 NEXT, SECONDS, PAUSE = 99, 3600, 1.1
 WANEKUPO = command("wanekupo")
 
 
 class Seat:
-    """A seat's folder with its journals, and the command `wanekupo` there."""
+    """A seat's folder, and the command `wanekupo` there, by its token or by one of its customer's that looks."""
 
     def __init__(self, plant: "Plant", customer: str, name: str) -> None:
         self.plant, self.customer, self.name, self.folder = plant, customer, name, plant.folder / "seats" / name
         self.journals = self.folder / "journals"
         self.journals.mkdir(mode=0o700, parents=True)
 
-    def settings(self) -> dict[str, str]:
-        own = {"state": f"{self.folder}/state.json", "journal": str(self.journals), "seat": self.name}
-        return own | self.plant.asks_by(self.name)
+    def settings(self, looks: bool = False) -> dict[str, str]:
+        token = f"{self.plant.given}/{self.customer if looks else self.name}.token"
+        own = {"state": f"{self.folder}/state.json", "journal": str(self.journals), "seat": self.name, "token": token}
+        return own | {"url": self.plant.url, "ca": f"{self.plant.folder}/cert.pem"}
 
-    def wanekupo(self, *words: object) -> None:
-        self.plant.said([*WANEKUPO, *words], **self.settings())
-
-    def order(self, number: int) -> None:
-        """A shift's order."""
-        name, minus, year = self.customer.partition("-")
-        words = ["make-order", f"shift-{number}", f"{name}-ca{minus}{year}", f"{name[0].upper()}{number:02}"]
-        words += ["--width", 5, "--first", 1, "--quantity", QUANTITY, "--macs", MACS, "--not-before", BEGINS]
-        self.wanekupo(*words)
+    def wanekupo(self, *words: object, looks: bool = False, status: int = 0) -> str:
+        own = {f"WANEKUPO_{name.upper()}": it for name, it in self.settings(looks).items()}
+        return self.plant.said([*WANEKUPO, *words], status, **own)
 
 
 class Bench(Seat, Robot):
@@ -79,30 +73,24 @@ class Bench(Seat, Robot):
     def begin(self, number: int, macs: list[str]) -> None:
         """The bench is started for a shift's order, with these chips beside it."""
         words = {"hooks": {"before_ship": {"command": [self.ship]}}, "top": {"order": f"shift-{number}"}, "stop": 99}
-        self.waiting = macs
-        self.bench = Running(self.recipe(self.plant.url, server=self.settings(), **words))
+        self.waiting, self.bench = macs, Running(self.recipe(self.plant.url, server=self.settings(), **words))
+        self.plant.stack.callback(lambda it=self.bench: it.is_alive() and it.kill())
 
     def press(self, name: str) -> None:
         """The key of a socket, or where its chip has failed the red box."""
-        if self.placed[name] in self.results:
-            self.take(name, mac := self.placed.pop(name))
-            self.scrap(mac)
-        else:
-            Robot.press(self, name)
-
-    def end(self) -> None:
-        expect(f"{self.name}: {self.bench.lines[-5:]}", self.bench.end(), 0)
+        if self.placed[name] not in self.results:
+            return Robot.press(self, name)
+        self.take(name, mac := self.placed.pop(name))
+        self.scrap(mac)
 
 
 class Plant(House):
-    """A house with so many benches and so many chips a shift. `certified` is what each shift's `certify` ended with and
-    counted, `lost` the shift whose store was lost."""
+    """A house with so many benches and so many chips a shift. What runs in it ends with `stack`."""
 
-    def __init__(self, program: Path, folder: Path, benches: int, chips: int) -> None:
+    def __init__(self, program: Path, folder: Path, benches: int, chips: int, stack: ExitStack) -> None:
         super().__init__(program, folder / "house")
-        self.places = {it: benches // (2 if it == CUSTOMERS[0] else 4) for it in CUSTOMERS}
         self.chips, self.benches, self.offices = max(1, chips // benches), list[Bench](), dict[str, Seat]()
-        self.following, self.certified, self.lost = House(program, folder / "next"), list[tuple[int, dict]](), 0
+        self.places = dict(zip(CUSTOMERS, (benches // 2, benches // 4, benches // 4)))
         self.all, self.table, self.spool, self.closed, self.backup, self.seals = (
             self.folder / it for it in ("all", "journals.toml", "spool", "closed", "backups/night", "seals-1")
         )
@@ -110,50 +98,27 @@ class Plant(House):
         self.build(folder / "first.toml")
         self.all.mkdir()
         self.spool.mkdir(mode=0o700)
+        self.user = [*self.as_owner(), *WANEKUPO]
         self.seal(self.backup, self.seals)
         self.restores, self.ca, self.since = Seat(self, "", "restores"), made_ca(self.folder / "ca"), now_text()
-
-    @contextmanager
-    def open(self) -> Iterator[None]:
-        """Starts the server and nginx, and ends all that runs, whatever was left."""
-        nginx = self.proxied(*FAST)
+        self.stack, nginx = stack, self.proxied(*FAST)
         self.url = str(self.other_words["--nginx"]).replace("127.0.0.1", "localhost")
         self.service("start")
-        try:
-            yield
-        finally:
-            for it in (it.bench for it in self.benches if it.bench and it.bench.is_alive()):
-                it.kill()
-            nginx.terminate()
-            nginx.wait()
-            for house in (it for it in (self, self.following) if it.site.exists()):
-                house.end()
+        for call in (nginx.wait, nginx.terminate, self.end):
+            stack.callback(call)
 
-    def ended(self, words: Iterable[object], **settings: str) -> "CompletedProcess[str]":
-        own = {f"WANEKUPO_{name.upper()}": it for name, it in settings.items()}
-        return ran(words, self.folder, env={**os.environ, "HOME": "/nonexistent", **own})
-
-    def said(self, words: Iterable[object], **settings: str) -> str:
-        done = self.ended(words, **settings)
-        expect(f"{words}: {done.stdout} {done.stderr}", done.returncode, 0)
+    def said(self, words: Iterable[object], status: int = 0, **own: str) -> str:
+        """What a command prints that has to end so."""
+        done = ran(words, self.folder, env={**os.environ, "HOME": "/nonexistent", **own})
+        expect(f"{words}: {done.stdout} {done.stderr}", done.returncode, status)
         return done.stdout
-
-    def as_user(self, *words: object) -> "CompletedProcess[str]":
-        """`wanekupo` by the store's user."""
-        return self.ended([*self.as_owner(), *WANEKUPO, *words])
-
-    def asks_by(self, token: str) -> dict[str, str]:
-        """The settings of who asks through nginx."""
-        return {"url": self.url, "ca": f"{self.folder}/cert.pem", "token": f"{self.given}/{token}.token"}
-
-    def site_tool(self, *words: str) -> None:
-        run = self.run(*words)
-        expect(run.said, run.status, 0)
 
     def seats(self) -> list[Seat]:
         return [*self.benches, *self.offices.values()]
 
-    # What befalls the site.
+    def site_tool(self, *words: str) -> None:
+        run = self.run(*words)
+        expect(run.said, run.status, 0)
 
     def grow(self, customer: str) -> None:
         """A customer more, with its benches, its office and a seat for restores, for which the server is stopped."""
@@ -171,30 +136,32 @@ class Plant(House):
 
     def close(self) -> None:
         """The year ends, and the next one begins in a store of its own, with a bench of each customer."""
+        text, following = self.folder / "site-2.toml", House(self.program, self.folder / "next")
         self.site_tool("close", str(self.closed))
-        text, server = self.folder / "site-2.toml", f"127.0.0.1:{self.following.port}"
-        self.site_tool("successor", str(text), "--suffix", "2", "--to", str(self.given), "--server", server)
-        self.following.build(text)
-        self.following.service("start")
+        words = ["--suffix", "2", "--to", str(self.given), "--server", f"127.0.0.1:{following.port}"]
+        self.site_tool("successor", str(text), *words)
+        following.build(text)
+        following.service("start")
+        self.stack.callback(following.end)
         self.offices |= {f"{it}-2": Seat(self, f"{it}-2", f"{it}-office-2") for it in CUSTOMERS}
         self.benches += [Bench(self, f"{it}-2", f"{it}-0-2") for it in CUSTOMERS]
         self.shift(NEXT, self.benches[-len(CUSTOMERS):])
-        self.following.service("stop")
-        self.seal(self.save(self.following, "year"), self.folder / "seals-next")
-
-    # A day.
+        following.service("stop")
+        self.seal(self.save(following, "year"), self.folder / "seals-next")
 
     def shift(self, number: int, benches: list[Bench], cut_at: int = -1) -> None:
         """All benches at once. The first machine dies when no more than some chips are left. One of west's fails."""
+        for name, _, year in (it.partition("-") for it in {it.customer for it in benches}):
+            words = [f"shift-{number}", f"{name}-ca{year and '-'}{year}", f"{name[0].upper()}{number:02}", *ORDER, MACS]
+            self.offices[f"{name}{year and '-'}{year}"].wanekupo("make-order", *words)
         heads = {it: f"24{number:02x}{place:02x}" for place, it in enumerate(benches)}
         macs = {it: [f"{head}{chip:06x}" for chip in range(self.chips)] for it, head in heads.items()}
         bad = next(it for it in benches if it.customer.startswith("west"))
         (bad.folder / f"bad-{macs[bad][0]}").touch()
         with ThreadPoolExecutor(8) as pool:
-            list(pool.map(lambda it: self.offices[it].order(number), {it.customer for it in benches}))
             list(pool.map(lambda it: it.begin(number, macs[it]), benches))
             self.work(benches, cut_at)
-            list(pool.map(Bench.end, benches))
+            expect("the benches' ends", set(pool.map(lambda it: it.bench.end(), benches)), {0})
 
     def work(self, benches: list[Bench], cut_at: int) -> None:
         end = time.monotonic() + SECONDS
@@ -206,22 +173,24 @@ class Plant(House):
                 cut_at = -1
             time.sleep(0.05)
 
-    def certify(self) -> tuple[int, dict[str, int]]:
-        """The requests of west's benches come to its CA: how `certify` ends, and what it counts."""
+    def certify(self) -> dict[str, int]:
+        """The requests of west's benches come to its CA: what `certify` counts, which refuses scrapped chips."""
         for file in (file for it in self.benches if it.customer == "west" for file in it.folder.glob("spool/*.csr")):
             shutil.copy(file, self.spool)
-        done = self.ended([*WANEKUPO, "certify", self.spool, "--ca-folder", self.ca], **self.asks_by("west"))
-        return done.returncode, json.loads(done.stdout)
+        words = "certify", self.spool, "--ca-folder", self.ca
+        return json.loads(self.offices["west"].wanekupo(*words, looks=True, status=1))
 
     def gather(self) -> None:
         """The journals come off the stations, each seat's into its folder, which the store's user reads."""
-        for seat in (*self.seats(), self.restores):
-            (self.all / seat.name).mkdir(exist_ok=True)
-            seat.wanekupo("ship-journal", self.all / seat.name)
+        seats = [*self.seats(), self.restores]
+        for it in seats:
+            (self.all / it.name).mkdir(exist_ok=True)
+        with ThreadPoolExecutor(4) as pool:
+            list(pool.map(lambda it: it.wanekupo("ship-journal", self.all / it.name), seats))
         for path in self.all.rglob("*"):
             shutil.chown(path, OWNER, GROUP)
 
-    def night(self, name: str) -> None:
+    def night(self, name: str, status: int = 0) -> None:
         """A backup, its seal and a restart, and an audit of that copy by the journals that came behind it."""
         time.sleep(PAUSE)
         self.moment = now_text()
@@ -230,7 +199,7 @@ class Plant(House):
         self.seal(self.backup, self.seals)
         self.service("start")
         self.gather()
-        self.audit()
+        self.audit(status)
 
     def save(self, house: House, name: str) -> Path:
         """A backup of a stopped server's store."""
@@ -241,15 +210,13 @@ class Plant(House):
     def seal(self, backup: Path, seals: Path) -> None:
         seals.mkdir(exist_ok=True)
         shutil.chown(seals, OWNER, GROUP)
-        done = self.as_user("seal", seals, "--store", backup / "books.db")
-        expect(done.stderr, done.returncode, 0)
+        self.said([*self.user, "seal", seals, "--store", backup / "books.db"])
 
-    def audit(self) -> None:
+    def audit(self, status: int = 0) -> None:
+        """The status is 2 where no line is of the period, as right behind a restore."""
         words = ["audit", self.backup / "books.db", self.all, "--folders", self.table, "--site", self.site]
-        done = self.as_user(*words, "--program", self.program, "--from", self.since, "--to", self.moment)
-        expect(done.stdout + done.stderr, (done.returncode, "Nothing found" in done.stdout), (0, True))
-
-    # What befalls the store.
+        words += ["--program", self.program, "--from", self.since, "--to", self.moment]
+        assert "Nothing found." in self.said([*self.user, *words], status)
 
     def kill(self) -> None:
         """The server is gone from one moment to the next."""
@@ -274,13 +241,7 @@ class Plant(House):
         self.service("start")
         for seat in self.seats():
             seat.wanekupo("number", "--resynchronize")
-        time.sleep(PAUSE)
         self.seals, self.since = self.folder / "seals-2", now_text()
-
-    def numbers(self, backup: Path) -> dict[str, int]:
-        """The last number of each seat of the site in a copy of a store, which the program opened."""
-        counts = json.loads((backup / "about.json").read_text())["counts"]
-        return dict.fromkeys(seats_of(str(self.site)), 0) | last_numbers(counts)
 
     def take_over(self) -> None:
         """The first machine dies, and the second one has the files as they are in that moment. It serves them, as they
@@ -290,8 +251,10 @@ class Plant(House):
         shutil.copytree(self.folder / "first-machine", self.db.parent)
         self.give_away()
         parts = [f"{it.name}={shlex.join(WANEKUPO)} witness {it.journals}" for it in (*self.seats(), self.restores)]
-        replies = highest_numbers([], parts, None, self.table)
-        compare_numbers(self.numbers(self.save(self, "half")), replies)
+        replies, none = highest_numbers([], parts, None, self.table), dict.fromkeys(seats_of(str(self.site)), 0)
+        abouts = [json.loads((it / "about.json").read_text()) for it in (self.save(self, "half"), self.backup)]
+        half, night = (none | last_numbers(it["counts"]) for it in abouts)
+        compare_numbers(half, replies)
         with pytest.raises(StandbyError, match="This half is an older one"):
-            compare_numbers(self.numbers(self.backup), replies)
+            compare_numbers(night, replies)
         self.service("start")
