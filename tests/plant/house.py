@@ -38,7 +38,7 @@ case $1 in
         if [ -e "$here/broken" ]; then echo 5 > "$here/restarts"; exit 0; fi
         $AS "$PROGRAM" serve "${words[@]}" --port "$PORT" --connections 100000 > "$here/served" 2>&1 < /dev/null &
         echo $! > "$here/pid"
-        for _ in $(seq 100); do grep -qs listening "$here/served" && break; sleep 0.02; done ;;
+        for _ in $(seq 3000); do grep -qs listening "$here/served" || ! is_up && break; sleep 0.02; done ;;
     stop)
         echo >> "$here/stops"
         is_up || exit 0

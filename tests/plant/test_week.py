@@ -1,11 +1,11 @@
 """A week of a plant in fast motion, whose books, journals, seals, lists and certificates agree in the end.
 
-Benches of three customers (`wanekupo run`, simulated chips) work shift by shift behind nginx. In each break the server
-is stopped, backed up, sealed and started, the journals come off the stations, and that copy is audited. Behind the
-first shift the site grows. In the middle of the week a shift's store is lost, and restored by the night's backup and
-the journals. In the last shift the first machine dies under load, and a second one takes over. The year is closed, and
-the next one begun. All is held to what the stations were told, by their own journals, which json alone reads. Of chips
-that were lost with their store the numbers are there. A chip of each shift fails its last hook, and is scrapped.
+Benches of three customers work shift by shift behind nginx. In each break the server is stopped, backed up, sealed and
+started, the journals come off the stations, and that copy is audited. Behind the first shift the site grows. In the
+middle of the week a shift's store is lost, and restored by the night's backup and the journals. In the last shift the
+first machine dies under load, and a second one takes over. The year is closed, and the next one begun. All is held to
+what stations were told, by their journals, which json alone reads. Of chips that were lost with their store the numbers
+are there. A chip of each shift fails its last hook, and is scrapped.
 
 What it isn't: a day is a minute, and no journal has a second one. Backups are of a stopped server. The second machine
 has the files that the first one's process left: no DRBD, no cable, no power cut, which machines/test_standby.py has. Of
@@ -13,7 +13,6 @@ a takeover it is the comparison of a half with the witness, and not the command.
 """
 
 import hashlib
-import json
 import os
 import shutil
 import sqlite3
@@ -36,7 +35,6 @@ from plant.week_plant import CUSTOMERS, MACS, Plant, Seat
 pytestmark = [pytest.mark.root, pytest.mark.nginx, pytest.mark.needs("reader", "sqlite3", "rsync", "flock"),
               pytest.mark.sizes(8, 400)]  # fmt: skip
 
-FEW = 100  # below so many chips a shift there are fewer benches and shifts
 Chips = dict[tuple[str, str], dict[str, Any]]
 
 
@@ -44,7 +42,7 @@ Chips = dict[tuple[str, str], dict[str, Any]]
 def plant(program: Path, size: int, found: Callable[[str], None]) -> Iterator[Plant]:
     """The plant at the end of its week. `year` are the chips of the closed year as its stations were told, `known`
     those that the restored store knows, `after` those of the next year."""
-    benches, shifts = (4, 3) if size < FEW else (40, 14)
+    benches, shifts = (4, 3) if size < 100 else (40, 14)
     with tempfile.TemporaryDirectory() as folder, ExitStack() as stack:
         os.chmod(folder, 0o755)
         plant = Plant(program, Path(folder), benches, size, stack)
@@ -54,7 +52,7 @@ def plant(program: Path, size: int, found: Callable[[str], None]) -> Iterator[Pl
         plant.known = {who: it for who, it in plant.year.items() if it["order"] != f"shift-{plant.lost}"}
         plant.after = told(it for it in plant.seats() if it.customer not in CUSTOMERS)
         yield plant
-    made = len(plant.year) + len(plant.after)
+    made = len(plant.year | plant.after)
     found(f"week: {made} chips, {shifts} shifts of {benches} benches, a growth, a restore, a takeover, a closed year")
 
 
@@ -62,10 +60,9 @@ def spend(plant: Plant) -> None:
     for customer in CUSTOMERS[:2]:
         plant.grow(customer)
     for number in range(1, plant.shifts + 1):
-        benches, is_lost = list(plant.benches), number == plant.lost
-        plant.shift(number, benches, len(benches) * plant.chips // 2 if number == plant.shifts else -1)
+        plant.shift(number, list(plant.benches), is_cut=number == plant.shifts)
         plant.certify()
-        if is_lost:
+        if is_lost := number == plant.lost:
             plant.lose()
         plant.night(f"night-{number}", 2 if is_lost else 0)
         if number == 1:
@@ -90,7 +87,7 @@ def told(seats: Iterable[Seat]) -> Chips:
 def list_of(chips: Chips, customer: str = "") -> list[tuple]:
     """The rows of a customer's list in its order, or of all."""
     found = []
-    for it in (it for who, it in chips.items() if who[0].startswith(customer)):
+    for it in (it for who, it in chips.items() if customer in ("", who[0])):
         own, first = it["record"], int(it["record"]["mac"], 16)
         addresses = [f"{first + more:012x}" for more in range(MACS)]
         head = own["serial"], own["issuer"], own["chip"], addresses[0], addresses, own["key_sha256"]
@@ -102,10 +99,10 @@ def test_hands(plant: Plant) -> None:
     """What benches said of each chip is what their journals have; and over both stores nothing is there twice."""
     said = {(it.customer, mac): words for it in plant.benches for mac, words in it.results.items()}
     states, chips = {("passed",): "shipped", ("hook_failed",): "scrapped"}, plant.year | plant.after
-    expect("states", {who: it["state"] for who, it in chips.items()}, {who: states[*it] for who, it in said.items()})
-    expect("scrapped", sum(it["state"] == "scrapped" for it in chips.values()), plant.shifts + 1)
-    rows = list_of(chips)
-    numbers = Counter(it for row in rows for it in (row[:2], row[2], row[5], *row[4]))
+    found = {who: it["state"] for who, it in chips.items()}
+    expect("states", found, {who: states[tuple(it)] for who, it in said.items()})
+    expect("scrapped", Counter(found.values())["scrapped"], plant.shifts + 1)
+    numbers = Counter(it for row in list_of(chips) for it in (row[:2], row[2], row[5], *row[4]))
     expect("twice", [it for it, count in numbers.items() if count > 1], [])
 
 
@@ -118,20 +115,17 @@ def test_journals(plant: Plant) -> None:
 
 
 def test_store(plant: Plant, tmp_path: Path) -> None:
-    """The closed store and its lists have what the journals have, byte by byte, and no more. Of lost chips it has the
-    numbers with their keys."""
-    for name in ("books.db", "books.db-wal"):
-        shutil.copy(plant.closed / name, tmp_path)
+    """Both stores and their lists have what the journals have, byte by byte, and no more. Of lost chips the closed one
+    has the numbers with their keys."""
     expect("SHA256SUMS", ran(["sha256sum", "-c", "--quiet", "SHA256SUMS"], plant.closed).returncode, 0)
-    counts = json.loads((plant.closed / "closed.json").read_text())["customers"]
-    for customer in CUSTOMERS:
-        rows, gone = list_of(plant.known, customer), len(list_of(plant.year, customer))
-        expect(customer, list(rows_of(tmp_path / "books.db", customer)), rows)
-        plant.offices[customer].wanekupo("manifest", "--all", "--out", tmp_path / customer, looks=True)
+    for name, folder in (("closed", plant.closed), ("next", plant.following.backups / "year")):
+        shutil.copytree(folder, tmp_path / name)
+    for customer, office in plant.offices.items():
+        rows, is_closed = list_of(plant.known | plant.after, customer), customer in CUSTOMERS
+        expect(customer, list(rows_of(tmp_path / ("closed" if is_closed else "next") / "books.db", customer)), rows)
+        office.wanekupo("manifest", "--all", "--out", tmp_path / customer, looks=is_closed)
         expect(customer, (tmp_path / customer).read_bytes(), csv_of(rows))
-        wanted = len(rows), gone - len(rows), MACS * len(rows), Counter(row[8] for row in rows)
-        expect(customer, tuple(counts[customer][it] for it in ("serials", "imported", "addresses", "devices")), wanted)
-    with closing(sqlite3.connect(tmp_path / "books.db")) as books:
+    with closing(sqlite3.connect(tmp_path / "closed/books.db")) as books:
         imported = books.execute("SELECT issuer, serial, lower(hex(key)) FROM given WHERE chip IS NULL")
         gone = {who: it for who, it in plant.year.items() if who not in plant.known}
         expect("imported", sorted(imported), sorted((row[1], row[0], row[5]) for row in list_of(gone)))
@@ -142,8 +136,7 @@ def test_store(plant: Plant, tmp_path: Path) -> None:
 
 
 def test_seals(plant: Plant) -> None:
-    """Both chains hold, the restored store has all that was sealed before, the closed one is that of the last night,
-    and nothing is there in both stores."""
+    """Both chains hold, a restore lost nothing sealed, the closed rows are the last night's, both stores are apart."""
     first, last = (sorted(it.glob("*.rows")) for it in (plant.folder / "seals-1", plant.seals))
     expect("seals", (len(first), len(last)), (plant.lost, plant.shifts - plant.lost + 1))
     restored, closed = plant.backups / f"night-{plant.lost}", plant.closed / "seals"
@@ -152,8 +145,8 @@ def test_seals(plant: Plant) -> None:
         assert plant.said([*plant.user, "seal", "--verify", *places]).startswith("Nothing found.\n")
     rows = [line for line in (closed / "000001.rows").read_text("ascii").splitlines(True) if line[:4] != "act "]
     expect("rows", "".join(rows), last[-1].read_text("ascii"))
-    told_of = f"Nothing found: 2 stores, {len(plant.known) + len(plant.after)} records.\n"
-    expect("apart", plant.said([*plant.user, "apart", closed, plant.folder / "seals-next"]), told_of)
+    said = plant.said([*plant.user, "apart", closed, plant.folder / "seals-next"])
+    expect("apart", said, f"Nothing found: 2 stores, {len(plant.known | plant.after)} records.\n")
 
 
 def test_certificates(plant: Plant) -> None:

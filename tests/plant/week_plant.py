@@ -5,10 +5,11 @@ import os
 import shlex
 import shutil
 import signal
+import sqlite3
 import time
 from collections.abc import Iterable
 from concurrent.futures import ThreadPoolExecutor
-from contextlib import ExitStack
+from contextlib import ExitStack, closing
 from pathlib import Path
 
 import pytest
@@ -25,15 +26,13 @@ from wanekupo.standby.half import StandbyError
 from wanekupo.standby.look import seats_of
 from wanekupo.standby.witness import compare_numbers, highest_numbers
 
-# The site of the first day, whose customer has nothing; and the customers that station-site adds.
+# The site of the first day, and the customers that station-site adds.
 FIRST, CUSTOMERS = '[[customer]]\nname = "plant"\nissuer = []\n', ("east", "west", "south")
-# The addresses of a serial number. Orders are so large that benches seldom ask for a report.
+# Orders are so large that benches seldom ask for a report. A day takes a minute, so nginx gives a caller larger shares.
 MACS, ORDER = 2, "--width 5 --first 1 --quantity 5000 --not-before 20260101000000Z --macs".split()
-# A day takes a minute, so nginx gives a caller the shares of an hour in one.
 FAST = ("rate=20r/s", "rate=1000r/s"), ("rate=6r/m", "rate=600r/m")
 # The number of the next year's shift; the seconds of the longest shift, and of a pause between two moments.
-NEXT, SECONDS, PAUSE = 99, 3600, 1.1
-WANEKUPO = command("wanekupo")
+NEXT, SECONDS, PAUSE, WANEKUPO = 99, 3600, 1.1, command("wanekupo")
 
 
 class Seat:
@@ -63,15 +62,13 @@ class Bench(Seat, Robot):
     def __init__(self, plant: "Plant", customer: str, name: str) -> None:
         Seat.__init__(self, plant, customer, name)
         Robot.__init__(self, self, [], None)
-        for made in ("spool", "places"):
-            (self.folder / made).mkdir(mode=0o700)
+        list(map(Path.mkdir, (self.folder / "spool", self.folder / "places")))
         (self.folder / "flash.key").write_bytes(bytes(range(32)))
         (self.folder / "flash.key").chmod(0o600)
         self.csr = script(self.folder / "make-csr", MAKE_CSR)
-        self.ship = script(self.folder / "ship", f'[ ! -e "{self.folder}/bad-$CHIP" ]\n')
+        self.ship = script(self.folder / "ship", f'sleep 0.3; [ ! -e "{self.folder}/bad-$CHIP" ]\n')
 
     def begin(self, number: int, macs: list[str]) -> None:
-        """The bench is started for a shift's order, with these chips beside it."""
         words = {"hooks": {"before_ship": {"command": [self.ship]}}, "top": {"order": f"shift-{number}"}, "stop": 99}
         self.waiting, self.bench = macs, Running(self.recipe(self.plant.url, server=self.settings(), **words))
         self.plant.stack.callback(lambda it=self.bench: it.is_alive() and it.kill())
@@ -83,14 +80,17 @@ class Bench(Seat, Robot):
         self.take(name, mac := self.placed.pop(name))
         self.scrap(mac)
 
+    def is_numbered(self) -> bool:
+        return any(it["serial"] and it["state"] == "working" for it in self.bench.board()["sockets"])
+
 
 class Plant(House):
     """A house with so many benches and so many chips a shift. What runs in it ends with `stack`."""
 
     def __init__(self, program: Path, folder: Path, benches: int, chips: int, stack: ExitStack) -> None:
         super().__init__(program, folder / "house")
-        self.chips, self.benches, self.offices = max(1, chips // benches), list[Bench](), dict[str, Seat]()
-        self.places = dict(zip(CUSTOMERS, (benches // 2, benches // 4, benches // 4)))
+        self.chips = range(max(1, chips // benches))
+        self.benches, self.offices, self.places = list[Bench](), dict[str, Seat](), benches
         self.all, self.table, self.spool, self.closed, self.backup, self.seals = (
             self.folder / it for it in ("all", "journals.toml", "spool", "closed", "backups/night", "seals-1")
         )
@@ -104,11 +104,9 @@ class Plant(House):
         self.stack, nginx = stack, self.proxied(*FAST)
         self.url = str(self.other_words["--nginx"]).replace("127.0.0.1", "localhost")
         self.service("start")
-        for call in (nginx.wait, nginx.terminate, self.end):
-            stack.callback(call)
+        list(map(stack.callback, (nginx.wait, nginx.terminate, self.end)))
 
     def said(self, words: Iterable[object], status: int = 0, **own: str) -> str:
-        """What a command prints that has to end so."""
         done = ran(words, self.folder, env={**os.environ, "HOME": "/nonexistent", **own})
         expect(f"{words}: {done.stdout} {done.stderr}", done.returncode, status)
         return done.stdout
@@ -121,8 +119,8 @@ class Plant(House):
         expect(run.said, run.status, 0)
 
     def grow(self, customer: str) -> None:
-        """A customer more, with its benches, its office and a seat for restores, for which the server is stopped."""
-        benches = [f"{customer}-{number}" for number in range(self.places[customer])]
+        """A customer more, with a half of the benches or a quarter, an office and a seat for restores."""
+        benches = [f"{customer}-{it}" for it in range(self.places // (2 if customer == CUSTOMERS[0] else 4))]
         office, first = f"{customer}-office", f"02{len(self.offices):02x}00000000"
         words = [it for seat in (*benches, office, f"restore-{customer}") for it in ("--seat", seat)]
         words += ["--issuer", f"{customer}-ca", "--pool", first, "1048576", "--to", str(self.given), "--apply"]
@@ -136,49 +134,49 @@ class Plant(House):
 
     def close(self) -> None:
         """The year ends, and the next one begins in a store of its own, with a bench of each customer."""
-        text, following = self.folder / "site-2.toml", House(self.program, self.folder / "next")
+        text, self.following = self.folder / "site-2.toml", House(self.program, self.folder / "next")
         self.site_tool("close", str(self.closed))
-        words = ["--suffix", "2", "--to", str(self.given), "--server", f"127.0.0.1:{following.port}"]
+        words = ["--suffix", "2", "--to", str(self.given), "--server", f"127.0.0.1:{self.following.port}"]
         self.site_tool("successor", str(text), *words)
-        following.build(text)
-        following.service("start")
-        self.stack.callback(following.end)
+        self.following.build(text)
+        self.following.service("start")
+        self.stack.callback(self.following.end)
         self.offices |= {f"{it}-2": Seat(self, f"{it}-2", f"{it}-office-2") for it in CUSTOMERS}
         self.benches += [Bench(self, f"{it}-2", f"{it}-0-2") for it in CUSTOMERS]
         self.shift(NEXT, self.benches[-len(CUSTOMERS):])
-        following.service("stop")
-        self.seal(self.save(following, "year"), self.folder / "seals-next")
+        self.keep(self.following, "year", self.folder / "seals-next")
 
-    def shift(self, number: int, benches: list[Bench], cut_at: int = -1) -> None:
-        """All benches at once. The first machine dies when no more than some chips are left. One of west's fails."""
+    def shift(self, number: int, benches: list[Bench], is_cut: bool = False) -> None:
+        """All benches at once. One of west's chips fails."""
         for name, _, year in (it.partition("-") for it in {it.customer for it in benches}):
             words = [f"shift-{number}", f"{name}-ca{year and '-'}{year}", f"{name[0].upper()}{number:02}", *ORDER, MACS]
             self.offices[f"{name}{year and '-'}{year}"].wanekupo("make-order", *words)
-        heads = {it: f"24{number:02x}{place:02x}" for place, it in enumerate(benches)}
-        macs = {it: [f"{head}{chip:06x}" for chip in range(self.chips)] for it, head in heads.items()}
+        macs = {it: [f"24{number:02x}{at:02x}{chip:06x}" for chip in self.chips] for at, it in enumerate(benches)}
         bad = next(it for it in benches if it.customer.startswith("west"))
         (bad.folder / f"bad-{macs[bad][0]}").touch()
         with ThreadPoolExecutor(8) as pool:
             list(pool.map(lambda it: it.begin(number, macs[it]), benches))
-            self.work(benches, cut_at)
+            self.work(benches, is_cut)
             expect("the benches' ends", set(pool.map(lambda it: it.bench.end(), benches)), {0})
 
-    def work(self, benches: list[Bench], cut_at: int) -> None:
+    def work(self, benches: list[Bench], is_cut: bool) -> None:
+        """Until no chip is left. The first machine may die, when a chip has its number and isn't shipped yet."""
         end = time.monotonic() + SECONDS
         while left := sum(len(it.waiting) + len(it.placed) for it in benches):
             assert time.monotonic() < end, f"{left} chips are left"
             list(map(Bench.look, benches))
-            if left <= cut_at:
+            if is_cut and any(map(Bench.is_numbered, benches)):
                 self.take_over()
-                cut_at = -1
+                is_cut = False
             time.sleep(0.05)
+        assert not is_cut, "no chip was seen in that moment"
 
     def certify(self) -> dict[str, int]:
         """The requests of west's benches come to its CA: what `certify` counts, which refuses scrapped chips."""
         for file in (file for it in self.benches if it.customer == "west" for file in it.folder.glob("spool/*.csr")):
             shutil.copy(file, self.spool)
-        words = "certify", self.spool, "--ca-folder", self.ca
-        return json.loads(self.offices["west"].wanekupo(*words, looks=True, status=1))
+        office = self.offices["west"]
+        return json.loads(office.wanekupo("certify", self.spool, "--ca-folder", self.ca, looks=True, status=1))
 
     def gather(self) -> None:
         """The journals come off the stations, each seat's into its folder, which the store's user reads."""
@@ -191,21 +189,22 @@ class Plant(House):
             shutil.chown(path, OWNER, GROUP)
 
     def night(self, name: str, status: int = 0) -> None:
-        """A backup, its seal and a restart, and an audit of that copy by the journals that came behind it."""
+        """A backup, its seal, and an audit by the journals that came behind it, whose status is 2 without a line."""
         time.sleep(PAUSE)
         self.moment = now_text()
-        self.service("stop")
-        self.backup = self.save(self, name)
-        self.seal(self.backup, self.seals)
-        self.service("start")
+        self.backup = self.keep(self, name, self.seals)
         self.gather()
         self.audit(status)
 
-    def save(self, house: House, name: str) -> Path:
-        """A backup of a stopped server's store."""
-        words = ["--program", self.program, "--site", house.site, "--db", house.db, house.backups / name]
-        self.said([*command("station-backup"), *words])
-        return house.backups / name
+    def keep(self, house: House, name: str, seals: Path) -> Path:
+        """The server of a house is stopped, backed up, sealed and started."""
+        backup = house.backups / name
+        words = [*command("station-backup"), "--program", self.program, "--site", house.site, "--db", house.db, backup]
+        house.service("stop")
+        self.said(words)
+        self.seal(backup, seals)
+        house.service("start")
+        return backup
 
     def seal(self, backup: Path, seals: Path) -> None:
         seals.mkdir(exist_ok=True)
@@ -213,13 +212,11 @@ class Plant(House):
         self.said([*self.user, "seal", seals, "--store", backup / "books.db"])
 
     def audit(self, status: int = 0) -> None:
-        """The status is 2 where no line is of the period, as right behind a restore."""
         words = ["audit", self.backup / "books.db", self.all, "--folders", self.table, "--site", self.site]
         words += ["--program", self.program, "--from", self.since, "--to", self.moment]
         assert "Nothing found." in self.said([*self.user, *words], status)
 
     def kill(self) -> None:
-        """The server is gone from one moment to the next."""
         pid = int((self.folder / "pid").read_text())
         os.kill(pid, signal.SIGKILL)
         while os.path.exists(f"/proc/{pid}/exe"):
@@ -229,32 +226,29 @@ class Plant(House):
         """The store is lost, and restored by last night's backup and the journals. Each station goes on with the number
         that is expected."""
         self.kill()
-        shutil.rmtree(self.db.parent)
-        self.db.parent.mkdir()
-        self.give_away()
+        list(map(Path.unlink, self.db.parent.glob("books.db*")))
         self.gather()
         words = [self.backup, self.site, self.all, "--db", self.db, "--program", self.program, "--port", self.port]
         words += ["--tokens", self.tokens, "--backups", self.backups, "--folders", self.table]
-        assert "Stations may go on: " in self.said([*command("station-restore"), *words])
+        self.said([*command("station-restore"), *words])
         for file in self.db.parent.glob("restored-*/*.journal"):
             shutil.copy(file, self.restores.journals)
         self.service("start")
-        for seat in self.seats():
-            seat.wanekupo("number", "--resynchronize")
+        list(map(lambda it: it.wanekupo("number", "--resynchronize"), self.seats()))
         self.seals, self.since = self.folder / "seals-2", now_text()
 
     def take_over(self) -> None:
         """The first machine dies, and the second one has the files as they are in that moment. It serves them, as they
         aren't behind the witness; last night's would be. Nobody serves the first one's again."""
         self.kill()
-        self.db.parent.rename(self.folder / "first-machine")
-        shutil.copytree(self.folder / "first-machine", self.db.parent)
+        self.db.parent.rename(first := self.folder / "first-machine")
+        shutil.copytree(first, self.db.parent)
         self.give_away()
         parts = [f"{it.name}={shlex.join(WANEKUPO)} witness {it.journals}" for it in (*self.seats(), self.restores)]
         replies, none = highest_numbers([], parts, None, self.table), dict.fromkeys(seats_of(str(self.site)), 0)
-        abouts = [json.loads((it / "about.json").read_text()) for it in (self.save(self, "half"), self.backup)]
-        half, night = (none | last_numbers(it["counts"]) for it in abouts)
-        compare_numbers(half, replies)
+        with closing(sqlite3.connect(first / "books.db")) as books:
+            compare_numbers(none | dict(books.execute("SELECT name, last FROM seat")), replies)
+        night = json.loads((self.backup / "about.json").read_text())["counts"]
         with pytest.raises(StandbyError, match="This half is an older one"):
-            compare_numbers(night, replies)
+            compare_numbers(none | last_numbers(night), replies)
         self.service("start")

@@ -388,19 +388,13 @@ class Journals(SeatCase):
             self.assertEqual([it for it in kinds if it == "no_seat"], meant)
 
     def test_a_seat_without_a_row_behind_a_restore(self):
-        """One that has asked for nothing since a restore took all of it away is known; and nothing is missed, but lines
-        of the period. The store expects number 1 of it."""
-        for lines, meant in (
-            ([*row(1, 3, "05"), goes_on("05:30:00", 1)], ([], [False] * 3)),
-            ([*row(1, 3, "07"), goes_on("07:30:00", 1)], ([], [True] * 3)),
-            ([*row(1, 3, "05"), goes_on("05:30:00", 2)], (["no_seat"], [True] * 3)),
-            (row(1, 3, "05"), (["no_seat"], [True] * 3)),
-        ):
+        """One that has asked for nothing since a restore took all of it away is known: the store expects number 1."""
+        for hour, on, kinds, meant in (("05", 1, [], False), ("07", 1, [], True), ("05", 2, ["no_seat"], True)):
             store = SimpleNamespace(seats={}, site_seats={"a1": "acme"})
-            own = seated(self.book(lines), store)
+            own = seated(self.book([*row(1, 3, hour), goes_on(f"{hour}:30:00", on)]), store)
             self.assertEqual(spans_of([own], store, PERIOD), [])
-            kinds = [it.kind for it in _journal_faults([own], store) if it.kind == "no_seat"]
-            self.assertEqual((kinds, [counts(own, it, store, PERIOD) for it in own.book.steps]), meant, lines)
+            self.assertEqual([it.kind for it in _journal_faults([own], store) if it.kind == "no_seat"], kinds)
+            self.assertEqual({counts(own, it, store, PERIOD) for it in own.book.steps}, {meant})
 
     def test_entries_from_before_a_journal(self):
         """Each seat's own first line counts, and as many entries as it had numbers; those of number 1 have none."""
