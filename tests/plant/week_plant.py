@@ -219,7 +219,7 @@ class Plant(House):
     def kill(self) -> None:
         pid = int((self.folder / "pid").read_text())
         os.kill(pid, signal.SIGKILL)
-        while os.path.exists(f"/proc/{pid}/exe"):
+        while os.path.exists(f"/proc/{pid}"):
             time.sleep(0.01)
 
     def lose(self) -> None:
