@@ -160,7 +160,7 @@ class House:
         (self.folder / "sitecustomize.py").write_text(COUNTER)
         more = {"KILL_AT": str(kill_at or -1), "KILL_COUNT": str(count), "PYTHONPATH": str(self.folder)}
         done = subprocess.run(
-            [*self.common(), *words], env=self.environment() | more, capture_output=True, text=True, timeout=120,
+            [*self.common(), *words], env=self.environment() | more, capture_output=True, text=True, timeout=600,
             stdin=subprocess.DEVNULL, start_new_session=True, check=False,
         )  # fmt: skip
         return Run(done.returncode, done.stdout + done.stderr, count.stat().st_size)
