@@ -46,7 +46,8 @@ wrong = []
 for name in names:
     body = re.search(rf"fn {name.rpartition('::')[2]}\(.*?\n *\}}\n", text, re.S)[0]
     wrong += [name] * ("wrong" in body or "LEASTS" in body and "wrong" in text.partition("pub fn")[0])
-print("".join(f"fn {room.name}::{it}: not proved\n" for it in wrong) + f"only={len(names)} proved={len(names) - len(wrong)}")
+print(*(f"fn {room.name}::{it}: not proved" for it in wrong), sep="\n")
+print(f"only={len(names)} proved={len(names) - len(wrong)}")
 '''
 
 # Wrong bodies of the crate low: old and new text, and what is told of it where it isn't refused.
