@@ -9,13 +9,13 @@ import functools
 import hashlib
 import json
 import os
-import subprocess
 from contextlib import suppress
 from pathlib import Path
 from typing import NamedTuple
 
 from edits import TOP, Edit
 from pages_lib.rattle import crates_below
+from prover import kit
 
 PARTS = ("src", "specs", "proofs")
 FILE = Path(os.environ.get("XDG_CACHE_HOME") or Path.home() / ".cache", "wanekupo/strength.jsonl")
@@ -49,15 +49,11 @@ def sum_of_crate(crate: str) -> str:
     return hashlib.sha256(json.dumps(known).encode()).hexdigest()
 
 
-@functools.cache
-def toolchain() -> str:
-    return subprocess.run(["rt", "version"], capture_output=True, text=True, check=True).stdout.strip()
-
-
 def sum_of(edit: Edit) -> str:
     """The sum of all that a verdict on an edit stands on."""
     crates = {name: sum_of_crate(name) for name in sorted(with_below(edit.crate))}
-    return hashlib.sha256(json.dumps([toolchain(), edit.changes, crates]).encode()).hexdigest()[:32]
+    toolchain = (kit() / "KIT-ID").read_text(encoding="utf-8")
+    return hashlib.sha256(json.dumps([toolchain, edit.changes, crates]).encode()).hexdigest()[:32]
 
 
 def read_verdicts(file: Path) -> dict[tuple[str, str], Verdict]:

@@ -32,21 +32,19 @@ impl Sums for Low {
 
 CHECK = r'''#!/usr/bin/python3
 import os, pathlib, re, signal, sys
-if sys.argv[1] == "version":
-    sys.exit(print(pathlib.Path(__file__).with_name("kit").read_text()))
-room, names = pathlib.Path.cwd(), sys.argv[5::2]
-text = (room / "src/lib.rt").read_text()
+crate, names = sys.argv[3], [name for word, name in zip(sys.argv, sys.argv[1:]) if word == "--only"]
+text = pathlib.Path("src/lib.rt").read_text()
 with pathlib.Path(__file__).with_name("checks").open("a") as checks:
-    print(room.name, *names, file=checks)
+    print(crate, *names, file=checks)
 if "stopped" in text:
     os.kill(os.getppid(), signal.SIGKILL)
-if "unread" in text or not (room.parent / "low/specs/Lib.antt").is_file():
+if "unread" in text:
     sys.exit("src/lib.rt:7:5: error: it can't be read")
 wrong = []
 for name in names:
     body = re.search(rf"fn {name.rpartition('::')[2]}\(.*?\n *\}}\n", text, re.S)[0]
     wrong += [name] * ("wrong" in body or "LEASTS" in body and "wrong" in text.partition("pub fn")[0])
-print(*(f"fn {room.name}::{it}: not proved" for it in wrong), sep="\n")
+print(*(f"fn {crate}::{it}: not proved" for it in wrong), sep="\n")
 print(f"only={len(names)} proved={len(names) - len(wrong)}")
 '''
 
@@ -72,35 +70,37 @@ def plant(top: Path, name: str, *lines: str) -> None:
 def top(tmp_path: Path) -> Path:
     """A repository with the tool, two crates and wrong bodies; and a toolchain beside it."""
     top = tmp_path / "top"
-    tools = ("strength", "edits.py", "switches.py", "verdicts.py", "pages_lib/rattle.py")
+    tools = ("strength", "edits.py", "prover.py", "switches.py", "verdicts.py", "pages_lib/rattle.py")
     for name in (f"tools/{it}" for it in tools):
         (top / name).parent.mkdir(parents=True, exist_ok=True)
         shutil.copy2(ROOT / name, top / name)
     texts = {"HANDLES": "Handles allowed: none.\n", "crates.txt": "# name: others\n\nlow: text\nhigh: low\n"}
     texts |= {f"crates/{name}/src/lib.rt": LOW for name in ("low", "high")}
-    texts |= {"crates/low/specs/Lib.antt": "", "crates/low/out/rlib/stamp": ""}
+    texts |= {"crates/low/specs/Lib.antt": "", "crates/low/out/rlib/low.rlib/kept": ""}
     for name, text in texts.items():
         (top / name).parent.mkdir(parents=True, exist_ok=True)
         (top / name).write_text(text, encoding="utf-8")
     for name, (old, new, _) in ROWS.items():
         plant(top, f"low/must-fail/{name}", f"old: {old}", f"new: {new}")
     plant(top, "high/must-fail/sum_is_less", "old:     a + b", "new:     a - b // wrong")
-    (tmp_path / "kit").write_text("kit 1", encoding="utf-8")
-    (tmp_path / "rt").write_text(CHECK, encoding="utf-8")
-    (tmp_path / "rt").chmod(0o755)
+    (tmp_path / "KIT-ID").write_text("kit 1", encoding="utf-8")
+    (tmp_path / "bin").mkdir()
+    for name in ("rt", "rattle"):
+        (tmp_path / "bin" / name).write_text(CHECK, encoding="utf-8")
+        (tmp_path / "bin" / name).chmod(0o755)
     return top
 
 
 def tried(top: Path, *words: str) -> subprocess.CompletedProcess[str]:
     """What the tool does with these words; one crate after another."""
-    known = {**os.environ, "PATH": f"{top.parent}:{os.environ['PATH']}", "XDG_CACHE_HOME": str(top.parent)}
+    known = {**os.environ, "PATH": f"{top.parent}/bin:{os.environ['PATH']}", "XDG_CACHE_HOME": str(top.parent)}
     words = (str(top / "tools/strength"), "--jobs", "1", *words)
     return subprocess.run(words, env=known, capture_output=True, text=True, timeout=60)
 
 
 def checks(top: Path) -> list[str]:
     """The checks since the last call: the crate and its functions."""
-    file = top.parent / "checks"
+    file = top.parent / "bin/checks"
     lines = file.read_text().splitlines() if file.exists() else []
     file.unlink(missing_ok=True)
     return lines
@@ -132,7 +132,7 @@ def test_what_is_kept_is_not_tried_again(top: Path) -> None:
         ("crates/low/specs/Lib.antt", "low high"),
         ("crates/low/proofs/sum.antt", "low high"),
         ("crates/high/must-fail/sum_is_less.edit.md", "high"),
-        ("../kit", "low high"),
+        ("../KIT-ID", "low high"),
         ("crates/high/stdin", ""),
     ],
 )
@@ -143,6 +143,7 @@ def test_what_changed_is_tried_again(top: Path, changed: str, left: str) -> None
     (top / changed).parent.mkdir(exist_ok=True)
     with (top / changed).open("a", encoding="utf-8") as it:
         it.write("old:     LEASTS[0]\nnew:     1\n" if changed.endswith(".md") else "// more\n")
+    os.utime(top / changed, (0, 0))
     assert tried(top, *names).stdout == "high: 1 refused, 0 not\nlow: 1 refused, 0 not\n2 refused, 0 not\n"
     assert sorted(it.partition(" ")[0] for it in checks(top)) == sorted(left.split())
 
@@ -160,3 +161,10 @@ def test_a_stop_loses_no_verdict(top: Path) -> None:
         it.write('{"edit": "low/co')
     (top / "crates/low/must-fail/sum_is_stopped.edit.md").unlink()
     assert tried(top, "low").stdout.splitlines() == [*TOLD, "3 refused, 3 not"]
+
+
+def test_old_libraries_end_it(top: Path) -> None:
+    (top / "crates/low/specs/More.antt").write_text("", encoding="utf-8")
+    done = tried(top, "high")
+    assert done.returncode == 1 and not done.stdout and not checks(top)
+    assert "low/specs/More.antt has changed since the libraries below high were built" in done.stderr
