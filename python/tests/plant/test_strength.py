@@ -28,6 +28,18 @@ impl Sums for Low {
         LEASTS[0]
     }
 }
+
+impl Low {
+    fn most(&self) -> u8 {
+        9
+    }
+}
+
+impl Ends<()> for Set<Low> {
+    fn end(&self) -> u8 {
+        7
+    }
+}
 """
 
 CHECK = r'''#!/usr/bin/python3
@@ -54,10 +66,12 @@ ROWS = {
     "sum_is_more": ("    a + b", "    a + b + b", "NOT REFUSED: sum"),
     "sum_is_unread": ("    a + b", "    a + unread", "NOT TRIED: src/lib.rt:7:5: error: it can't be read"),
     "least_is_two": ("        LEASTS[0]", "        2 // wrong", ""),
+    "most_is_less": ("        9", "        8 // wrong", ""),
+    "end_is_earlier": ("        7", "        6 // wrong", ""),
     "constant": ("LEAST: u8 = 1;", "LEAST: u8 = 2; // wrong", ""),
     "type": ("//! A crate.", "//! A type.", "NOT TRIED: error: it changes no function, and no constant"),
 }
-TOLD = [f"low/{name}: {said}" for name, (_, _, said) in sorted(ROWS.items()) if said] + ["low: 3 refused, 3 not"]
+TOLD = [f"low/{name}: {said}" for name, (_, _, said) in sorted(ROWS.items()) if said] + ["low: 5 refused, 3 not"]
 
 
 def plant(top: Path, name: str, *lines: str) -> None:
@@ -76,6 +90,7 @@ def top(tmp_path: Path) -> Path:
         shutil.copy2(ROOT / name, top / name)
     texts = {"HANDLES": "Handles allowed: none.\n", "crates.txt": "# name: others\n\nlow: text\nhigh: low\n"}
     texts |= {f"crates/{name}/src/lib.rt": LOW for name in ("low", "high")}
+    texts |= {"crates/low/src/types.rt": "pub struct Low {\n}\n"}
     texts |= {"crates/low/specs/Lib.antt": "", "crates/low/out/rlib/low.rlib/kept": ""}
     for name, text in texts.items():
         (top / name).parent.mkdir(parents=True, exist_ok=True)
@@ -108,9 +123,10 @@ def checks(top: Path) -> list[str]:
 
 def test_an_edit_is_refused_at_its_function(top: Path) -> None:
     done = tried(top)
-    assert done.stdout.splitlines() == [*TOLD, "high: 1 refused, 0 not", "4 refused, 3 not"]
+    assert done.stdout.splitlines() == [*TOLD, "high: 1 refused, 0 not", "6 refused, 3 not"]
     assert done.returncode == 1 and not done.stderr
-    assert "low LowSums::least" in checks(top)
+    functions = {it for line in checks(top) for it in line.split()[1:]}
+    assert functions == {"sum", "LowSums::least", "types::Low::most", "SetLowEndsUnit::end"}
     assert (top / "crates/low/src/lib.rt").read_text() == LOW
 
 
@@ -118,10 +134,10 @@ def test_what_is_kept_is_not_tried_again(top: Path) -> None:
     tried(top)
     checks(top)
     done = tried(top)
-    assert done.stdout.splitlines() == [*TOLD, "high: 1 refused, 0 not", "4 refused, 3 not"]
+    assert done.stdout.splitlines() == [*TOLD, "high: 1 refused, 0 not", "6 refused, 3 not"]
     assert checks(top) == ["low sum"], "what wasn't tried is tried again, and nothing else"
     left = tried(top, "--left")
-    assert left.stdout == "low: 3 refused, 1 not, 2 left\nhigh: 1 refused, 0 not, 0 left\n4 refused, 1 not, 2 left\n"
+    assert left.stdout == "low: 5 refused, 1 not, 2 left\nhigh: 1 refused, 0 not, 0 left\n6 refused, 1 not, 2 left\n"
     assert left.returncode == 1 and not checks(top)
 
 
@@ -155,12 +171,14 @@ def test_a_stop_loses_no_verdict(top: Path) -> None:
     assert {it["edit"]: (it["refused"], it["at"]) for it in kept} == {
         "low/least_is_two": (True, ["LowSums::least"]),
         "low/sum_is_less": (True, ["sum"]),
+        "low/most_is_less": (True, ["types::Low::most"]),
+        "low/end_is_earlier": (True, ["SetLowEndsUnit::end"]),
         "low/sum_is_more": (False, ["sum"]),
     }
     with (top.parent / "wanekupo/strength.jsonl").open("a") as it:
         it.write('{"edit": "low/co')
     (top / "crates/low/must-fail/sum_is_stopped.edit.md").unlink()
-    assert tried(top, "low").stdout.splitlines() == [*TOLD, "3 refused, 3 not"]
+    assert tried(top, "low").stdout.splitlines() == [*TOLD, "5 refused, 3 not"]
 
 
 def test_old_libraries_end_it(top: Path) -> None:
