@@ -1,8 +1,9 @@
 """Verdicts on wrong bodies, kept in a file of lines, so that a run goes on where another was stopped.
 
-A line is JSON: the edit, whether it was refused, the functions that weren't proved with it, the seconds of the check
-that told it, which tells of others too, and a sum. That is of all that the verdict stands on: the toolchain, the edit's
-changes, and the sources of its crate and of those below. A verdict counts while this sum is the same.
+A line is JSON: the edit; whether it was refused; the functions that weren't proved with it, and what the prover said of
+each; the seconds of the check that told it, which tells of others too; and a sum. That is of all that a verdict stands
+on: the toolchain, the edit's changes, and the sources of its crate and of those below. A verdict counts while its sum is
+the same.
 """
 
 import functools
@@ -22,7 +23,7 @@ FILE = Path(os.environ.get("XDG_CACHE_HOME") or Path.home() / ".cache", "wanekup
 
 
 class Verdict(NamedTuple):
-    """What became of an edit: `at` are the functions that weren't proved with it, or that were."""
+    """What became of an edit: `at` has the functions that weren't proved with it, or else those that were."""
 
     edit: str
     refused: bool

@@ -23,6 +23,10 @@ pub fn sum(a: u8, b: u8) -> u8 {
     a + b
 }
 
+fn calls(a: u8) -> u8 {
+    sum(a, 3)
+}
+
 impl Sums for Low {
     fn least(&self) -> u8 {
         LEASTS[0]
@@ -56,10 +60,13 @@ wrong = []
 for name in names:
     body = re.search(rf"fn {name.rpartition('::')[2]}\(.*?\n *\}}\n", text, re.S)[0]
     wrong += [name] * ("wrong" in body or "LEASTS" in body and "wrong" in text.partition("pub fn")[0])
-print(*(f"fn {crate}::{it}: not proved" for it in wrong), sep="\n")
+print(*(f"fn {crate}::{it}: no proof: expected answers" for it in wrong), sep="\n")
+calls = [it for it in names if "sum" in wrong and it == "calls"]
+print(*(f"fn {crate}::{it}: not proved; it calls `sum`, which is not proved" for it in calls), sep="\n")
 print(f"only={len(names)} proved={len(names) - len(wrong)}")
 '''
 
+REFUSED = "no proof: expected answers"
 # Wrong bodies of the crate low: old and new text, and what is told of it where it isn't refused.
 ROWS = {
     "sum_is_less": ("    a + b", "    a - b // wrong", ""),
@@ -69,9 +76,11 @@ ROWS = {
     "most_is_less": ("        9", "        8 // wrong", ""),
     "end_is_earlier": ("        7", "        6 // wrong", ""),
     "constant": ("LEAST: u8 = 1;", "LEAST: u8 = 2; // wrong", ""),
+    "call_of_another": ("    sum(a, 3)", "    sum(a, 4)", "NOT REFUSED: calls"),
+    "call_is_wrong": ("    sum(a, 3)", "    sum(a, 4) // wrong", ""),
     "type": ("//! A crate.", "//! A type.", "NOT TRIED: error: it changes no function, and no constant"),
 }
-TOLD = [f"low/{name}: {said}" for name, (_, _, said) in sorted(ROWS.items()) if said] + ["low: 5 refused, 3 not"]
+TOLD = [f"low/{name}: {said}" for name, (_, _, said) in sorted(ROWS.items()) if said] + ["low: 6 refused, 4 not"]
 
 
 def plant(top: Path, name: str, *lines: str) -> None:
@@ -123,10 +132,10 @@ def checks(top: Path) -> list[str]:
 
 def test_an_edit_is_refused_at_its_function(top: Path) -> None:
     done = tried(top)
-    assert done.stdout.splitlines() == [*TOLD, "high: 1 refused, 0 not", "6 refused, 3 not"]
+    assert done.stdout.splitlines() == [*TOLD, "high: 1 refused, 0 not", "7 refused, 4 not"]
     assert done.returncode == 1 and not done.stderr
     functions = {it for line in checks(top) for it in line.split()[1:]}
-    assert functions == {"sum", "LowSums::least", "types::Low::most", "SetLowEndsUnit::end"}
+    assert functions == {"sum", "calls", "LowSums::least", "types::Low::most", "SetLowEndsUnit::end"}
     assert (top / "crates/low/src/lib.rt").read_text() == LOW
 
 
@@ -134,10 +143,10 @@ def test_what_is_kept_is_not_tried_again(top: Path) -> None:
     tried(top)
     checks(top)
     done = tried(top)
-    assert done.stdout.splitlines() == [*TOLD, "high: 1 refused, 0 not", "6 refused, 3 not"]
+    assert done.stdout.splitlines() == [*TOLD, "high: 1 refused, 0 not", "7 refused, 4 not"]
     assert checks(top) == ["low sum"], "what wasn't tried is tried again, and nothing else"
     left = tried(top, "--left")
-    assert left.stdout == "low: 5 refused, 1 not, 2 left\nhigh: 1 refused, 0 not, 0 left\n6 refused, 1 not, 2 left\n"
+    assert left.stdout == "low: 6 refused, 2 not, 2 left\nhigh: 1 refused, 0 not, 0 left\n7 refused, 2 not, 2 left\n"
     assert left.returncode == 1 and not checks(top)
 
 
@@ -168,17 +177,19 @@ def test_a_stop_loses_no_verdict(top: Path) -> None:
     plant(top, "low/must-fail/sum_is_stopped", "old:     a + b", "new:     a + stopped")
     assert tried(top, "low").returncode == -9
     kept = [json.loads(line) for line in (top.parent / "wanekupo/strength.jsonl").read_text().splitlines()]
-    assert {it["edit"]: (it["refused"], it["at"]) for it in kept} == {
-        "low/least_is_two": (True, ["LowSums::least"]),
-        "low/sum_is_less": (True, ["sum"]),
-        "low/most_is_less": (True, ["types::Low::most"]),
-        "low/end_is_earlier": (True, ["SetLowEndsUnit::end"]),
-        "low/sum_is_more": (False, ["sum"]),
+    assert {it["edit"]: (it["refused"], it["at"][0].partition(": ")) for it in kept} == {
+        "low/least_is_two": (True, ("LowSums::least", ": ", REFUSED)),
+        "low/sum_is_less": (True, ("sum", ": ", REFUSED)),
+        "low/most_is_less": (True, ("types::Low::most", ": ", REFUSED)),
+        "low/end_is_earlier": (True, ("SetLowEndsUnit::end", ": ", REFUSED)),
+        "low/call_is_wrong": (True, ("calls", ": ", REFUSED)),
+        "low/call_of_another": (False, ("calls", "", "")),
+        "low/sum_is_more": (False, ("sum", "", "")),
     }
     with (top.parent / "wanekupo/strength.jsonl").open("a") as it:
         it.write('{"edit": "low/co')
     (top / "crates/low/must-fail/sum_is_stopped.edit.md").unlink()
-    assert tried(top, "low").stdout.splitlines() == [*TOLD, "5 refused, 3 not"]
+    assert tried(top, "low").stdout.splitlines() == [*TOLD, "6 refused, 4 not"]
 
 
 def test_old_libraries_end_it(top: Path) -> None:
