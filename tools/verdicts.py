@@ -2,7 +2,7 @@
 
 A line is JSON: the edit; whether it was refused; the functions that weren't proved with it, and what the prover said of
 each; the seconds of the check that told it, which tells of others too; and a sum. That is of all that a verdict stands
-on: the toolchain, the edit's changes, the sources of its crate and of those below. A verdict counts while it is the same.
+on: the toolchain, the edit's changes, the sources of its crate and of those below. It counts while the sum is the same.
 """
 
 import functools
