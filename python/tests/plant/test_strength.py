@@ -56,6 +56,9 @@ if "stopped" in text:
     os.kill(os.getppid(), signal.SIGKILL)
 if "unread" in text:
     sys.exit("src/lib.rt:7:5: error: it can't be read")
+if "1 // wrong" in text:
+    print("./proofs/LowSums/least/Answers.antt:3:1: error: `c.a` is not in scope")
+    print("./proofs/LowSums/least/Answers.antt:4:1: error: `returns`: two types differ")
 wrong = []
 for name in names:
     body = re.search(rf"fn {name.rpartition('::')[2]}\(.*?\n *\}}\n", text, re.S)[0]
@@ -72,7 +75,7 @@ ROWS = {
     "sum_is_less": ("    a + b", "    a - b // wrong", ""),
     "sum_is_more": ("    a + b", "    a + b + b", "NOT REFUSED: sum"),
     "sum_is_unread": ("    a + b", "    a + unread", "NOT TRIED: src/lib.rt:7:5: error: it can't be read"),
-    "least_is_two": ("        LEASTS[0]", "        2 // wrong", ""),
+    "least_is_one": ("        LEASTS[0]", "        1 // wrong", ""),
     "most_is_less": ("        9", "        8 // wrong", ""),
     "end_is_earlier": ("        7", "        6 // wrong", ""),
     "constant": ("LEAST: u8 = 1;", "LEAST: u8 = 2; // wrong", ""),
@@ -178,7 +181,7 @@ def test_a_stop_loses_no_verdict(top: Path) -> None:
     assert tried(top, "low").returncode == -9
     kept = [json.loads(line) for line in (top.parent / "wanekupo/strength.jsonl").read_text().splitlines()]
     assert {it["edit"]: (it["refused"], it["at"][0].partition(": ")) for it in kept} == {
-        "low/least_is_two": (True, ("LowSums::least", ": ", REFUSED)),
+        "low/least_is_one": (True, ("LowSums::least", ": ", f"{REFUSED}: `returns`: two types differ")),
         "low/sum_is_less": (True, ("sum", ": ", REFUSED)),
         "low/most_is_less": (True, ("types::Low::most", ": ", REFUSED)),
         "low/end_is_earlier": (True, ("SetLowEndsUnit::end", ": ", REFUSED)),
