@@ -100,6 +100,9 @@ LOST = (
      ["line 5 has number 5 of a1, and the lost store's last is 3"]),
     ("a seat that asked for nothing", requests(a9=[1]), {},
      ["line 1 has number 1 of a9, and the lost store's last is 0"]),
+    ("seats in their order", requests(**{it: [9] for it in ("restore-acme", "a9", "a1")}), {},
+     [f"line 9 has number 9 of {it}, and the lost store's last is {last}"
+      for it, last in (("a1", 3), ("a9", 0), ("restore-acme", 5))]),
     ("a store that was restored since", requests(a1=[3, 4, 5]), RESTORED, []),
     ("another request in such a one", {"a1": {3: [JournalRequest("line 9", "00", True)]}}, RESTORED,
      ["line 9 has number 3 of a1, which is another request in the lost store"]),

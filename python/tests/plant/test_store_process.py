@@ -222,6 +222,9 @@ def test_where_memory_runs_out_these_are_ended_first(monkeypatch):
     # keyctl(2): 250 on x86-64, KEYCTL_JOIN_SESSION_KEYRING is 1, and without a name it is a new one.
     # setuid(2) leaves the groups as they are, so root's go first.
     assert steps == ["end_first", (250, 1, None), ["station", 4243], "setresgid", "setresuid"]
+    libc.prctl = lambda what, *_: what == 38  # PR_SET_NO_NEW_PRIVS: who may get rights again does nothing
+    with pytest.raises(UserError, match="^prctl: "):
+        USER._become(os.getppid())
 
 
 @pytest.mark.parametrize("number, is_refused", [(errno.ENOSYS, False), (errno.EPERM, False), (errno.EDQUOT, True)])

@@ -1,6 +1,8 @@
 """Whose a store is, by folders that are made for it, and what of a process's words reaches a terminal."""
 
+import contextlib
 import os
+import pty
 import stat
 from pathlib import Path
 from types import SimpleNamespace
@@ -167,3 +169,18 @@ def test_read_small(tmp_path: Path) -> None:
         read_small(tmp_path / "pipe")
     with pytest.raises(OSError):
         read_small(tmp_path / "link")
+
+
+def test_what_is_read_gives_no_terminal() -> None:
+    """Who has a session of its own and no terminal would get one by open(2), if a name led to it."""
+    _, terminal = pty.openpty()
+    child = os.fork()
+    if not child:
+        os.setsid()
+        with contextlib.suppress(UserError):
+            read_small(Path(os.ttyname(terminal)))
+        with contextlib.suppress(OSError):
+            os.open("/dev/tty", os.O_RDWR)
+            os._exit(1)
+        os._exit(0)
+    assert os.waitpid(child, 0)[1] == 0

@@ -1,0 +1,291 @@
+"""The steps by which a site is closed and followed: what is counted, which tokens end, what the folder has and who reads
+it, what keeps all of it from being begun; what the next one gets, and who gets its tokens. Numbers are counted by hand,
+and the list is held by sha256sum(1)."""
+
+import argparse
+import contextlib
+import hashlib
+import json
+import os
+import sqlite3
+import subprocess
+from pathlib import Path
+from types import SimpleNamespace
+
+import pytest
+
+from wanekupo.common.site_file import Site, SiteCustomer
+from wanekupo.common.token_file import Outer, TokenError, TokenSeat, Tokens, put, tokens_of, tokens_text
+from wanekupo.plant.site import closing, successor
+from wanekupo.plant.site.plan import PREPARED, STOPPING, GrowthPlan, SeatWish, keep_plan
+
+TABLES = """
+CREATE TABLE orders (customer, name, macs);
+CREATE TABLE given (customer, chip);
+CREATE TABLE device (customer, chip, ord, state, serial);
+INSERT INTO orders VALUES ('acme', 'o1', 2), ('acme', 'o2', 5);
+INSERT INTO given VALUES ('acme', 'c1'), ('acme', 'c2'), ('acme', NULL), ('bolt', NULL);
+INSERT INTO device VALUES ('bolt', 'c3', 'o9', 'quarantined', NULL), ('acme', 'c2', 'o2', 'shipped', 'A2'),
+    ('acme', 'c1', 'o1', 'identified', 'A1'), ('acme', 'c0', 'o1', 'settled', NULL);
+"""
+ROWS, MINUTE = ["device acme c1 {}", "site {}"], "2026-01-01T00:00"
+NOTHING = {"orders": 0, "serials": 0, "imported": 0, "addresses": 0, "devices": {}}
+
+
+class FakeFolder:
+    """A folder of the store's user."""
+
+    def __init__(self, db):
+        self.db, self.user = Path(db), SimpleNamespace(name="station")
+
+    def file(self, ending=""):
+        return os.open(f"{self.db}{ending}", os.O_RDONLY)
+
+    def size(self, ending=""):
+        return os.stat(f"{self.db}{ending}").st_size
+
+
+class FakePlace:
+    """A site whose commands are noted, and do nothing but say how they ended."""
+
+    def __init__(self, folder):
+        self.site, self.next, self.plan = folder / "site.toml", folder / "site.next.toml", folder / "site.growth"
+        self.tokens, self.closed, self.db = folder / "tokens.conf", folder / "site.closed.json", folder / "books.db"
+        self.site.write_text("customer = []\n")
+        for ending, data in (("", b"store"), ("-wal", b"log")):
+            Path(f"{self.db}{ending}").write_bytes(data)
+        self.args = argparse.Namespace(stop="stop", start="start", port=880, wait=1.0)
+        self.user = SimpleNamespace(call=lambda function, **_: function(), group=os.getegid(), name="station")
+        self.calls, self.status, self.refusal = [], 0, ""
+        self.copied, self.size = lambda db, size: contextlib.nullcontext(db), lambda: 8
+        self.token_words, self.store_refusal = lambda: ["token"], lambda text, copy: self.refusal
+
+    def ran(self, *words):
+        self.calls.append(words)
+        return subprocess.CompletedProcess(words, self.status, "", "why\n")
+
+    def service(self, command):
+        self.calls.append((command,))
+        return not self.status, "why"
+
+
+@pytest.fixture
+def place(tmp_path, monkeypatch):
+    monkeypatch.setattr(closing, "StoreFolder", FakeFolder)
+    monkeypatch.setattr(closing, "ACTS", tmp_path / "acts")
+    monkeypatch.setattr(closing, "write_rows", lambda copy, file: file.write_text("".join(f"{it}\n" for it in ROWS)))
+    before = os.umask(0)
+    tmp_path.chmod(0o755)
+    yield FakePlace(tmp_path)
+    os.umask(before)
+
+
+def words(folder, **more):
+    own = {"folder": Path(folder), "patience": 0.1, "tsa": None, "tsa_ca": None, "signer": None, "service": None}
+    return argparse.Namespace(**{**own, **dict.fromkeys(("minisign", "cms", "cms_key")), **more})
+
+
+def test_numbers_of_a_store(tmp_path, monkeypatch):
+    """Of each customer, also one with nothing but a pool; what is under way by its customer and chip."""
+    base = sqlite3.connect(":memory:")
+    base.executescript(TABLES)
+    monkeypatch.setattr(closing, "StoreCopy", lambda _: contextlib.nullcontext(SimpleNamespace(rows=base.execute)))
+    books = SimpleNamespace(pools={"cog": [], "acme": []}, customers=lambda: {"bolt", "acme"})
+    monkeypatch.setattr(closing, "Books", lambda store: books)
+    closing.write_numbers(tmp_path / "books.db", tmp_path / "numbers.json")
+    found = json.loads((tmp_path / "numbers.json").read_text())
+    devices = {"shipped": 1, "identified": 1, "settled": 1}
+    acme = {"orders": 2, "serials": 2, "imported": 1, "addresses": 7, "devices": devices}
+    bolt = {**NOTHING, "imported": 1, "devices": {"quarantined": 1}}
+    assert list(found["customers"].items()) == [("acme", acme), ("bolt", bolt), ("cog", NOTHING)]
+    lines = ["c0 of acme, order o1, is settled", "c1 of acme, order o1, is identified"]
+    assert found["under_way"] == [f"the device {it}" for it in lines]
+
+
+def test_the_folder_of_a_closed_site(place, tmp_path):
+    """While it is made it is root's alone, and behind that the store's user reads it and writes nothing. The list has
+    each file, and is signed behind all of them."""
+    signed, seen, made = [], [], tmp_path / "closed.new"
+    signer = SimpleNamespace(sign=lambda file, data: signed.append((file.name, data == file.read_bytes())))
+
+    def call(function, **_):
+        seen.extend((it.name, it.stat().st_mode & 0o777) for it in (made, *made.rglob("*")))
+        function()
+
+    place.user.call = call
+    (tmp_path / "acts").write_text('{"what": "x"}\n')
+    data = closing.fill_folder(words(tmp_path / "closed", signer=signer), place, place.db, {"acme": {}})
+    private = {"closed.new": 0o700, "seals": 0o700, "books.db": 0o600, "books.db-wal": 0o600, "site.toml": 0o600}
+    assert dict(seen) == private and (made / "books.db-wal").read_bytes() == b"log"
+    modes = {(it.is_dir(), it.stat().st_mode & 0o777) for it in (made, *made.rglob("*"))}
+    assert modes == {(True, 0o750), (False, 0o640)}
+    done = subprocess.run(["sha256sum", "-c", "SHA256SUMS"], cwd=made, capture_output=True, text=True, check=True)
+    files = "books.db books.db-wal closed.json seals/000001.rows seals/000001.seal seals/chain site.toml"
+    assert done.stdout.splitlines() == [f"{it}: OK" for it in files.split()]
+    assert signed == [("000001.seal", True), ("SHA256SUMS", True)]
+    rows = (made / "seals/000001.rows").read_text().splitlines()
+    assert rows[0].startswith("act ") and rows[1:] == ROWS
+    told = json.loads(data)
+    assert data == (made / "closed.json").read_text() and told["seal"] == (made / "seals/chain").read_text().strip()
+    assert told["site_sha256"] == hashlib.sha256(b"customer = []\n").hexdigest() and told["seats"] == []
+    Path(f"{place.db}-wal").write_bytes(bytes(568))  # a page is in it: the file alone is older than the store
+    with pytest.raises(TokenError, match="isn't joined"):
+        closing.copy_out(FakeFolder(place.db), tmp_path)
+
+
+def outer(seat, number, **more):
+    text = {} if "ended" in more or "subject" in more else {"text": f"wanekupo_{number:064}"}
+    own = {"looks": False, "mark": 12 * "0", "since": MINUTE}
+    return Outer(f"{seat}:{number}", number, seat, **{**own, **text, **more})
+
+
+SEATS = [TokenSeat(seat, "acme", seat) for seat in ("a1", "a2", "a3", "health")] + [TokenSeat("c1", "cog", "y")]
+SEATS += [TokenSeat("@manager", "@manager", "z"), TokenSeat("@other", "@other", "w")]
+
+
+def tokens(*outers):
+    return Tokens({it.seat: it for it in SEATS}, list(outers))
+
+
+def test_whose_seats_are_a_sites():
+    """Its own by their names, and its manager by the token, as each site has one."""
+    site = Site({"acme": SiteCustomer("acme", [], [], {"a1": "", "a9": ""})}, hashlib.sha256(b"z").hexdigest())
+    assert closing.own_seats(site, tokens()) == {"a1", "@manager"} and closing.own_seats(Site(), tokens()) == set()
+
+
+def test_which_tokens_end(place, tmp_path, capsys):
+    """Those of the site's seats that may more than look; where nginx doesn't know it nothing is closed."""
+    outers = [outer("a1", 1), outer("c1", 2), outer("a1", 3, ended=MINUTE), outer("a1", 4, looks=True)]
+    put(place.tokens, tokens_text(tokens(*outers)))
+    closing.end_tokens(words(tmp_path), place, {"a1"})
+    found = tokens_of(place.tokens.read_text(), place.tokens).outers
+    assert found[1:] == outers[1:] and found[0].ended > MINUTE and not found[0].text
+    closing.end_tokens(words(tmp_path), place, set())
+    assert place.calls == [("token", "write")] and capsys.readouterr().out == "ended: a1:1\nended: no token more\n"
+    place.status = 1
+    with pytest.raises(TokenError, match="nothing is closed: why$") as error:
+        closing.end_tokens(words(tmp_path), place, {"a1"})
+    assert error.value.status == 5
+
+
+@pytest.mark.parametrize("status, refusal, told", [(1, "", "wasn't stopped: why"), (0, "no", "open a copy of .*: no")])
+def test_what_fails_starts_the_server_again(place, tmp_path, monkeypatch, status, refusal, told):
+    monkeypatch.setattr(closing, "start_behind", lambda it: it.calls.append("started"))
+    monkeypatch.setattr(closing, "fill_folder", lambda *_: pytest.fail("it goes on"))
+    place.status, place.refusal = status, refusal
+    with pytest.raises(TokenError, match=told):
+        closing.closed_up(words(tmp_path / "closed"), place)
+    assert place.calls == [("stop",), "started"]
+
+
+def noted(place, monkeypatch, module, **steps):
+    """Has steps do nothing but give their answers, and notes them."""
+    for name, answer in steps.items():
+        monkeypatch.setattr(module, name, lambda *it, n=name, answer=answer: place.calls.append((n, *it[1:])) or answer)
+
+
+def test_what_a_cut_run_left_goes_first(place, tmp_path, monkeypatch):
+    """And the tokens end behind all else: of what fails before that none has ended."""
+    (tmp_path / "closed.new/seals").mkdir(parents=True)
+    noted(place, monkeypatch, closing, start_behind=None, numbers_told={}, fill_folder='{"seats": []}', end_tokens=None)
+    assert closing.closed_up(words(tmp_path / "closed"), place) == '{"seats": []}'
+    steps = ["stop", "numbers_told", "fill_folder", "end_tokens", "start_behind"]
+    assert [it[0] for it in place.calls] == steps and not (tmp_path / "closed.new").exists()
+
+
+@pytest.mark.parametrize("more, told", [
+    ({"tsa": "http://x"}, "lacks a word"), ({"tsa_ca": "f"}, "lacks a word"), ({"cms": "c"}, "isn't said who signs"),
+    ({"folder": "there"}, "is there already"), ({"stage": STOPPING}, "under way"), ({"next": True}, "is prepared"),
+])  # fmt: skip
+def test_what_closes_nothing(place, tmp_path, monkeypatch, more, told):
+    monkeypatch.chdir(tmp_path)
+    monkeypatch.setattr(closing, "closed_up", lambda *_: pytest.fail("it goes on"))
+    (tmp_path / "there").mkdir()
+    keep_plan(place.plan, GrowthPlan(more.get("stage", PREPARED)))
+    if "next" in more:
+        place.next.write_text("")
+    with pytest.raises(TokenError, match=told):
+        closing.close(words(**{"folder": "closed", **more}), place)
+    assert not place.closed.exists()
+
+
+def test_a_closed_site_is_told(place, tmp_path, monkeypatch, capsys):
+    """A run that was cut behind its mark gives the folder its name. Its numbers are told, and nothing is done again."""
+    acme = {**NOTHING, "orders": 1, "addresses": 4, "devices": {"shipped": 2, "scrapped": 1}}
+    told = {"at": "T", "folder": str(tmp_path / "closed"), "customers": {"acme": acme, "cog": NOTHING}}
+    monkeypatch.setattr(closing, "closed_up", lambda *_: (tmp_path / "closed.new").mkdir() or json.dumps(told))
+    for _ in range(2):
+        closing.close(words(tmp_path / "closed"), place)
+        monkeypatch.setattr(closing, "closed_up", lambda *_: pytest.fail("it is closed"))
+        lines = capsys.readouterr().out.splitlines()
+        assert lines[0] == f"{place.site} was closed at T; its books are in {tmp_path / 'closed'}"
+        assert lines[1] == "acme: 1 orders, 0 serials, 0 imported, 4 addresses; 2 shipped, 1 scrapped"
+        assert lines[2].endswith("0 addresses; no devices") and [*tmp_path.glob("closed*")] == [tmp_path / "closed"]
+
+
+# ---- the next site
+
+POOLS = [(0x020000000010, 16), (0x020000000100, 4), (0x020000000200, 2)]
+
+
+@pytest.mark.parametrize("is_kept", [False, True])
+def test_what_the_next_site_gets(place, tmp_path, monkeypatch, is_kept):
+    """Of the first pool ten addresses are reached, of the second all, of the third none."""
+    place.closed.write_text(json.dumps({"folder": str(tmp_path)}))
+    monkeypatch.setattr(successor, "SealBooks", lambda file: SimpleNamespace(close=lambda: None))
+    reached = [(0x020000000010, 8), (0x020000000018, 2), (0x020000000100, 4)]
+    monkeypatch.setattr(successor, "reached", lambda *_: reached)
+    first = Site({"acme": SiteCustomer("acme", ["ca"], POOLS, {"a1": "1"}), "cog": SiteCustomer("cog", ["cog-ca"])})
+    spent, following = successor.sites_of(argparse.Namespace(suffix="-2", keep_issuers=is_kept), place, first)
+    issuers, given = ([], [["ca"], ["cog-ca"]]) if is_kept else (["ca"], [["ca-2"], ["cog-ca-2"]])
+    assert spent.customers["acme"] == SiteCustomer("acme", issuers, [(POOLS[0][0], 10), POOLS[1]], {"a1": "1"})
+    rest = [(0x02000000001A, 6), POOLS[2]]
+    assert [*following.customers.values()] == [SiteCustomer("acme-2", given[0], rest, {"a1-2": ""}),
+                                               SiteCustomer("cog-2", given[1])]  # fmt: skip
+
+
+def test_who_gets_a_token_of_the_next_site(place, monkeypatch, capsys):
+    """Who had one that may all, or a certificate, and has none yet: begun again nobody gets a second one."""
+    outers = [outer("a1", 1, holder="line 1"), outer("a2", 2, subject="CN=pc2"), outer("a3", 3, looks=True)]
+    noted(place, monkeypatch, successor, outer_token="", token_run=None, known_seats=tokens(*outers))
+    following = Site({"acme-2": SiteCustomer("acme-2", seats={f"{it.seat}-2": "" for it in SEATS[:4]})})
+    args = argparse.Namespace(suffix="-2", to="/t")
+    successor.give(args, place, following)
+    one, two = (SeatWish(f"{seat}-2", "acme-2", f"/t/{seat}-2.token", it) for seat, it in (("a1", "line 1"), ("a2", "")))
+    certificate = ("add", "a2-2", "--certificate", "CN=pc2", "--holder", "")
+    write = ("token", "write")
+    assert place.calls == [("known_seats",), ("outer_token", one), ("token_run", two, *certificate), write]
+    more = [outer("a1-2", 4), outer("a2-2", 5, subject="CN=pc2")]
+    noted(place, monkeypatch, successor, known_seats=tokens(*outers, *more))
+    place.calls.clear()
+    successor.give(args, place, following)
+    assert place.calls == [("known_seats",), write]
+    place.status = 1
+    with pytest.raises(TokenError, match="nginx doesn't know the new tokens: why"):
+        successor.give(args, place, following)
+
+
+@pytest.mark.parametrize("is_closed, there, told", [
+    (False, None, "isn't closed"), (True, "other", "with another text"), (True, None, ""), (True, "TEXT", ""),
+])  # fmt: skip
+def test_one_site_follows(place, tmp_path, monkeypatch, is_closed, there, told):
+    """What the first gave is written before a token is made; the new text only where no other one is there."""
+    new, spent = tmp_path / "site-2.toml", tmp_path / "site.spent.toml"
+    args = argparse.Namespace(new=str(new), to=str(tmp_path), patience=0.1, other_site=["o"], server="s",
+                              keep_issuers=False)  # fmt: skip
+    steps = {"tested_site": None, "tested_others": None, "give": None, "next_text": "TEXT"}
+    noted(place, monkeypatch, successor, **steps, sites_of=(Site(), Site()))
+    for path, text in ((place.closed, "{}" if is_closed else None), (new, there)):
+        if text:
+            path.write_text(text)
+    with pytest.raises(TokenError, match=told) if told else contextlib.nullcontext():
+        successor.successor(args, place)
+    tried = [it for is_trial in (True, False) for it in (("next_text", place, Site(), Site(), is_trial),
+             ("tested_site", "TEXT", str(new)), ("tested_others", "TEXT", [str(spent), "o"]))]  # fmt: skip
+    done = [("sites_of", place, Site()), *tried] if is_closed else []
+    assert place.calls == [*done, *[("give", place, Site())] * (not told)]
+    assert not is_closed or spent.read_text() == ("" if told else f"# {new} follows\n") + "customer = []\n"
+    assert not told and new.read_text() == "TEXT" or told and (new.read_text() if there else None) == there
+    if not told:
+        with pytest.raises(TokenError, match="one site alone gets it"):
+            successor.marked(tmp_path / "third.toml", spent)
