@@ -1,6 +1,6 @@
-"""The steps by which a site is closed and followed: what is counted, which tokens end, what the folder has and who reads
-it, what keeps all of it from being begun; what the next one gets, and who gets its tokens. Numbers are counted by hand,
-and the list is held by sha256sum(1)."""
+"""The steps by which a site is closed and followed: what is counted, which tokens end, what the folder has and who
+reads it, what keeps all of it from being begun; what the next one gets, and who gets its tokens. Numbers are counted by
+hand, and the list is held by sha256sum(1)."""
 
 import argparse
 import contextlib
@@ -251,7 +251,7 @@ def test_who_gets_a_token_of_the_next_site(place, monkeypatch, capsys):
     following = Site({"acme-2": SiteCustomer("acme-2", seats={f"{it.seat}-2": "" for it in SEATS[:4]})})
     args = argparse.Namespace(suffix="-2", to="/t")
     successor.give(args, place, following)
-    one, two = (SeatWish(f"{seat}-2", "acme-2", f"/t/{seat}-2.token", it) for seat, it in (("a1", "line 1"), ("a2", "")))
+    one, two = (SeatWish(f"{it}-2", "acme-2", f"/t/{it}-2.token", by) for it, by in (("a1", "line 1"), ("a2", "")))
     certificate = ("add", "a2-2", "--certificate", "CN=pc2", "--holder", "")
     write = ("token", "write")
     assert place.calls == [("known_seats",), ("outer_token", one), ("token_run", two, *certificate), write]
