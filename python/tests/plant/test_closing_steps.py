@@ -1,6 +1,6 @@
 """The steps by which a site is closed and followed: what is counted, which tokens end, what the folder has and who
-reads it, what keeps all of it from being begun; what the next one gets, and who gets its tokens. Numbers are counted by
-hand, and the list is held by sha256sum(1)."""
+reads it; what the next one gets, and who gets its tokens. Numbers are counted by hand, and the list is held by
+sha256sum(1). What closes nothing is tried over a served store (tests/plant/test_closing.py)."""
 
 import argparse
 import contextlib
@@ -17,7 +17,7 @@ import pytest
 from wanekupo.common.site_file import Site, SiteCustomer
 from wanekupo.common.token_file import Outer, TokenError, TokenSeat, Tokens, put, tokens_of, tokens_text
 from wanekupo.plant.site import closing, successor
-from wanekupo.plant.site.plan import PREPARED, STOPPING, GrowthPlan, SeatWish, keep_plan
+from wanekupo.plant.site.plan import SeatWish
 
 TABLES = """
 CREATE TABLE orders (customer, name, macs);
@@ -54,19 +54,12 @@ class FakePlace:
         self.site.write_text("customer = []\n")
         for ending, data in (("", b"store"), ("-wal", b"log")):
             Path(f"{self.db}{ending}").write_bytes(data)
-        self.args = argparse.Namespace(stop="stop", start="start", port=880, wait=1.0)
         self.user = SimpleNamespace(call=lambda function, **_: function(), group=os.getegid(), name="station")
-        self.calls, self.status, self.refusal = [], 0, ""
-        self.copied, self.size = lambda db, size: contextlib.nullcontext(db), lambda: 8
-        self.token_words, self.store_refusal = lambda: ["token"], lambda text, copy: self.refusal
+        self.calls, self.status, self.token_words = [], 0, lambda: ["token"]
 
     def ran(self, *words):
         self.calls.append(words)
         return subprocess.CompletedProcess(words, self.status, "", "why\n")
-
-    def service(self, command):
-        self.calls.append((command,))
-        return not self.status, "why"
 
 
 @pytest.fixture
@@ -81,8 +74,7 @@ def place(tmp_path, monkeypatch):
 
 
 def words(folder, **more):
-    own = {"folder": Path(folder), "patience": 0.1, "tsa": None, "tsa_ca": None, "signer": None, "service": None}
-    return argparse.Namespace(**{**own, **dict.fromkeys(("minisign", "cms", "cms_key")), **more})
+    return argparse.Namespace(**{"folder": Path(folder), "patience": 0.1, "signer": None, "service": None, **more})
 
 
 def test_numbers_of_a_store(tmp_path, monkeypatch):
@@ -147,12 +139,6 @@ def tokens(*outers):
     return Tokens({it.seat: it for it in SEATS}, list(outers))
 
 
-def test_whose_seats_are_a_sites():
-    """Its own by their names, and its manager by the token, as each site has one."""
-    site = Site({"acme": SiteCustomer("acme", [], [], {"a1": "", "a9": ""})}, hashlib.sha256(b"z").hexdigest())
-    assert closing.own_seats(site, tokens()) == {"a1", "@manager"} and closing.own_seats(Site(), tokens()) == set()
-
-
 def test_which_tokens_end(place, tmp_path, capsys):
     """Those of the site's seats that may more than look; where nginx doesn't know it nothing is closed."""
     outers = [outer("a1", 1), outer("c1", 2), outer("a1", 3, ended=MINUTE), outer("a1", 4, looks=True)]
@@ -168,59 +154,10 @@ def test_which_tokens_end(place, tmp_path, capsys):
     assert error.value.status == 5
 
 
-@pytest.mark.parametrize("status, refusal, told", [(1, "", "wasn't stopped: why"), (0, "no", "open a copy of .*: no")])
-def test_what_fails_starts_the_server_again(place, tmp_path, monkeypatch, status, refusal, told):
-    monkeypatch.setattr(closing, "start_behind", lambda it: it.calls.append("started"))
-    monkeypatch.setattr(closing, "fill_folder", lambda *_: pytest.fail("it goes on"))
-    place.status, place.refusal = status, refusal
-    with pytest.raises(TokenError, match=told):
-        closing.closed_up(words(tmp_path / "closed"), place)
-    assert place.calls == [("stop",), "started"]
-
-
 def noted(place, monkeypatch, module, **steps):
     """Has steps do nothing but give their answers, and notes them."""
     for name, answer in steps.items():
         monkeypatch.setattr(module, name, lambda *it, n=name, answer=answer: place.calls.append((n, *it[1:])) or answer)
-
-
-def test_what_a_cut_run_left_goes_first(place, tmp_path, monkeypatch):
-    """And the tokens end behind all else: of what fails before that none has ended."""
-    (tmp_path / "closed.new/seals").mkdir(parents=True)
-    noted(place, monkeypatch, closing, start_behind=None, numbers_told={}, fill_folder='{"seats": []}', end_tokens=None)
-    assert closing.closed_up(words(tmp_path / "closed"), place) == '{"seats": []}'
-    steps = ["stop", "numbers_told", "fill_folder", "end_tokens", "start_behind"]
-    assert [it[0] for it in place.calls] == steps and not (tmp_path / "closed.new").exists()
-
-
-@pytest.mark.parametrize("more, told", [
-    ({"tsa": "http://x"}, "lacks a word"), ({"tsa_ca": "f"}, "lacks a word"), ({"cms": "c"}, "isn't said who signs"),
-    ({"folder": "there"}, "is there already"), ({"stage": STOPPING}, "under way"), ({"next": True}, "is prepared"),
-])  # fmt: skip
-def test_what_closes_nothing(place, tmp_path, monkeypatch, more, told):
-    monkeypatch.chdir(tmp_path)
-    monkeypatch.setattr(closing, "closed_up", lambda *_: pytest.fail("it goes on"))
-    (tmp_path / "there").mkdir()
-    keep_plan(place.plan, GrowthPlan(more.get("stage", PREPARED)))
-    if "next" in more:
-        place.next.write_text("")
-    with pytest.raises(TokenError, match=told):
-        closing.close(words(**{"folder": "closed", **more}), place)
-    assert not place.closed.exists()
-
-
-def test_a_closed_site_is_told(place, tmp_path, monkeypatch, capsys):
-    """A run that was cut behind its mark gives the folder its name. Its numbers are told, and nothing is done again."""
-    acme = {**NOTHING, "orders": 1, "addresses": 4, "devices": {"shipped": 2, "scrapped": 1}}
-    told = {"at": "T", "folder": str(tmp_path / "closed"), "customers": {"acme": acme, "cog": NOTHING}}
-    monkeypatch.setattr(closing, "closed_up", lambda *_: (tmp_path / "closed.new").mkdir() or json.dumps(told))
-    for _ in range(2):
-        closing.close(words(tmp_path / "closed"), place)
-        monkeypatch.setattr(closing, "closed_up", lambda *_: pytest.fail("it is closed"))
-        lines = capsys.readouterr().out.splitlines()
-        assert lines[0] == f"{place.site} was closed at T; its books are in {tmp_path / 'closed'}"
-        assert lines[1] == "acme: 1 orders, 0 serials, 0 imported, 4 addresses; 2 shipped, 1 scrapped"
-        assert lines[2].endswith("0 addresses; no devices") and [*tmp_path.glob("closed*")] == [tmp_path / "closed"]
 
 
 # ---- the next site
@@ -265,27 +202,25 @@ def test_who_gets_a_token_of_the_next_site(place, monkeypatch, capsys):
         successor.give(args, place, following)
 
 
-@pytest.mark.parametrize("is_closed, there, told", [
-    (False, None, "isn't closed"), (True, "other", "with another text"), (True, None, ""), (True, "TEXT", ""),
-])  # fmt: skip
-def test_one_site_follows(place, tmp_path, monkeypatch, is_closed, there, told):
+@pytest.mark.parametrize("there", [None, "TEXT", "other"])
+def test_one_site_follows(place, tmp_path, monkeypatch, there):
     """What the first gave is written before a token is made; the new text only where no other one is there."""
     new, spent = tmp_path / "site-2.toml", tmp_path / "site.spent.toml"
     args = argparse.Namespace(new=str(new), to=str(tmp_path), patience=0.1, other_site=["o"], server="s",
                               keep_issuers=False)  # fmt: skip
     steps = {"tested_site": None, "tested_others": None, "give": None, "next_text": "TEXT"}
     noted(place, monkeypatch, successor, **steps, sites_of=(Site(), Site()))
-    for path, text in ((place.closed, "{}" if is_closed else None), (new, there)):
-        if text:
-            path.write_text(text)
-    with pytest.raises(TokenError, match=told) if told else contextlib.nullcontext():
+    with pytest.raises(TokenError, match="isn't closed"):
         successor.successor(args, place)
-    tried = [it for is_trial in (True, False) for it in (("next_text", place, Site(), Site(), is_trial),
-             ("tested_site", "TEXT", str(new)), ("tested_others", "TEXT", [str(spent), "o"]))]  # fmt: skip
-    done = [("sites_of", place, Site()), *tried] if is_closed else []
-    assert place.calls == [*done, *[("give", place, Site())] * (not told)]
-    assert not is_closed or spent.read_text() == ("" if told else f"# {new} follows\n") + "customer = []\n"
-    assert not told and new.read_text() == "TEXT" or told and (new.read_text() if there else None) == there
-    if not told:
-        with pytest.raises(TokenError, match="one site alone gets it"):
-            successor.marked(tmp_path / "third.toml", spent)
+    place.closed.write_text("{}")
+    if there:
+        new.write_text(there)
+    with pytest.raises(TokenError, match="another text") if there == "other" else contextlib.nullcontext():
+        successor.successor(args, place)
+    tried = ["next_text", "tested_site", "tested_others"]
+    assert [it[0] for it in place.calls] == ["sites_of", *tried, *tried, *["give"] * (there != "other")]
+    assert place.calls[3] == ("tested_others", "TEXT", [str(spent), "o"]) and place.calls[1][-1] is True
+    mark = "" if there == "other" else f"# {new} follows\n"
+    assert spent.read_text() == f"{mark}customer = []\n" and new.read_text() == (there or "TEXT")
+    with pytest.raises(TokenError, match="one site alone gets it") if mark else contextlib.nullcontext():
+        successor.marked(tmp_path / "third.toml", spent)
