@@ -10,7 +10,8 @@ from pathlib import Path
 import pytest
 
 from test_sealed_rows import imported, life, order
-from wanekupo.books.chain import NONE, Chain
+from wanekupo.books.apart import sealed_rows_of
+from wanekupo.books.chain import NONE, Chain, sealed
 from wanekupo.books.lines import line
 from wanekupo.cli.main import main
 
@@ -56,6 +57,13 @@ def asked(tmp_path, capsys):
 
 def seal_again(folder: Path, rows):
     Chain(folder).add(sorted(rows), LATER, "@all", None, None)
+
+
+def test_stores_come_by_their_names(tmp_path):
+    for name in "fcadbe":
+        (tmp_path / f"{name}.rows").touch()
+        (tmp_path / f"{name}.seal").write_text(f"{sealed(NONE, 1, AT, '@all', 0, NONE).line()}\n")
+    assert [it.file.stem for it in sealed_rows_of(tmp_path)] == [*"abcdef"]
 
 
 def test_disjoint(asked, tmp_path):

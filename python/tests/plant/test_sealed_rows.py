@@ -7,6 +7,7 @@ import json
 
 import pytest
 
+from wanekupo.books.coherence import faults_of
 from wanekupo.books.compare import Text, contradictions
 from wanekupo.books.lines import device_line, entry_line, line, order_line, record_line
 
@@ -79,3 +80,15 @@ def test_honest():
 def test_found(name):
     rows, told = FOUND[name]
     assert any(told in it for it in said(rows)), name
+
+
+def test_a_ledger_is_read_by_its_numbers_and_told_in_order():
+    """However its entries come; each key that is added once more, and each that the device has otherwise, by name."""
+    keys = {"c": "3", "a": "1", "d": "4", "b": "2"}
+    entries = [{"n": number, "event": event, "note": note, "bits": [], "keys": more}
+               for number, event, note, more in ((3, "read", "match", keys), (1, "registered", "", keys),
+                                                 (2, "planned", "", {}))]  # fmt: skip
+    device = {"state": "settled", "reason": None, "serial": None, "bits": [], "keys": {}}
+    again = [f"its entry 3 adds a key of {it}, which was known" for it in "abcd"]
+    otherwise = [f"the key of {it} is none, and by its ledger {keys[it]}" for it in "abcd"]
+    assert list(faults_of(device, entries, [])) == [*again, *otherwise]
