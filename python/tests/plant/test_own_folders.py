@@ -63,7 +63,10 @@ def test_file_by_which_a_ca_signs(tmp_path: Path, name: str, mode: int, is_taken
         (tmp_path / it).write_text("")
         (tmp_path / it).chmod(mode if it == name else 0o644)
     if is_taken:
+        before = os.umask(0)
         Authority(tmp_path).close()
+        os.umask(before)
+        assert (tmp_path / "issued").stat().st_mode & 0o777 == 0o755
         return
     with pytest.raises(BadSettings, match=f"others can write {tmp_path / name}, by which the CA signs"):
         Authority(tmp_path)
