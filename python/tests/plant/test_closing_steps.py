@@ -32,44 +32,28 @@ ROWS, MINUTE = ["device acme c1 {}", "site {}"], "2026-01-01T00:00"
 NOTHING = {"orders": 0, "serials": 0, "imported": 0, "addresses": 0, "devices": {}}
 
 
-class FakeFolder:
+def folder_of(db):
     """A folder of the store's user."""
-
-    def __init__(self, db):
-        self.db, self.user = Path(db), SimpleNamespace(name="station")
-
-    def file(self, ending=""):
-        return os.open(f"{self.db}{ending}", os.O_RDONLY)
-
-    def size(self, ending=""):
-        return os.stat(f"{self.db}{ending}").st_size
-
-
-class FakePlace:
-    """A site whose commands are noted, and do nothing but say how they ended."""
-
-    def __init__(self, folder):
-        self.site, self.next, self.plan = folder / "site.toml", folder / "site.next.toml", folder / "site.growth"
-        self.tokens, self.closed, self.db = folder / "tokens.conf", folder / "site.closed.json", folder / "books.db"
-        self.site.write_text("customer = []\n")
-        for ending, data in (("", b"store"), ("-wal", b"log")):
-            Path(f"{self.db}{ending}").write_bytes(data)
-        self.user = SimpleNamespace(call=lambda function, **_: function(), group=os.getegid(), name="station")
-        self.calls, self.status, self.token_words = [], 0, lambda: ["token"]
-
-    def ran(self, *words):
-        self.calls.append(words)
-        return subprocess.CompletedProcess(words, self.status, "", "why\n")
+    file, size = lambda end="": os.open(f"{db}{end}", os.O_RDONLY), lambda end="": os.stat(f"{db}{end}").st_size
+    return SimpleNamespace(db=Path(db), user=SimpleNamespace(name="station"), file=file, size=size)
 
 
 @pytest.fixture
 def place(tmp_path, monkeypatch):
-    monkeypatch.setattr(closing, "StoreFolder", FakeFolder)
+    """A site whose commands are noted, and do nothing but say how they ended."""
+    monkeypatch.setattr(closing, "StoreFolder", folder_of)
     monkeypatch.setattr(closing, "ACTS", tmp_path / "acts")
     monkeypatch.setattr(closing, "write_rows", lambda copy, file: file.write_text("".join(f"{it}\n" for it in ROWS)))
+    names = {"plan": "site.growth", "tokens": "tokens.conf", "closed": "closed.json", "db": "books.db"}
+    made = SimpleNamespace(site=tmp_path / "site.toml", **{it: tmp_path / name for it, name in names.items()})
+    made.calls, made.status = [], 0
+    made.user, made.token_words = SimpleNamespace(group=os.getegid(), name="station"), lambda: ["token"]
+    made.ran = lambda *it: made.calls.append(it) or subprocess.CompletedProcess(it, made.status, "", "why\n")
+    for name, text in (("site.toml", "customer = []\n"), ("books.db", "store"), ("books.db-wal", "log")):
+        (tmp_path / name).write_text(text)
     before = os.umask(0)
     tmp_path.chmod(0o755)
-    yield FakePlace(tmp_path)
+    yield made
     os.umask(before)
 
 
@@ -122,7 +106,7 @@ def test_the_folder_of_a_closed_site(place, tmp_path):
     assert told["site_sha256"] == hashlib.sha256(b"customer = []\n").hexdigest() and told["seats"] == []
     Path(f"{place.db}-wal").write_bytes(bytes(568))  # a page is in it: the file alone is older than the store
     with pytest.raises(TokenError, match="isn't joined"):
-        closing.copy_out(FakeFolder(place.db), tmp_path)
+        closing.copy_out(folder_of(place.db), tmp_path)
 
 
 def outer(seat, number, **more):

@@ -85,12 +85,9 @@ def test_what_is_signed_is_not_what_another_put_there(tmp_path: Path) -> None:
     verify(file, cms=tmp_path / "cert.pem")
 
 
-@pytest.mark.parametrize("line, is_one", [
-    ("RWQf6LRCGA9i53mlYecO4IzT51TGPpvWucNSCh1CBM0QTaLn73Y7GFO3", True),  # of minisign's own page
-    ("RWQf6LRCGA9i53mlYecO4IzT51TGPpvWucNSCh1CBM0QTaLn73Y7GFO3AAAA", False), ("RWRTY0Iy", False), ("no key!", False),
-    ("QUFB6LRCGA9i53mlYecO4IzT51TGPpvWucNSCh1CBM0QTaLn73Y7GFO3", False),
-])  # fmt: skip
-def test_public_keys_of_minisign(tmp_path: Path, line: str, is_one: bool) -> None:
-    (tmp_path / "key").write_text(f"untrusted comment: x\n{line}\n")
-    (tmp_path / "short").write_text(line)
-    assert is_public(tmp_path / "key") is is_one and is_public(tmp_path / "short") is False
+def test_public_keys_of_minisign(tmp_path: Path) -> None:
+    """The first one is of minisign's own page; the others are longer, a secret one's beginning, and none."""
+    key = "RWQf6LRCGA9i53mlYecO4IzT51TGPpvWucNSCh1CBM0QTaLn73Y7GFO3"
+    for text, is_one in ((f"x\n{key}\n", True), (f"x\n{key}AAAA", False), ("x\nRWRTY0Iy", False), (key, False)):
+        (tmp_path / "key").write_text(text)
+        assert is_public(tmp_path / "key") is is_one

@@ -344,17 +344,13 @@ def test_the_disk_has_lost_the_text_before_a_seat_goes(place, monkeypatch):
     assert done == [(place.next.parent, False), place.tokens]
 
 
-@pytest.mark.parametrize("text", ["add-seat acme a2", "add-pool acme 020000000020 4", "apply"])
-def test_a_closed_site_gets_nothing_more(place, text):
-    place.closed.write_text("{}")
-    with pytest.raises(TokenError, match="is closed .*station-site successor"):
-        site.COMMANDS[text.split()[0]](words(*text.split()), place)
-    assert not place.next.exists() and place.calls == []
-
-
 def test_apply_of_nothing(place, capsys):
     site.apply_command(words("apply"), place)
     assert place.calls == [] and "nothing is prepared" in capsys.readouterr().out
+    place.closed.write_text("{}")
+    for text in (["apply"], ["add-seat", "acme", "a2"]):
+        with pytest.raises(TokenError, match="is closed .*station-site successor"):
+            site.COMMANDS[text[0]](words(*text), place)
 
 
 def test_apply_looks_again(place, monkeypatch):

@@ -4,6 +4,7 @@ import contextlib
 import os
 import pty
 import stat
+import subprocess
 from pathlib import Path
 from types import SimpleNamespace
 
@@ -173,14 +174,10 @@ def test_read_small(tmp_path: Path) -> None:
 
 def test_what_is_read_gives_no_terminal() -> None:
     """Who has a session of its own and no terminal would get one by open(2), if a name led to it."""
-    _, terminal = pty.openpty()
-    child = os.fork()
-    if not child:
+    name = os.ttyname(pty.openpty()[1])
+    if not (child := os.fork()):
         os.setsid()
         with contextlib.suppress(UserError):
-            read_small(Path(os.ttyname(terminal)))
-        with contextlib.suppress(OSError):
-            os.open("/dev/tty", os.O_RDWR)
-            os._exit(1)
-        os._exit(0)
+            read_small(Path(name))
+        os._exit(not subprocess.run(["sh", "-c", ": > /dev/tty"], stderr=subprocess.DEVNULL).returncode)
     assert os.waitpid(child, 0)[1] == 0
