@@ -1,13 +1,12 @@
-"""The steps by which a site is closed and followed: what is counted, which tokens end, what the folder has and who
-reads it; what the next one gets, and who gets its tokens. Numbers are counted by hand, and the list is held by
-sha256sum(1). What closes nothing is tried over a served store (tests/plant/test_closing.py)."""
+"""The steps by which a site is closed and followed: which tokens end, what the folder has and who reads it; what the
+next one gets, and who gets its tokens. The list is held by sha256sum(1). What is counted, and what closes nothing, is
+tried over a served store (tests/plant/test_closing.py)."""
 
 import argparse
 import contextlib
 import hashlib
 import json
 import os
-import sqlite3
 import subprocess
 from pathlib import Path
 from types import SimpleNamespace
@@ -19,17 +18,7 @@ from wanekupo.common.token_file import Outer, TokenError, TokenSeat, Tokens, put
 from wanekupo.plant.site import closing, successor
 from wanekupo.plant.site.plan import SeatWish
 
-TABLES = """
-CREATE TABLE orders (customer, name, macs);
-CREATE TABLE given (customer, chip);
-CREATE TABLE device (customer, chip, ord, state, serial);
-INSERT INTO orders VALUES ('acme', 'o1', 2), ('acme', 'o2', 5);
-INSERT INTO given VALUES ('acme', 'c1'), ('acme', 'c2'), ('acme', NULL), ('bolt', NULL);
-INSERT INTO device VALUES ('bolt', 'c3', 'o9', 'quarantined', NULL), ('acme', 'c2', 'o2', 'shipped', 'A2'),
-    ('acme', 'c1', 'o1', 'identified', 'A1'), ('acme', 'c0', 'o1', 'settled', NULL);
-"""
 ROWS, MINUTE = ["device acme c1 {}", "site {}"], "2026-01-01T00:00"
-NOTHING = {"orders": 0, "serials": 0, "imported": 0, "addresses": 0, "devices": {}}
 
 
 def folder_of(db):
@@ -59,23 +48,6 @@ def place(tmp_path, monkeypatch):
 
 def words(folder, **more):
     return argparse.Namespace(**{"folder": Path(folder), "patience": 0.1, "signer": None, "service": None, **more})
-
-
-def test_numbers_of_a_store(tmp_path, monkeypatch):
-    """Of each customer, also one with nothing but a pool; what is under way by its customer and chip."""
-    base = sqlite3.connect(":memory:")
-    base.executescript(TABLES)
-    monkeypatch.setattr(closing, "StoreCopy", lambda _: contextlib.nullcontext(SimpleNamespace(rows=base.execute)))
-    books = SimpleNamespace(pools={"cog": [], "acme": []}, customers=lambda: {"bolt", "acme"})
-    monkeypatch.setattr(closing, "Books", lambda store: books)
-    closing.write_numbers(tmp_path / "books.db", tmp_path / "numbers.json")
-    found = json.loads((tmp_path / "numbers.json").read_text())
-    devices = {"shipped": 1, "identified": 1, "settled": 1}
-    acme = {"orders": 2, "serials": 2, "imported": 1, "addresses": 7, "devices": devices}
-    bolt = {**NOTHING, "imported": 1, "devices": {"quarantined": 1}}
-    assert list(found["customers"].items()) == [("acme", acme), ("bolt", bolt), ("cog", NOTHING)]
-    lines = ["c0 of acme, order o1, is settled", "c1 of acme, order o1, is identified"]
-    assert found["under_way"] == [f"the device {it}" for it in lines]
 
 
 def test_the_folder_of_a_closed_site(place, tmp_path):
