@@ -85,9 +85,8 @@ def test_found(name):
 def test_a_ledger_is_read_by_its_numbers_and_told_in_order():
     """However its entries come; each key that is added once more, and each that the device has otherwise, by name."""
     keys = {"c": "3", "a": "1", "d": "4", "b": "2"}
-    entries = [{"n": number, "event": event, "note": note, "bits": [], "keys": more}
-               for number, event, note, more in ((3, "read", "match", keys), (1, "registered", "", keys),
-                                                 (2, "planned", "", {}))]  # fmt: skip
+    steps = (3, "read", "match", keys), (1, "registered", "", keys), (2, "planned", "", {})
+    entries = [{"n": number, "event": it, "note": note, "bits": [], "keys": more} for number, it, note, more in steps]
     device = {"state": "settled", "reason": None, "serial": None, "bits": [], "keys": {}}
     again = [f"its entry 3 adds a key of {it}, which was known" for it in "abcd"]
     otherwise = [f"the key of {it} is none, and by its ledger {keys[it]}" for it in "abcd"]

@@ -248,9 +248,8 @@ def test_roots_keys_are_left(monkeypatch, number, is_refused):
 
 
 def test_a_kernel_without_keyrings_has_none_to_leave(monkeypatch):
-    """syscall(2): a call of a number that there isn't sets ENOSYS."""
     monkeypatch.setattr(store_user.os, "geteuid", lambda: 0)
-    monkeypatch.setattr(store_user, "KEYCTL", {os.uname().machine: 99_999})
+    monkeypatch.setattr(store_user, "KEYCTL", {os.uname().machine: 99_999})  # syscall(2): it sets ENOSYS
     store_user.leave_keys()
 
 
