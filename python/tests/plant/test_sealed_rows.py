@@ -83,7 +83,6 @@ def test_found(name):
 
 
 def test_a_ledger_is_read_by_its_numbers_and_told_in_order():
-    """However its entries come; each key that is added once more, and each that the device has otherwise, by name."""
     keys = {"c": "3", "a": "1", "d": "4", "b": "2"}
     steps = (3, "read", "match", keys), (1, "registered", "", keys), (2, "planned", "", {})
     entries = [{"n": number, "event": it, "note": note, "bits": [], "keys": more} for number, it, note, more in steps]

@@ -412,9 +412,8 @@ def test_a_room_that_is_too_small(tmp_path, monkeypatch):
 
 
 def test_a_room_is_roots_and_goes(tmp_path, monkeypatch, hurry):
-    """What others put beside it by such a name holds nobody up, and stays."""
     owned, removed = [], []
-    os.mkfifo(tmp_path / f"{rooms.ROOM}pipe")
+    os.mkfifo(tmp_path / f"{rooms.ROOM}pipe")  # what others put beside it holds nobody up, and stays
     (tmp_path / f"{rooms.ROOM}link").symlink_to("/tmp")
     monkeypatch.setattr(store_user, "_held", lambda *_: None)
     monkeypatch.setattr(rooms.os, "chown", lambda path, *ids: owned.append((path.name, ids)))
