@@ -40,7 +40,7 @@ count_unused given range = length (filter (is_unused given range) (numbers range
 abbrev pub serials_left : HasIssued → Order → ℕ
 serials_left given o = count_unused (given o.issuer) o.range
 
--- what is counted of a customer's order is what the tables have of it
-pub record AreCountsOf (customer : List ℕ) (o : Order) (t : Tables) (counts : OrderCounts) : Type 0 where
-  pub devices : counts.devices ≡ map (count_in (devices_of o.name (rows_of customer t.devices))) columns
-  pub left : counts.left ≡ serials_left (has_issued_in t) o
+-- what is counted of a customer's order with this name and range of an issuer is what the tables have of it
+pub record AreCountsOf (customer order issuer : List ℕ) (range : Range) (t : Tables) (counts : OrderCounts) : Type 0 where
+  pub devices : counts.devices ≡ map (count_in (devices_of order (rows_of customer t.devices))) columns
+  pub left : counts.left ≡ count_unused (has_issued_in t issuer) range

@@ -2,7 +2,8 @@
 ghost use Rattle.office_tables.specs.Prelude.{LooksUp};
 ghost use Rattle.yield_counts.specs.Counts.{AreCountsOf};
 
-use office_tables::{Keep, Order, Unkept};
+use id_ranges::SerialRange;
+use office_tables::{Keep, Unkept};
 use text_core::Name;
 
 /// How many columns of states there are.
@@ -22,9 +23,16 @@ pub struct OrderCounts {
 
 /// A keeper that counts.
 pub trait Count: Keep {
-    /// What is counted of a customer's order.
-    fn count_order(&mut self, customer: &Name, order: &Order) -> Result<OrderCounts, Unkept>
+    /// What is counted of a customer's order with this name, whose serial numbers are a range of an
+    /// issuer.
+    fn count_order(
+        &mut self,
+        customer: &Name,
+        order: &Name,
+        issuer: &Name,
+        range: &SerialRange,
+    ) -> Result<OrderCounts, Unkept>
         ensures { LooksUp Self.is_open Self.is_honest Self.may_leave Self.tells_text Self.tables
             Self.commits self.old self.new result
-            (λ t counts. AreCountsOf customer.now order.now t counts) };
+            (λ t counts. AreCountsOf customer.now order.now issuer.now range.now t counts) };
 }

@@ -12,8 +12,8 @@ use crate::written::{DeviceAnswer, change_of, follow_devices, follow_given};
 use fusemap_core::FuseMap;
 use id_ranges::{KeyDigest, SerialRange};
 use office_tables::{
-    DeviceRow, EntryRow, GivenRow, Keep, LinkRow, MapRow, Order, OrderClaim, OrderRow, SeatRow,
-    Sink, Unkept, Write,
+    DeviceRow, EntryRow, GivenRow, Keep, LinkRow, MapRow, OrderClaim, OrderRow, SeatRow, Sink,
+    Unkept, Write,
 };
 use std::alloc::Global;
 use std::marker::Model;
@@ -106,12 +106,18 @@ impl<K: Keep + Drop> Counted<K> {
 }
 
 impl<K: Keep + Drop> Count for Counted<K> {
-    fn count_order(&mut self, customer: &Name, order: &Order) -> Result<OrderCounts, Unkept> {
+    fn count_order(
+        &mut self,
+        customer: &Name,
+        order: &Name,
+        issuer: &Name,
+        range: &SerialRange,
+    ) -> Result<OrderCounts, Unkept> {
         // A store that is shut tells nothing.
         self.keep.map(0)?;
         Ok(OrderCounts {
-            devices: self.columns(customer, &order.name)?,
-            left: self.unused(&order.issuer, &order.range)?,
+            devices: self.columns(customer, order)?,
+            left: self.unused(issuer, range)?,
         })
     }
 }
