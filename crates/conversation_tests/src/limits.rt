@@ -15,6 +15,7 @@ use test_support::conversation::{first_difference_for, serve, streams_of};
 use test_support::keepers::{Fresh, KeeperCase, over_each};
 use test_support::lists::first_difference_in_list;
 use text_core::{Chip, Name, Serial};
+use yield_counts::Count;
 
 /// A site in which acme has one pool, as large as a pool may be.
 pub const SITE_WITH_ROOM: &str = r#"[[customer]]
@@ -494,7 +495,7 @@ impl Rows {
 
 impl Limit<'_> {
     /// Holds a part of the conversation: what differs first.
-    fn first_in_part<K: Keep>(
+    fn first_in_part<K: Count>(
         &self,
         alloc: Global,
         keep: &mut K,

@@ -25,6 +25,7 @@ use std::io;
 use std::io::Write;
 use std::net::{Ipv4Addr, OpenListener, OpenStream, SocketAddrV4, TcpListener};
 use std::time::Clock;
+use yield_counts::{Count, Counted};
 
 /// Where connections come in, and how many are served.
 #[derive(Clone, Copy)]
@@ -94,7 +95,7 @@ pub fn serve_site<'a, S: Start, W: Write>(
             };
         }
     };
-    let mut keep = match open_limited(rt, alloc, store, &site) {
+    let keep = match open_limited(rt, alloc, store, &site) {
         Ok(keep) => keep,
         Err(refused) => {
             return Done {
@@ -104,16 +105,44 @@ pub fn serve_site<'a, S: Start, W: Write>(
         }
     };
     let bounds = Bounds::of_program();
-    let served = serve_port(rt, alloc, &mut keep, site.site(), door, bounds, output);
+    let (served, keep) = serve_counted(rt, alloc, keep, site.site(), door, bounds, output);
     Done {
         result: served,
         files: LeftFiles::Ended(close(keep)),
     }
 }
 
+/// Serves the connections of the door's port over a store that counts meanwhile, and gives the store
+/// back.
+fn serve_counted<K: Keep + Drop + Limited, W: Write>(
+    rt: &HostRuntime,
+    alloc: Global,
+    keep: K,
+    site: &Site,
+    door: Door,
+    bounds: Bounds,
+    output: &mut W,
+) -> (Result<ConnectionCount, Failure<'static>>, K)
+    requires limit { K.is_limited keep }
+    requires bounds { AreOfProgram bounds }
+    ensures was_honest { K.is_honest result.1 → K.is_honest keep }
+    ensures reaches { LeadsOn K.Keep site.now keep result.1 }
+    ensures counted { IfOk result.0 (λ count. count.number ≡ door.connections) }
+    ensures failed { IfErr result.0 IsOfPort }
+    ensures printed { OnOk result.0 (Appends (W.contents output.old) (W.contents output.new)
+        (listening_line door.port ++ 10 ∷ [])) }
+    ensures prints_nothing { IfErr result.0 (λ failure. failure ≢ Failure.WriteFailed
+        → failure ≢ Failure.AcceptFailed
+        → Keeps (W.contents output.old) (W.contents output.new)) }
+{
+    let mut counted = Counted::over(alloc, keep);
+    let served = serve_port(rt, alloc, &mut counted, site, door, bounds, output);
+    (served, counted.into_keep())
+}
+
 /// Listens on the port of the door, tells so, and serves its connections over a store, whose statements
 /// have the limit of steps, at the bounds of the program. Answers how many were given to be served.
-fn serve_port<K: Keep + Limited, W: Write>(
+fn serve_port<K: Count + Limited, W: Write>(
     rt: &HostRuntime,
     alloc: Global,
     keep: &mut K,
@@ -181,7 +210,7 @@ fn write_listening_line<W: Write>(port: u16, output: &mut W) -> io::Result<()>
 /// # Errors
 ///
 /// `AcceptFailed` where waiting for a connection fails. The connections before it were served.
-pub fn serve_connections<K: Keep, R: Clock, S, L>(
+pub fn serve_connections<K: Count, R: Clock, S, L>(
     clock: &R,
     alloc: Global,
     keep: &mut K,
@@ -221,7 +250,7 @@ struct Parted<C: Duplex> {
 }
 
 /// Serves the client of a connection over a keeper, or answers why the connection can't be set up.
-fn serve_client<K: Keep, R: Clock, C: Duplex, L>(
+fn serve_client<K: Count, R: Clock, C: Duplex, L>(
     clock: &R,
     alloc: Global,
     keep: &mut K,

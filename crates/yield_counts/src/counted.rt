@@ -56,6 +56,13 @@ impl<K: Keep + Drop> Counted<K> {
         }
     }
 
+    /// The keeper, as it stands.
+    pub fn keeper(&self) -> &K
+        ensures { result.now ≡ self.now }
+    {
+        &self.keep
+    }
+
     /// The keeper, with which the counts end.
     pub fn into_keep(self) -> K
         ensures { result ≡ self }

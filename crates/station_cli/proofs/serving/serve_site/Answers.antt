@@ -27,21 +27,21 @@ returns-in-Err-open_limited-clause-failed g c =
 
 pub returns-clause-failed : goal.returns-clause-failed
 returns-clause-failed g c =
-    let served = c.serve_port-served in
-    of_any_site c.args.name (λ b. b.items) c.args.file (IfErr served.result IsBehindSite)
-    (failing served.result IsOfPort IsBehindSite (λ failure port. inr (inr port)) served.ensures.failed)
+    let served = c.serve_counted-keep in
+    of_any_site c.args.name (λ b. b.items) c.args.file (IfErr served.result.0 IsBehindSite)
+    (failing served.result.0 IsOfPort IsBehindSite (λ failure port. inr (inr port)) served.ensures.failed)
 
-pub serve_port-served-requires-clause-limit : goal.serve_port-served-requires-clause-limit
-serve_port-served-requires-clause-limit g c = c.in-Ok-open_limited.ensures.opened.limit
+pub serve_counted-keep-requires-clause-limit : goal.serve_counted-requires-clause-limit
+serve_counted-keep-requires-clause-limit g c = c.in-Ok-open_limited.ensures.opened.limit
 
 pub returns-clause-books : goal.returns-clause-books
 returns-clause-books g c =
     books_left {S = g.row.S.Denot} c.args.name (λ b. b.items) c.args.file c.in-Ok.site (image_at g.S.Start) c.args.store.name.now c.args.store.absent _
-    c.serve_port-served.result (Ended c.close.result) c.in-Ok.ensures.read (record {
+    c.serve_counted-keep.result.0 (Ended c.close.result) c.in-Ok.ensures.read (record {
       opened = c.in-Ok-open_limited.keep;
-      last = c.serve_port-served.new.keep;
+      last = c.serve_counted-keep.result.1;
       opens = c.in-Ok-open_limited.ensures.opened;
-      leads = leads_for c.site-2.ensures.same c.serve_port-served.ensures.reaches;
-      was_honest = c.serve_port-served.ensures.was_honest;
+      leads = leads_for c.site-2.ensures.same c.serve_counted-keep.ensures.reaches;
+      was_honest = c.serve_counted-keep.ensures.was_honest;
       leaves = c.close.ensures;
     })

@@ -24,17 +24,17 @@ returns-in-Err-open_limited-clause-failed g c =
 pub returns-clause-books : goal.returns-clause-books
 returns-clause-books g c =
     books_left {S = g.row.S.Denot} c.args.name (λ b. b.items) c.args.file c.in-Ok.site (image_at g.S.Start) c.args.store.name.now c.args.store.absent _
-    (Ok c.replay_over-served.result) (Ended c.close.result) c.in-Ok.ensures.read (record {
+    (Ok c.replay_over-served.result.0) (Ended c.close.result) c.in-Ok.ensures.read (record {
       opened = c.in-Ok-open_limited.keep;
-      last = c.replay_over-served.new.keep;
+      last = c.replay_over-served.result.1;
       opens = c.in-Ok-open_limited.ensures.opened;
       leads = serves_for (g.R.Source.left c.args.reader.now) (g.R.Source.left c.replay_over-served.new.reader) (g.W.Drain.written c.args.writer.now)
-          (g.W.Drain.written c.replay_over-served.new.writer) c.replay_over-served.result c.site-2.ensures.same c.replay_over-served.ensures.run;
+          (g.W.Drain.written c.replay_over-served.new.writer) c.replay_over-served.result.0 c.site-2.ensures.same c.replay_over-served.ensures.run;
       was_honest = c.replay_over-served.ensures.was_honest;
       leaves = c.close.ensures;
     })
 
-pub replay_over-served-requires-clause-limit : goal.replay_over-served-requires-clause-limit
+pub replay_over-served-requires-clause-limit : goal.replay_over-requires-clause-limit
 replay_over-served-requires-clause-limit g c = c.in-Ok-open_limited.ensures.opened.limit
 
 pub returns-clause-ended : goal.returns-clause-ended
