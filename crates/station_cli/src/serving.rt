@@ -16,7 +16,7 @@ use crate::site_file::site_of_file;
 use crate::stored::{Done, LeftFiles, Limited, StoreFile, open_limited, store_failure};
 use office_core::Keep;
 use office_store::{SqlKeep, close};
-use site_core::Site;
+use site_core::{Site, SiteText};
 use sqlite::{FileFrom, FileStore};
 use sqlite_disk::Start;
 use station_api::{Served, serve_stream};
@@ -95,7 +95,31 @@ pub fn serve_site<'a, S: Start, W: Write>(
             };
         }
     };
-    let keep = match open_limited(rt, alloc, store, &site) {
+    serve_store(rt, alloc, &site, store, door, output)
+}
+
+/// Serves the connections of the door's port over the store in a file, which is closed at the end.
+fn serve_store<'a, S: Start, W: Write>(
+    rt: &HostRuntime,
+    alloc: Global,
+    site: &SiteText,
+    store: StoreFile<'_, S>,
+    door: Door,
+    output: &mut W,
+) -> Done<'a, ConnectionCount, S, FileFrom<S>>
+    ensures failed { IfErr result.result (λ failure. (failure ≡ Failure.NoMemory)
+        ⊎ IsOfStore failure ⊎ IsOfPort failure) }
+    ensures counted { IfOk result.result (λ count. count.number ≡ door.connections) }
+    ensures books { Leaves site.now (image_at S.Start) store.entry.name.now store.entry.absent
+        (LeadsOn ⟦<SqlKeep<FileStore<FileFrom<S>>> as Keep>⟧ site.now.site)
+        result.result result.files }
+    ensures printed { OnOk result.result (Appends (W.contents output.old) (W.contents output.new)
+        (listening_line door.port ++ 10 ∷ [])) }
+    ensures prints_nothing { IfErr result.result (λ failure. failure ≢ Failure.WriteFailed
+        → failure ≢ Failure.AcceptFailed
+        → Keeps (W.contents output.old) (W.contents output.new)) }
+{
+    let keep = match open_limited(rt, alloc, store, site) {
         Ok(keep) => keep,
         Err(refused) => {
             return Done {

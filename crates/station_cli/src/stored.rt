@@ -116,7 +116,38 @@ pub fn replay_stored<'a, S: Start, R: Source, W: Drain>(
             };
         }
     };
-    let keep = match open_limited(rt, alloc, store, &site) {
+    replay_store(rt, alloc, &site, store, reader, writer)
+}
+
+/// Serves one stream over the store in a file, which is closed at the end.
+fn replay_store<'a, S: Start, R: Source, W: Drain>(
+    rt: &HostRuntime,
+    alloc: Global,
+    site: &SiteText,
+    store: StoreFile<'_, S>,
+    reader: &mut R,
+    writer: &mut W,
+) -> Done<'a, Served, S, FileFrom<S>>
+    requires reader { HasCallsLeft (R.calls reader.old) 0 }
+    requires writer { HasCallsLeft (W.calls writer.old) 0 }
+    ensures failed { IfErr result.result (λ failure. (failure ≡ Failure.NoMemory)
+        ⊎ IsOfStore failure) }
+    ensures books { Leaves site.now (image_at S.Start) store.entry.name.now store.entry.absent
+        (λ opened last. IsOkAnd result.result (λ served.
+        ServesOver ⟦<SqlKeep<FileStore<FileFrom<S>>> as Keep>⟧ site.now.site (R.left reader.old)
+        (R.left reader.new) (W.written writer.old) (W.written writer.new) served opened last))
+        result.result result.files }
+    ensures ended { IfOk result.result (IsAnswered (record {
+      input_old = R.left reader.old;
+      input_new = R.left reader.new;
+      output_old = W.written writer.old;
+      output_new = W.written writer.new;
+    })) }
+    ensures within { MatchResult result.result
+        (StaysWithinCalls R.Source W.Drain reader.old reader.new writer.old writer.new)
+        (λ _. (reader.new ≡ reader.old) × (writer.new ≡ writer.old)) }
+{
+    let keep = match open_limited(rt, alloc, store, site) {
         Ok(keep) => keep,
         Err(refused) => {
             return Done {
