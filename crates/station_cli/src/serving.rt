@@ -158,7 +158,7 @@ fn serve_open<'a, S: Start, W: Write>(
 
 /// Serves the connections of the door's port over a store that counts meanwhile, and gives the store
 /// back.
-fn serve_counted<K: Keep + Drop + Limited, W: Write>(
+fn serve_counted<K: Keep + Limited, W: Write>(
     rt: &HostRuntime,
     alloc: Global,
     keep: K,

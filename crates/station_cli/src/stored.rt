@@ -29,7 +29,7 @@ impl<S: Alter> Limited for SqlKeep<S> {
     ghost is_limited = { λ keep. keep.conn.step_limit ≡ Some 1000000000 };
 }
 
-impl<K: Keep + Drop + Limited> Limited for Counted<K> {
+impl<K: Keep + Limited> Limited for Counted<K> {
     ghost is_limited = { K.is_limited };
 }
 
@@ -165,7 +165,7 @@ fn replay_store<'a, S: Start, R: Source, W: Drain>(
 
 /// Serves one stream over a store, whose statements have the limit of steps, and which counts
 /// meanwhile. Answers how it ended, and gives the store back.
-fn replay_over<K: Keep + Drop + Limited, R: Source, W: Drain>(
+fn replay_over<K: Keep + Limited, R: Source, W: Drain>(
     alloc: Global,
     keep: K,
     site: &Site,

@@ -22,7 +22,7 @@ use text_core::{Chip, Digest, Name, Serial};
 /// A keeper over another one, which counts with each commit what has become of the devices and the
 /// serial numbers of orders.
 #[derive(Drop)]
-pub struct Counted<K: Keep + Drop> {
+pub struct Counted<K: Keep> {
     keep: K,
     alloc: Global,
     devices: DeviceCounts,
@@ -32,7 +32,7 @@ pub struct Counted<K: Keep + Drop> {
 }
 
 // What is counted is right while the keeper is open.
-impl<K: Keep + Drop> Model for Counted<K> {
+impl<K: Keep> Model for Counted<K> {
     ghost use Rattle.yield_counts.specs.Kept.{AreKept};
 
     ghost Value = { K };
@@ -42,7 +42,7 @@ impl<K: Keep + Drop> Model for Counted<K> {
     ghost invariant = { λ c. K.is_open c.keep → AreKept (K.tables c.keep) c.devices c.left c.answer };
 }
 
-impl<K: Keep + Drop> Counted<K> {
+impl<K: Keep> Counted<K> {
     /// Over a keeper.
     pub fn over(alloc: Global, keep: K) -> Counted<K>
         ensures { result ≡ keep }
@@ -78,7 +78,7 @@ impl<K: Keep + Drop> Counted<K> {
     }
 }
 
-impl<K: Keep + Drop> Counted<K> {
+impl<K: Keep> Counted<K> {
     /// How many devices of a customer's order are in each column of states. Where the customer wasn't
     /// counted, all its devices are, and their numbers kept, if there is memory for them.
     fn columns(&mut self, customer: &Name, order: &Name) -> Result<Columns, Unkept>
@@ -112,7 +112,7 @@ impl<K: Keep + Drop> Counted<K> {
     }
 }
 
-impl<K: Keep + Drop> Count for Counted<K> {
+impl<K: Keep> Count for Counted<K> {
     fn count_order(
         &mut self,
         customer: &Name,
@@ -130,7 +130,7 @@ impl<K: Keep + Drop> Count for Counted<K> {
 }
 
 // Each call is the keeper's. A commit is counted too.
-impl<K: Keep + Drop> Keep for Counted<K> {
+impl<K: Keep> Keep for Counted<K> {
     ghost tables = { K.tables };
 
     ghost is_open = { K.is_open };
