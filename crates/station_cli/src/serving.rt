@@ -26,6 +26,7 @@ use std::io::Write;
 use std::net::{Ipv4Addr, OpenListener, OpenStream, SocketAddrV4, TcpListener};
 use std::time::Clock;
 use yield_counts::{Count, Counted};
+use yield_report::site_report;
 
 /// Where connections come in, and how many are served.
 #[derive(Clone, Copy)]
@@ -184,8 +185,9 @@ fn serve_counted<K: Keep + Limited, W: Write>(
     (served, counted.into_keep())
 }
 
-/// Listens on the port of the door, tells so, and serves its connections over a store, whose statements
-/// have the limit of steps, at the bounds of the program. Answers how many were given to be served.
+/// Counts what is in a store, whose statements have the limit of steps, listens on the port of the door,
+/// tells so, and serves its connections, at the bounds of the program. Answers how many were given to be
+/// served.
 fn serve_port<K: Count + Limited, W: Write>(
     rt: &HostRuntime,
     alloc: Global,
@@ -208,6 +210,8 @@ fn serve_port<K: Count + Limited, W: Write>(
         → Keeps (W.contents output.old) (W.contents output.new)) }
 {
     site.fact_rules();
+    // The first report walks over all devices and given numbers: it is made before anybody waits.
+    let _counted = site_report(alloc, keep, site);
     let listener = listen(rt, door.port)?;
     if write_listening_line(door.port, output).is_err() {
         return Err(Failure::WriteFailed);
