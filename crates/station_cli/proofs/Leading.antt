@@ -27,7 +27,7 @@ leads_by_read k site w old new read = (
   (λ honest t stands. (
     t,
     led k site old new w [] t t refl (λ front starts left leaves. leaves_none (k.may_leave old) t front starts left (read.crash honest left leaves))
-        read.text (λ open. read.same open ∙ stands (read.was_open open)),
+        read.text (λ is. read.same is ∙ stands (read.was_open is)),
   )),
 )
 

@@ -1,8 +1,10 @@
 -- What writes make of the devices and of the given serial numbers.
 use mathlib.Core.Path.{fun_ext}
 use Rattle.std.proofs.Common.{◌≡◌, ◌+◌, ◌<◌, ◌∷◌, ◌&&◌, ◌||◌, get_or}
-use Rattle.text_core.proofs.Kit.{ℕ, zero, suc, Bool, true, false, List, [], Option, Some, None, refl, sym, ap, ◌∙◌, arith, filter_map, find, is_some, cons_option}
-use Rattle.text_core.proofs.Kit.{bytes_eq, cases_Bool, inl, inr, take, length, subst, AllByRecursion, and_from, and_parts, bytes_eq-Decides, Equal, both_ways, is_eq, texts_ties}
+use Rattle.text_core.proofs.Kit.{ℕ, zero, suc, Bool, true, false, List, [], Option, Some, None, refl, sym, ap, ◌∙◌, arith, filter_map, find, is_some}
+use Rattle.text_core.proofs.Kit.{cons_option}
+use Rattle.text_core.proofs.Kit.{bytes_eq, cases_Bool, inl, inr, take, length, subst, AllByRecursion, and_from, and_parts, bytes_eq-Decides, Equal}
+use Rattle.text_core.proofs.Kit.{both_ways, is_eq, texts_ties}
 use Rattle.office_tables.specs.declared.rows.OfCustomer.{OfCustomer}
 use Rattle.office_tables.specs.declared.rows.Device.{Device}
 use Rattle.office_tables.specs.declared.rows.Given.{Given}

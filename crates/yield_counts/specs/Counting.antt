@@ -1,5 +1,6 @@
 -- The numbers of devices that are kept, and when they are right.
-use Rattle.std.specs.Prelude.{◌≡◌, ◌==◌, ◌&&◌, ℕ, List, Option, Some, None, replicate, length, bytes_eq, option_map, unwrap_or, slice_index, slice_set, if◌then◌else◌}
+use Rattle.std.specs.Prelude.{◌≡◌, ◌==◌, ◌&&◌, ℕ, List, Option, Some, None, replicate, length, bytes_eq, option_map, unwrap_or, slice_index}
+use Rattle.std.specs.Prelude.{slice_set, if◌then◌else◌}
 use Rattle.std.specs.BTreeMap.{get}
 use Rattle.office_tables.specs.Prelude.{one_more, rows_of, state_row, text_cmp}
 use Rattle.office_tables.specs.declared.rows.DeviceState.{DeviceState}

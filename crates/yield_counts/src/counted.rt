@@ -268,7 +268,6 @@ impl<K: Keep> Keep for Counted<K> {
         self.keep.visit_ledger(customer, chip, sink)
     }
 
-
     fn commit(&mut self, writes: &[Write]) -> Result<(), Unkept> {
         self.keep.fact_ascending();
         let (put, old) = change_of(writes, &self.answer);

@@ -25,6 +25,7 @@ returns g c = record {
       bit_is c.is_some-is_given.result c.from.result c.from.ensures ∙ ap (λ b. cond b 1 0)
       (c.is_some-is_given.ensures ∙ ap is_some (found ∙ ap (λ s. given_at issuer s t) (c.as_str.ensures.same ∙ first))) in
       let visits = rw (same, first) at (c.in_ok-visit_serials_behind.ensures.answer is) in
-      left_walked r c.first.ensures.range issuer t ascending.given _ c.visit_serials_behind.new.sink refl
-      (c.text.ensures ∙ ap (serial_text r) (omega (arith, c.first-2.ensures.same, c.quantity.ensures.same))) (omega (arith, c.quantity-2.ensures.same, one)) visits;
+      let last = c.text.ensures ∙ ap (serial_text r) (omega (arith, c.first-2.ensures.same, c.quantity.ensures.same)) in
+      left_walked r c.first.ensures.range issuer t ascending.given _ c.visit_serials_behind.new.sink refl last
+      (omega (arith, c.quantity-2.ensures.same, one)) visits;
 }
