@@ -1,20 +1,19 @@
 -- A walk over the given serial numbers of an issuer that stand between the first and the last of a range.
 use mathlib.Core.Path.{fun_ext}
-use Rattle.std.proofs.Common.{◌≡◌, ◌+◌, ◌-◌, ◌<◌, ◌≤◌, ◌≢◌, ◌∷◌, ◌&&◌, ◌||◌}
-use Rattle.text_core.proofs.Kit.{ℕ, Bool, true, false, not, List, [], Option, Some, None, map, filter, find, length, is_some, list_any, refl, sym, ap}
+use Rattle.std.proofs.Common.{◌≡◌, ◌+◌, ◌-◌, ◌∷◌, ◌&&◌}
+use Rattle.text_core.proofs.Kit.{ℕ, Bool, true, false, not, List, [], Option, Some, None, map, filter, length, is_some, list_any, refl, sym, ap}
 use Rattle.text_core.proofs.Kit.{◌∙◌, arith, cond}
 use Rattle.text_core.proofs.Kit.{bytes_eq, bytes_eq-Decides, both_ways, cases_Bool, cases_eq, inl, inr, is_lt, nat_list_cmp_total, tied_itself}
-use Rattle.text_core.proofs.Kit.{from_bool, Less}
-use Rattle.text_core.proofs.Kit.{false_from_ne_true, text_itself}
-use Rattle.id_ranges.specs.Prelude.{Range, IsRange, Has, is_unused, numbers, serial_text}
+use Rattle.text_core.proofs.Kit.{from_bool}
+use Rattle.id_ranges.specs.Prelude.{Range, IsRange, is_unused, numbers, serial_text}
 use Rattle.office_tables.specs.declared.rows.OfCustomer.{OfCustomer}
 use Rattle.office_tables.specs.declared.rows.Given.{Given}
-use Rattle.office_tables.specs.Prelude.{given_at, given_cmp, is_given_behind, is_of_issuer, is_serial_of, text_cmp, IsAscending, Tables, Visits}
+use Rattle.office_tables.specs.Prelude.{given_at, given_cmp, is_given_behind, is_of_issuer, text_cmp, IsAscending, Tables, Visits}
 use Rattle.yield_counts.specs.Prelude.{count_unused, has_issued_in, has_serial, serials_in, AreRising}
 use Rattle.yield_counts.specs.Walks.{TakesSerial}
 use Rattle.yield_counts.specs.declared.walks.SerialScan.{SerialScan}
 use Rattle.yield_counts.proofs.Digits.{has_at, has_none}
-use Rattle.yield_counts.proofs.RisingSerials.{given_is_listed, is_new, later, left_count, lt_is_less, rises_apart, serials_rise}
+use Rattle.yield_counts.proofs.RisingSerials.{given_is_listed, is_new, later, left_count, rises_apart, serials_rise}
 use Rattle.yield_counts.proofs.Texts.{text_rises}
 
 -- a test as a number

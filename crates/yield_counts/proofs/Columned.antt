@@ -1,8 +1,8 @@
 -- The numbers of devices that are kept: one is set, and a device is put.
-use Rattle.std.proofs.Common.{◌≡◌, ◌+◌, ◌-◌, ◌<◌, ◌≢◌, ◌==◌, ◌&&◌, ◌∷◌, get_or}
+use Rattle.std.proofs.Common.{◌≡◌, ◌+◌, ◌-◌, ◌<◌, ◌==◌, ◌&&◌, ◌∷◌}
 use Rattle.text_core.proofs.Kit.{◌∙◌, ℕ, arith, true, false, Bool, cond, List, [], Option, Some, None, length, refl, sym, ap, bytes_eq, filter, find}
 use Rattle.text_core.proofs.Kit.{map, nat_tests}
-use Rattle.text_core.proofs.Kit.{option_map, unwrap_or, cases_Bool, inl, inr, and_parts, get, is_at, is_eq, bytes_eq-Decides, replicate, slice_set}
+use Rattle.text_core.proofs.Kit.{option_map, unwrap_or, cases_Bool, inl, inr, and_parts, get, is_at, bytes_eq-Decides, slice_set}
 use Rattle.text_core.proofs.Kit.{slice_index}
 use Rattle.std.specs.List.{sum_by}
 use Rattle.std.proofs.lemmas.List.{get_or-set_other}

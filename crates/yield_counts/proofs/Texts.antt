@@ -1,6 +1,6 @@
 -- The serial numbers of a range rise with its numbers.
-use Rattle.std.proofs.Common.{◌≡◌, ◌+◌, ◌*◌, ◌<◌, ◌≤◌, ◌∷◌, ◌++◌, Ordering}
-use Rattle.text_core.proofs.Kit.{ℕ, List, [], length, decimal, refl, sym, ap, ◌∙◌, arith, Less, Equal, Greater, digits_value, AllDigits, cases_eq}
+use Rattle.std.proofs.Common.{◌≡◌, ◌+◌, ◌*◌, ◌<◌, ◌∷◌, ◌++◌}
+use Rattle.text_core.proofs.Kit.{ℕ, List, [], length, decimal, refl, sym, ◌∙◌, arith, Less, Equal, AllDigits, cases_eq}
 use Rattle.text_core.proofs.Kit.{cases_lt, inl, inr}
 use Rattle.std.specs.Str.Parse.{digits_value_after}
 use Rattle.std.specs.Char.{digit_value}

@@ -1,10 +1,7 @@
-use Rattle.std.proofs.Common.{◌≡◌, ◌-◌, ◌∙◌, List, ℕ, ap, arith, cond, is_some, refl, rules, sym, subst, map, filter}
+use Rattle.std.proofs.Common.{◌≡◌, ◌∙◌, ap, arith, cond, is_some, refl, rules}
 use Rattle.id_ranges.specs.Prelude.{serial_text}
-use Rattle.office_tables.specs.Prelude.{given_at, is_given_behind, Tables, Visits}
-use Rattle.office_tables.specs.declared.rows.OfCustomer.{OfCustomer}
-use Rattle.office_tables.specs.declared.rows.Given.{Given}
+use Rattle.office_tables.specs.Prelude.{given_at}
 use Rattle.office_tables.proofs.Reading.{reads_more}
-use Rattle.yield_counts.specs.Walks.{TakesSerial}
 use Rattle.yield_counts.proofs.Between.{bit_is, left_walked}
 use Rattle.yield_counts.proofs.walks.count_left.Goals as goal
 

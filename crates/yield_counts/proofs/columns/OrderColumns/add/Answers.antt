@@ -1,4 +1,4 @@
-use Rattle.std.proofs.Common.{◌≡◌, ◌+◌, ◌∙◌, ap, refl, rules, sym, length}
+use Rattle.std.proofs.Common.{◌≡◌, ◌∙◌, ap, rules, sym, length}
 use Rattle.std.proofs.lemmas.Result.{on_ok_weaker}
 use Rattle.yield_counts.proofs.Columned.{counted_one, one_more}
 use Rattle.yield_counts.proofs.columns.OrderColumns.add.Goals as goal
