@@ -120,35 +120,15 @@ fn serve_store<'a, S: Start, W: Write>(
         → failure ≢ Failure.AcceptFailed
         → Keeps (W.contents output.old) (W.contents output.new)) }
 {
-    match open_limited(rt, alloc, store, site) {
-        Ok(keep) => serve_open(rt, alloc, keep, site, door, output),
-        Err(refused) => Done {
-            result: Err(store_failure(refused.fault)),
-            files: LeftFiles::Refused(refused),
-        },
-    }
-}
-
-/// Serves the connections of the door's port over a store that was opened, and closes it.
-fn serve_open<'a, S: Start, W: Write>(
-    rt: &HostRuntime,
-    alloc: Global,
-    keep: SqlKeep<FileStore<FileFrom<S>>>,
-    site: &SiteText,
-    door: Door,
-    output: &mut W,
-) -> Done<'a, ConnectionCount, S, FileFrom<S>>
-    requires limit { keep.conn.step_limit ≡ Some 1000000000 }
-    ensures failed { IfErr result.result IsOfPort }
-    ensures counted { IfOk result.result (λ count. count.number ≡ door.connections) }
-    ensures ended { IsEndedOver keep (LeadsOn ⟦<SqlKeep<FileStore<FileFrom<S>>> as Keep>⟧
-        site.now.site) result.files }
-    ensures printed { OnOk result.result (Appends (W.contents output.old) (W.contents output.new)
-        (listening_line door.port ++ 10 ∷ [])) }
-    ensures prints_nothing { IfErr result.result (λ failure. failure ≢ Failure.WriteFailed
-        → failure ≢ Failure.AcceptFailed
-        → Keeps (W.contents output.old) (W.contents output.new)) }
-{
+    let keep = match open_limited(rt, alloc, store, site) {
+        Ok(keep) => keep,
+        Err(refused) => {
+            return Done {
+                result: Err(store_failure(refused.fault)),
+                files: LeftFiles::Refused(refused),
+            };
+        }
+    };
     let bounds = Bounds::of_program();
     let (served, keep) = serve_counted(rt, alloc, keep, site.site(), door, bounds, output);
     Done {
