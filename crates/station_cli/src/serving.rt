@@ -26,6 +26,7 @@ use std::io::Write;
 use std::net::{Ipv4Addr, OpenListener, OpenStream, SocketAddrV4, TcpListener};
 use std::time::Clock;
 use yield_counts::{Count, Counted};
+use yield_report::site_report;
 
 /// Where connections come in, and how many are served.
 #[derive(Clone, Copy)]
@@ -119,35 +120,15 @@ fn serve_store<'a, S: Start, W: Write>(
         → failure ≢ Failure.AcceptFailed
         → Keeps (W.contents output.old) (W.contents output.new)) }
 {
-    match open_limited(rt, alloc, store, site) {
-        Ok(keep) => serve_open(rt, alloc, keep, site, door, output),
-        Err(refused) => Done {
-            result: Err(store_failure(refused.fault)),
-            files: LeftFiles::Refused(refused),
-        },
-    }
-}
-
-/// Serves the connections of the door's port over a store that was opened, and closes it.
-fn serve_open<'a, S: Start, W: Write>(
-    rt: &HostRuntime,
-    alloc: Global,
-    keep: SqlKeep<FileStore<FileFrom<S>>>,
-    site: &SiteText,
-    door: Door,
-    output: &mut W,
-) -> Done<'a, ConnectionCount, S, FileFrom<S>>
-    requires limit { keep.conn.step_limit ≡ Some 1000000000 }
-    ensures failed { IfErr result.result IsOfPort }
-    ensures counted { IfOk result.result (λ count. count.number ≡ door.connections) }
-    ensures ended { IsEndedOver keep (LeadsOn ⟦<SqlKeep<FileStore<FileFrom<S>>> as Keep>⟧
-        site.now.site) result.files }
-    ensures printed { OnOk result.result (Appends (W.contents output.old) (W.contents output.new)
-        (listening_line door.port ++ 10 ∷ [])) }
-    ensures prints_nothing { IfErr result.result (λ failure. failure ≢ Failure.WriteFailed
-        → failure ≢ Failure.AcceptFailed
-        → Keeps (W.contents output.old) (W.contents output.new)) }
-{
+    let keep = match open_limited(rt, alloc, store, site) {
+        Ok(keep) => keep,
+        Err(refused) => {
+            return Done {
+                result: Err(store_failure(refused.fault)),
+                files: LeftFiles::Refused(refused),
+            };
+        }
+    };
     let bounds = Bounds::of_program();
     let (served, keep) = serve_counted(rt, alloc, keep, site.site(), door, bounds, output);
     Done {
@@ -184,8 +165,9 @@ fn serve_counted<K: Keep + Limited, W: Write>(
     (served, counted.into_keep())
 }
 
-/// Listens on the port of the door, tells so, and serves its connections over a store, whose statements
-/// have the limit of steps, at the bounds of the program. Answers how many were given to be served.
+/// Counts what is in a store, whose statements have the limit of steps, listens on the port of the door,
+/// tells so, and serves its connections, at the bounds of the program. Answers how many were given to be
+/// served.
 fn serve_port<K: Count + Limited, W: Write>(
     rt: &HostRuntime,
     alloc: Global,
@@ -208,6 +190,8 @@ fn serve_port<K: Count + Limited, W: Write>(
         → Keeps (W.contents output.old) (W.contents output.new)) }
 {
     site.fact_rules();
+    // The first report walks over all devices and given numbers: it is made before anybody waits.
+    let _counted = site_report(alloc, keep, site);
     let listener = listen(rt, door.port)?;
     if write_listening_line(door.port, output).is_err() {
         return Err(Failure::WriteFailed);

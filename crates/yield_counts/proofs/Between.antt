@@ -1,18 +1,19 @@
 -- A walk over the given serial numbers of an issuer that stand between the first and the last of a range.
 use mathlib.Core.Path.{fun_ext}
-use Rattle.std.proofs.Common.{◌≡◌, ◌+◌, ◌-◌, ◌<◌, ◌≤◌, ◌≢◌, ◌∷◌, ◌&&◌, ◌||◌}
-use Rattle.text_core.proofs.Kit.{ℕ, Bool, true, false, not, List, [], Option, Some, None, map, filter, find, length, is_some, list_any, refl, sym, ap, ◌∙◌, arith, cond}
-use Rattle.text_core.proofs.Kit.{bytes_eq, bytes_eq-Decides, both_ways, cases_Bool, cases_eq, inl, inr, is_lt, nat_list_cmp_total, tied_itself, from_bool, Less}
-use Rattle.text_core.proofs.Kit.{false_from_ne_true, text_itself}
-use Rattle.id_ranges.specs.Prelude.{Range, IsRange, Has, is_unused, numbers, serial_text}
+use Rattle.std.proofs.Common.{◌≡◌, ◌+◌, ◌-◌, ◌∷◌, ◌&&◌}
+use Rattle.text_core.proofs.Kit.{ℕ, Bool, true, false, not, List, [], Option, Some, None, map, filter, length, is_some, list_any, refl, sym, ap}
+use Rattle.text_core.proofs.Kit.{◌∙◌, arith, cond}
+use Rattle.text_core.proofs.Kit.{bytes_eq, bytes_eq-Decides, both_ways, cases_Bool, cases_eq, inl, inr, is_lt, nat_list_cmp_total, tied_itself}
+use Rattle.text_core.proofs.Kit.{from_bool}
+use Rattle.id_ranges.specs.Prelude.{Range, IsRange, is_unused, numbers, serial_text}
 use Rattle.office_tables.specs.declared.rows.OfCustomer.{OfCustomer}
 use Rattle.office_tables.specs.declared.rows.Given.{Given}
-use Rattle.office_tables.specs.Prelude.{given_at, given_cmp, is_given_behind, is_of_issuer, is_serial_of, text_cmp, IsAscending, Tables, Visits}
+use Rattle.office_tables.specs.Prelude.{given_at, given_cmp, is_given_behind, is_of_issuer, text_cmp, IsAscending, Tables, Visits}
 use Rattle.yield_counts.specs.Prelude.{count_unused, has_issued_in, has_serial, serials_in, AreRising}
 use Rattle.yield_counts.specs.Walks.{TakesSerial}
 use Rattle.yield_counts.specs.declared.walks.SerialScan.{SerialScan}
 use Rattle.yield_counts.proofs.Digits.{has_at, has_none}
-use Rattle.yield_counts.proofs.RisingSerials.{given_is_listed, is_new, later, left_count, lt_is_less, rises_apart, serials_rise}
+use Rattle.yield_counts.proofs.RisingSerials.{given_is_listed, is_new, later, left_count, rises_apart, serials_rise}
 use Rattle.yield_counts.proofs.Texts.{text_rises}
 
 -- a test as a number
@@ -120,14 +121,14 @@ module _ (r : Range) (is : IsRange r) where
             let all : count xs ≡ count (filter is_behind xs) + 0 = rw none at rest in
             rw (equal, has, here) (omega (arith, all))
         | inr other ↦ elim (cases_Bool (is_behind x)) [
-            | inl behind ↦ rw (other, behind) (elim (has_serial r x) as (λ b. length (cond b (x ∷ filter (has_serial r) xs) (filter (has_serial r) xs))
-            ≡ length (cond b (x ∷ filter (has_serial r) (filter is_behind xs)) (filter (has_serial r) (filter is_behind xs)))
-            + cond (list_any (bytes_eq first_text) xs) 1 0) [
+          | inl behind ↦ rw (other, behind) (elim (has_serial r x) as (λ b. length (cond b (x ∷ filter (has_serial r) xs) (filter (has_serial r) xs))
+              ≡ length (cond b (x ∷ filter (has_serial r) (filter is_behind xs)) (filter (has_serial r) (filter is_behind xs)))
+              + cond (list_any (bytes_eq first_text) xs) 1 0) [
                 | true ↦ omega (arith, rest)
                 | false ↦ rest
               ])
-            | inr before ↦ let none = first_or_behind r is x other before in rw (other, before, none) rest
-          ]
+          | inr before ↦ let none = first_or_behind r is x other before in rw (other, before, none) rest
+        ]
       ]
 
 -- the given serial numbers of an issuer behind a text
@@ -139,12 +140,12 @@ serials_behind issuer text (g ∷ rows) =
     (g ∷ filter (is_given_behind issuer text) rows) (filter (is_given_behind issuer text) rows))
     ≡ filter (λ s. is_lt (text_cmp text s)) (serials_in (cond b (g ∷ filter (is_of_issuer issuer) rows) (filter (is_of_issuer issuer) rows)))) [
       | true ↦ elim (is_lt (text_cmp text g.row.serial)) as (λ b. map (λ (g : OfCustomer Given). g.row.serial) (cond b
-      (g ∷ filter (is_given_behind issuer text) rows) (filter (is_given_behind issuer text) rows))
-      ≡ cond b (g.row.serial ∷ filter (λ s. is_lt (text_cmp text s)) (serials_in (filter (is_of_issuer issuer) rows)))
-      (filter (λ s. is_lt (text_cmp text s)) (serials_in (filter (is_of_issuer issuer) rows)))) [
-          | true ↦ ap (λ rest. g.row.serial ∷ rest) (serials_behind issuer text rows)
-          | false ↦ serials_behind issuer text rows
-        ]
+          (g ∷ filter (is_given_behind issuer text) rows) (filter (is_given_behind issuer text) rows))
+          ≡ cond b (g.row.serial ∷ filter (λ s. is_lt (text_cmp text s)) (serials_in (filter (is_of_issuer issuer) rows)))
+          (filter (λ s. is_lt (text_cmp text s)) (serials_in (filter (is_of_issuer issuer) rows)))) [
+            | true ↦ ap (λ rest. g.row.serial ∷ rest) (serials_behind issuer text rows)
+            | false ↦ serials_behind issuer text rows
+          ]
       | false ↦ serials_behind issuer text rows
     ]
 

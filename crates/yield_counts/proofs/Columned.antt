@@ -1,7 +1,9 @@
 -- The numbers of devices that are kept: one is set, and a device is put.
-use Rattle.std.proofs.Common.{◌≡◌, ◌+◌, ◌-◌, ◌<◌, ◌≢◌, ◌==◌, ◌&&◌, ◌∷◌, get_or}
-use Rattle.text_core.proofs.Kit.{◌∙◌, ℕ, arith, true, false, Bool, cond, List, [], Option, Some, None, length, refl, sym, ap, bytes_eq, filter, find, map, nat_tests}
-use Rattle.text_core.proofs.Kit.{option_map, unwrap_or, cases_Bool, inl, inr, and_parts, get, is_at, is_eq, bytes_eq-Decides, replicate, slice_set, slice_index}
+use Rattle.std.proofs.Common.{◌≡◌, ◌+◌, ◌-◌, ◌<◌, ◌==◌, ◌&&◌, ◌∷◌}
+use Rattle.text_core.proofs.Kit.{◌∙◌, ℕ, arith, true, false, Bool, cond, List, [], Option, Some, None, length, refl, sym, ap, bytes_eq, filter, find}
+use Rattle.text_core.proofs.Kit.{map, nat_tests}
+use Rattle.text_core.proofs.Kit.{option_map, unwrap_or, cases_Bool, inl, inr, and_parts, get, is_at, bytes_eq-Decides, slice_set}
+use Rattle.text_core.proofs.Kit.{slice_index}
 use Rattle.std.specs.List.{sum_by}
 use Rattle.std.proofs.lemmas.List.{get_or-set_other}
 use Rattle.std.proofs.lemmas.List.Sums.{sum_by-cons}
@@ -16,7 +18,8 @@ use Rattle.office_tables.specs.Numbers.{largest_number, one_more as one_more_of}
 use Rattle.office_tables.specs.Prelude.{device_cmp, is_device, is_of, rows_of, state_row, text_cmp, with_row, IsAscending}
 use Rattle.office_tables.proofs.Places.{find_device}
 use Rattle.office_tables.proofs.TotalOrders.{device_total}
-use Rattle.yield_counts.specs.Prelude.{columns_at, count_at, count_in, count_of, devices_of, in_column, no_devices, taken_in_column, AreColumnsOf, AreCounted}
+use Rattle.yield_counts.specs.Prelude.{columns_at, count_at, count_in, count_of, devices_of, in_column, no_devices, taken_in_column, with_one}
+use Rattle.yield_counts.specs.Prelude.{AreColumnsOf, AreCounted}
 use Rattle.yield_counts.specs.declared.columns.OrderColumns.{OrderColumns}
 use Rattle.yield_counts.specs.declared.devices.DeviceCounts.{DeviceCounts}
 use Rattle.yield_counts.proofs.Kept.{at_text, fit_put}
@@ -195,4 +198,15 @@ counted_put customer rows after c n v stay =
 
 -- one more where there is room for it
 pub more_is : (n more : ℕ) → one_more_of n ≡ Some more → more ≡ n + 1
-more_is n more is = elim (cases_Bool (nat_lt n largest_number)) [ | inl low ↦ (let e = rw low at is in cc) | inr high ↦ absurd (let e = rw high at is in cc) ]
+more_is n more is = elim (cases_Bool (nat_lt n largest_number)) [ inl low ↦ (let e = rw low at is in cc) | inr high ↦ absurd (let e = rw high at is in cc) ]
+
+-- the numbers with one device more in a state are one more in its column
+pub counted_one : (state : DeviceState) (numbers more : List ℕ) → with_one state numbers ≡ Some more
+    → more ≡ slice_set numbers (state_row state).column (slice_index numbers (state_row state).column + 1)
+counted_one state numbers more is =
+    let column = (state_row state).column in
+    elim (one_more_of (slice_index numbers column)) as (λ o. one_more_of (slice_index numbers column) ≡ o
+    → option_map (slice_set numbers column) o ≡ Some more → more ≡ slice_set numbers column (slice_index numbers column + 1)) [
+      | None ↦ λ _ none. absurd (cc)
+      | Some value ↦ λ found is. (let same : slice_set numbers column value ≡ more = cc in sym same ∙ ap (slice_set numbers column) (more_is _ value found))
+    ] refl is

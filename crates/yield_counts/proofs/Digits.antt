@@ -1,7 +1,9 @@
 -- The digits of a range's serial numbers, and the numbers that they write.
 use Rattle.std.proofs.Common.{◌≡◌, ◌≢◌, ◌+◌, ◌-◌, ◌*◌, ◌^◌, ◌<◌, ◌≤◌, ◌++◌, get_or, ◌&&◌}
-use Rattle.text_core.proofs.Kit.{ℕ, zero, suc, Bool, true, false, List, length, take, drop, replicate, decimal, Some, None, refl, sym, ap, ◌∙◌, arith, bytes_eq}
-use Rattle.text_core.proofs.Kit.{digits_value, AllDigits, nat_le, list_all, list_any, range_with_len, pow-le-pow_right, and_from, and_parts, both_ways, le-leb}
+use Rattle.text_core.proofs.Kit.{ℕ, zero, suc, Bool, true, false, List, length, take, drop, replicate, decimal, Some, None, refl, sym, ap, ◌∙◌, arith}
+use Rattle.text_core.proofs.Kit.{bytes_eq}
+use Rattle.text_core.proofs.Kit.{digits_value, AllDigits, nat_le, list_all, list_any, range_with_len, pow-le-pow_right, and_from, and_parts}
+use Rattle.text_core.proofs.Kit.{both_ways, le-leb}
 use Rattle.text_core.proofs.Kit.{leb-true, or_from, false_from_ne_true, bytes_eq-Decides, none-some, same_Some, digits_value-lt, digits_value_more}
 use Rattle.text_core.proofs.Kit.{digit_value_digit, digit_at, digits_value-take-le, decimal_is_IsNumeral, drop_at, take_at, take_rest, any_in_range}
 use Rattle.text_core.specs.Prelude.{zero_padded, is_prefix, prefix_of_text, is_serial, is_serial_byte}

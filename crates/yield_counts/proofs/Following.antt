@@ -1,20 +1,21 @@
 -- What writes make of the devices and of the given serial numbers.
-use mathlib.Core.Path.{fun_ext}
-use Rattle.std.proofs.Common.{◌≡◌, ◌+◌, ◌<◌, ◌∷◌, ◌&&◌, ◌||◌, get_or}
-use Rattle.text_core.proofs.Kit.{ℕ, zero, suc, Bool, true, false, List, [], Option, Some, None, refl, sym, ap, ◌∙◌, arith, filter_map, find, is_some, cons_option}
-use Rattle.text_core.proofs.Kit.{bytes_eq, cases_Bool, inl, inr, take, length, subst, AllByRecursion, and_from, and_parts, bytes_eq-Decides, Equal, both_ways, is_eq, texts_ties}
+use Rattle.std.proofs.Common.{◌≡◌, ◌<◌, ◌∷◌, ◌&&◌, ◌||◌, get_or}
+use Rattle.text_core.proofs.Kit.{ℕ, zero, suc, false, List, [], Option, Some, None, refl, sym, ap, ◌∙◌, arith, filter_map, find, is_some}
+use Rattle.text_core.proofs.Kit.{cons_option}
+use Rattle.text_core.proofs.Kit.{bytes_eq, cases_Bool, inl, inr, take, length, subst, and_parts, bytes_eq-Decides, Equal}
+use Rattle.text_core.proofs.Kit.{both_ways, is_eq, texts_ties}
 use Rattle.office_tables.specs.declared.rows.OfCustomer.{OfCustomer}
 use Rattle.office_tables.specs.declared.rows.Device.{Device}
 use Rattle.office_tables.specs.declared.rows.Given.{Given}
 use Rattle.office_tables.specs.declared.rows.Order.{Order}
 use Rattle.office_tables.specs.declared.rows.Write.{Write}
 use Rattle.office_tables.specs.declared.rows.Write.TheVariants.{PutSeat, AddOrder, SetCursor, AddMap, AddLink, AddDevice, PutDevice, AddGiven, AddEntry}
-use Rattle.office_tables.specs.Prelude.{device_cmp, given_at, given_cmp, is_serial_of, order_at, with_cursor_of, with_row, CanWrite, IsFree, Tables, Writes}
+use Rattle.office_tables.specs.Prelude.{device_cmp, given_cmp, is_serial_of, order_at, with_cursor_of, with_row, CanWrite, IsFree, Tables, Writes}
 use Rattle.office_tables.specs.Prelude.{text_cmp, Written}
 use Rattle.office_tables.proofs.Finding.{found_placed, none_passes, other_placed}
 use Rattle.office_tables.proofs.Placing.{all_map}
 use Rattle.office_tables.proofs.Places.{both_equal, same_both_ways}
-use Rattle.yield_counts.specs.Prelude.{has_issued_in, HasIssued, IsGivenToo}
+use Rattle.yield_counts.specs.Prelude.{has_issued_in, IsGivenToo}
 use Rattle.yield_counts.specs.Changes.{put_of}
 
 -- devices are put, one after another

@@ -1,6 +1,7 @@
 -- What is kept under names: one is put, or taken out.
 use Rattle.std.proofs.Common.{◌≡◌, BTreeMap}
-use Rattle.text_core.proofs.Kit.{◌∙◌, List, ℕ, false, cond, Option, Some, bytes_eq, bytes_eq-Decides, cases_Bool, inl, inr, refl, sym, get, is_at, texts_ties, subst}
+use Rattle.text_core.proofs.Kit.{◌∙◌, List, ℕ, false, cond, Option, Some, bytes_eq, bytes_eq-Decides, cases_Bool, inl, inr, refl, sym, get, is_at}
+use Rattle.text_core.proofs.Kit.{texts_ties, subst}
 use Rattle.text_core.specs.declared.name.Name.{Name}
 use Rattle.office_tables.specs.Prelude.{text_cmp}
 use Rattle.office_tables.proofs.Places.{same_both_ways}
@@ -21,6 +22,6 @@ module _ {V : Type 0} where
   fit_put Fits After name put c n stay fit own writes other v is =
       elim (cases_Bool (bytes_eq other name)) [
         | inl same ↦ subst (λ k. After k v) (sym ((bytes_eq-Decides other name).0 same))
-        (own v (sym (writes other ∙ rw (at_text name other, same) refl) ∙ is))
+            (own v (sym (writes other ∙ rw (at_text name other, same) refl) ∙ is))
         | inr apart ↦ stay other apart v (fit other v (sym (writes other ∙ rw (at_text name other, apart) refl) ∙ is))
       ]

@@ -1,6 +1,7 @@
 -- The sum over rows of which one is put in its place.
 use Rattle.std.proofs.Common.{◌≡◌, ◌+◌, ◌∷◌, Ordering}
-use Rattle.text_core.proofs.Kit.{ℕ, arith, cond, List, [], Option, Some, None, Less, Equal, Greater, refl, AllByRecursion, find, IsTotalOrder, is_eq, match_ordering}
+use Rattle.text_core.proofs.Kit.{ℕ, arith, cond, List, [], Option, Some, None, Less, Equal, Greater, refl, AllByRecursion, find, IsTotalOrder, is_eq}
+use Rattle.text_core.proofs.Kit.{match_ordering}
 use Rattle.std.specs.List.{sum_by}
 use Rattle.std.proofs.lemmas.List.Sums.{sum_by-cons}
 use Rattle.office_tables.specs.Prelude.{with_row, IsAscending}

@@ -1,8 +1,8 @@
 -- One more serial number is given.
 use mathlib.Core.Path.{fun_ext}
-use Rattle.std.proofs.Common.{◌≡◌, ◌+◌, ◌-◌, ◌||◌, ◌<◌, ◌≤◌}
-use Rattle.text_core.proofs.Kit.{ℕ, Bool, true, false, not, List, length, filter, refl, sym, ap, ◌∙◌, arith, cond, bytes_eq, bytes_eq-Decides, false_from_ne_true}
-use Rattle.text_core.proofs.Kit.{list_any}
+use Rattle.std.proofs.Common.{◌≡◌, ◌-◌, ◌||◌}
+use Rattle.text_core.proofs.Kit.{ℕ, Bool, true, false, not, List, length, filter, refl, sym, ap, ◌∙◌, arith, cond, bytes_eq, bytes_eq-Decides}
+use Rattle.text_core.proofs.Kit.{false_from_ne_true}
 use Rattle.id_ranges.specs.Prelude.{Range, TextSet, IsRange, is_unused, numbers, serial_text}
 use Rattle.id_ranges.proofs.Texts.{same_number}
 use Rattle.office_tables.proofs.Places.{same_both_ways}

@@ -1,6 +1,7 @@
 -- The serial numbers of a range rise with its numbers.
-use Rattle.std.proofs.Common.{◌≡◌, ◌+◌, ◌*◌, ◌<◌, ◌≤◌, ◌∷◌, ◌++◌, Ordering}
-use Rattle.text_core.proofs.Kit.{ℕ, List, [], length, decimal, refl, sym, ap, ◌∙◌, arith, Less, Equal, Greater, digits_value, AllDigits, cases_eq, cases_lt, inl, inr}
+use Rattle.std.proofs.Common.{◌≡◌, ◌+◌, ◌*◌, ◌<◌, ◌∷◌, ◌++◌}
+use Rattle.text_core.proofs.Kit.{ℕ, List, [], length, decimal, refl, sym, ◌∙◌, arith, Less, Equal, AllDigits, cases_eq}
+use Rattle.text_core.proofs.Kit.{cases_lt, inl, inr}
 use Rattle.std.specs.Str.Parse.{digits_value_after}
 use Rattle.std.specs.Char.{digit_value}
 use Rattle.std.specs.Cmp.{nat_cmp_is}
@@ -33,13 +34,14 @@ digits_less (x ∷ xs) (y ∷ ys) m all other same less =
     elim (cases_lt x y) [
       | inl below ↦ rw (← (nat_cmp_is x y Less below)) refl
       | inr past ↦ elim (cases_eq x y) [
-          | inl equal ↦
-              rw (← (nat_cmp_is x y Equal equal))
-              (digits_less xs ys (m * 10 + digit_value y) all.1 other.1 (omega (arith, same)) (rw equal at less))
-          | inr apart ↦
-              let more = after_greater ys xs (m * 10 + digit_value y) (m * 10 + digit_value x) other.1 all.1 (omega (arith, same)) (omega (arith, past, one, two, apart))
-              in absurd (omega (arith, more, less))
-        ]
+        | inl equal ↦
+            rw (← (nat_cmp_is x y Equal equal))
+            (digits_less xs ys (m * 10 + digit_value y) all.1 other.1 (omega (arith, same)) (rw equal at less))
+        | inr apart ↦
+            let greater : m * 10 + digit_value y < m * 10 + digit_value x = omega (arith, past, one, two, apart) in
+            let more = after_greater ys xs (m * 10 + digit_value y) (m * 10 + digit_value x) other.1 all.1 (omega (arith, same)) greater
+            in absurd (omega (arith, more, less))
+      ]
     ]
 
 -- texts that begin alike compare by what follows

@@ -1,6 +1,6 @@
 -- What a walk over all rows leaves.
-use Rattle.std.proofs.Common.{◌≡◌, ◌+◌, ◌-◌, ◌∷◌}
-use Rattle.text_core.proofs.Kit.{ℕ, true, false, List, [], Option, None, filter, refl, sym, ap, ◌∙◌, arith, cond, is_some, both_ways, text_itself}
+use Rattle.std.proofs.Common.{◌≡◌, ◌+◌, ◌∷◌}
+use Rattle.text_core.proofs.Kit.{ℕ, true, false, List, [], None, filter, refl, ap, ◌∙◌, arith, cond, is_some, both_ways}
 use Rattle.office_tables.specs.declared.rows.OfCustomer.{OfCustomer}
 use Rattle.office_tables.specs.declared.rows.Device.{Device}
 use Rattle.office_tables.specs.Prelude.{is_of, Visits}

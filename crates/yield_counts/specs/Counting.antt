@@ -1,7 +1,9 @@
 -- The numbers of devices that are kept, and when they are right.
-use Rattle.std.specs.Prelude.{◌≡◌, ◌==◌, ◌&&◌, ℕ, List, Option, Some, None, replicate, length, bytes_eq, option_map, unwrap_or, slice_index, if◌then◌else◌}
+use Rattle.std.specs.Prelude.{◌≡◌, ◌==◌, ◌&&◌, ℕ, List, Option, Some, None, replicate, length, bytes_eq, option_map, unwrap_or, slice_index}
+use Rattle.std.specs.Prelude.{slice_set, if◌then◌else◌}
 use Rattle.std.specs.BTreeMap.{get}
-use Rattle.office_tables.specs.Prelude.{rows_of, state_row, text_cmp}
+use Rattle.office_tables.specs.Prelude.{one_more, rows_of, state_row, text_cmp}
+use Rattle.office_tables.specs.declared.rows.DeviceState.{DeviceState}
 use Rattle.office_tables.specs.declared.rows.OfCustomer.{OfCustomer}
 use Rattle.office_tables.specs.declared.rows.Device.{Device}
 use Rattle.yield_counts.specs.Counts.{count_in, devices_of, state_names}
@@ -19,6 +21,12 @@ columns_at order c = unwrap_or (get text_cmp c.orders order) no_devices
 -- the number that is kept of an order and a column
 abbrev pub count_at : List ℕ → ℕ → OrderColumns → ℕ
 count_at order column c = slice_index (columns_at order c) column
+
+-- the numbers with one device more in a state, if the tables have room for its number
+abbrev pub with_one : DeviceState → List ℕ → Option (List ℕ)
+with_one state numbers =
+    let column = (state_row state).column in
+    option_map (slice_set numbers column) (one_more (slice_index numbers column))
 
 -- what a device counts for an order and a column
 abbrev pub in_column : List ℕ → ℕ → Device → ℕ

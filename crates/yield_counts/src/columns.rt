@@ -1,9 +1,9 @@
 // A customer's devices, counted by order and column of states.
 ghost use Rattle.std.specs.Prelude.{◌≡◌, ◌+◌, ◌-◌, ℕ, List, OnOk, bytes_eq, if◌then◌else◌, slice_set};
-ghost use Rattle.yield_counts.specs.Counting.{columns_at, count_at, in_column, taken_in_column};
+ghost use Rattle.yield_counts.specs.Counting.{columns_at, count_at, in_column, taken_in_column, with_one};
 
 use crate::count::{COLUMNS, Columns};
-use office_tables::{Device, Unkept, one_more};
+use office_tables::{Device, DeviceState, Unkept, one_more};
 use std::alloc::Global;
 use std::collections::BTreeMap;
 use text_core::Name;
@@ -13,6 +13,16 @@ use text_core::Name;
 #[derive(Drop)]
 pub(crate) struct OrderColumns {
     orders: BTreeMap<Name, Columns>,
+}
+
+/// The numbers with one device more in a state. `None` where the tables have no room for its number.
+fn with_one(numbers: &Columns, state: DeviceState) -> Option<Columns>
+    ensures { result ≡ with_one state numbers.now }
+{
+    let column = state.row().column;
+    let mut counted = *numbers;
+    counted[column] = one_more(numbers[column])?;
+    Some(counted)
 }
 
 impl OrderColumns {
@@ -46,12 +56,9 @@ impl OrderColumns {
         ensures { OnOk result ((order : List ℕ) (column : ℕ) → count_at order column self.new
             ≡ count_at order column self.old + in_column order column device.now) }
     {
-        let mut numbers = self.of_order(&device.order);
-        let column = device.state.row().column;
-        let Some(more) = one_more(numbers[column]) else {
+        let Some(numbers) = with_one(&self.of_order(&device.order), device.state) else {
             return Err(Unkept::without_error());
         };
-        numbers[column] = more;
         self.set(&device.order, numbers)
     }
 

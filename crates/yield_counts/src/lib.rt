@@ -1,4 +1,12 @@
-//! Draft.
+//! What is counted of orders: how many of an order's devices are in each column of states, and how many of
+//! its serial numbers aren't given.
+//!
+//! `Counted` is a keeper over another one. Its call `count_order` answers what a walk over the tables as they
+//! stand would give (`AreCountsOf`), whatever was committed since, refused or failed. What was counted once
+//! it keeps in memory, about 200 bytes an order, and follows each commit: nothing of it is in the store. Where
+//! there is no memory to follow one, the customer, or the issuer's ranges, are counted anew.
+//!
+//! No clause says what a walk costs, nor that one is spared: a test counts the walks of requests.
 #![tactic(auto)]
 
 mod columns;
@@ -10,5 +18,5 @@ mod serials;
 mod walks;
 mod written;
 
-pub use counted::Counted;
 pub use count::{COLUMNS, Columns, Count, OrderCounts};
+pub use counted::Counted;

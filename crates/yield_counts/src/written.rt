@@ -92,11 +92,7 @@ pub(crate) fn change_of<'a>(
 }
 
 /// Counts what the writes made of the devices.
-pub(crate) fn follow_devices(
-    counts: &mut DeviceCounts,
-    put: PutDevices<'_>,
-    old: Option<DeviceRow>,
-)
+pub(crate) fn follow_devices(counts: &mut DeviceCounts, put: PutDevices<'_>, old: Option<DeviceRow>)
     ensures { (writes : List Write) (t after : Tables) → IsAscending device_cmp t.devices
         → IsChangeOf writes t.devices put.entry old → Written writes t after
         → AreCounted t.devices counts.old → AreCounted after.devices counts.new }

@@ -7,7 +7,8 @@ use Rattle.csv.specs.Writing.{default_writer, row_text}
 use Rattle.office_tables.specs.declared.rows.Device.{Device}
 use Rattle.office_tables.specs.declared.rows.Order.{Order}
 use Rattle.office_tables.specs.Prelude.{Tables, rows_of}
-use Rattle.yield_report.specs.Prelude.{has_issued_in, line_fields, lines_text, order_header, report_text, whole_line, yield_of, head_of, line_of, AreStorable, AreWhole, HasIssued}
+use Rattle.yield_report.specs.Prelude.{has_issued_in, line_fields, lines_text, order_header, report_text, whole_line, yield_of, head_of, line_of}
+use Rattle.yield_report.specs.Prelude.{AreStorable, AreWhole, HasIssued}
 use Rattle.yield_report.specs.Prelude.{IsOrderReport}
 use Rattle.yield_report.specs.declared.lines.OrderHead.{OrderHead}
 use Rattle.yield_report.specs.declared.lines.OrderLine.{OrderLine}
@@ -58,7 +59,7 @@ lines_more given devices heads i h before line within here was answer =
     let more : take (i + 1) heads ≡ take i heads ++ h ∷ [] =
     take_more heads i h within ∙ ap (λ (x : OrderHead). take i heads ++ x ∷ []) (sym here) in (
       ap (λ ls. ls ++ line ∷ []) was.0 ∙ ap (λ (l : OrderLine). map (line_of given devices) (take i heads) ++ l ∷ []) answer.0
-      ∙ sym (map_push (line_of given devices) (take i heads) h) ∙ ap (map (line_of given devices)) (sym more),
+          ∙ sym (map_push (line_of given devices) (take i heads) h) ∙ ap (map (line_of given devices)) (sym more),
       All-push (λ (l : OrderLine). AreStorable l.numbers) before line was.1 answer.1,
     )
 
@@ -67,7 +68,8 @@ pub all_lines : (customer : List ℕ) (t : Tables) (heads : List OrderHead) (lin
     → AreLinesOf (has_issued_in t) (rows_of customer t.devices) heads lines → AreWhole customer t lines
 all_lines customer t heads lines is are =
     let given = has_issued_in t in
-    let devices = rows_of customer t.devices in (
-      are.0 ∙ (ap (map (line_of given devices)) is ∙ map_both (line_of given devices) head_of (whole_line given devices) (λ o. refl) (rows_of customer t.orders)),
+    let devices = rows_of customer t.devices in
+    let each = map_both (line_of given devices) head_of (whole_line given devices) (λ o. refl) (rows_of customer t.orders) in (
+      are.0 ∙ (ap (map (line_of given devices)) is ∙ each),
       are.1,
     )

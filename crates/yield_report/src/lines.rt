@@ -1,14 +1,14 @@
 // The lines of a report, one for each order.
-ghost use Rattle.std.specs.Prelude.{◌≡◌, map};
+ghost use Rattle.std.specs.Prelude.{◌≡◌, ◌↔◌, map, IfSome, IsSome};
 ghost use Rattle.office_tables.specs.Prelude.{rows_of, ReadsOnly};
-ghost use Rattle.yield_report.specs.Prelude.{has_issued_in, head_of, line_of, AreStorable, AreWhole, GathersOrder};
+ghost use Rattle.yield_report.specs.Prelude.{has_issued_in, head_of, line_of, line_with, AreStorable, AreWhole, GathersOrder};
 
 use crate::yields::{Yield, are_storable};
 use id_ranges::SerialRange;
 use office_tables::{Keep, Order, OrderRow, Sink, Unkept};
 use std::alloc::Global;
 use text_core::Name;
-use yield_counts::Count;
+use yield_counts::{Count, OrderCounts};
 
 /// An order with its numbers.
 #[derive(Clone, Copy, Drop)]
@@ -76,17 +76,11 @@ fn orders_of<K: Keep>(
     }
 }
 
-/// The line of a customer's order. `Err` also where the tables have no room for a number.
-fn order_line<K: Count>(
-    keep: &mut K,
-    customer: &Name,
-    order: &OrderHead,
-) -> Result<OrderLine, Unkept>
-    ensures { ReadsOnly K.Keep keep.old keep.new result (λ t line.
-        (line ≡ line_of (has_issued_in t) (rows_of customer.now t.devices) order.now)
-        × AreStorable line.numbers) }
+/// The line of an order, by what is counted of it. `None` where the tables have no room for a number.
+fn line_with(order: &OrderHead, counts: &OrderCounts) -> Option<OrderLine>
+    ensures line { IfSome result (λ line. line ≡ line_with order.now counts.now) }
+    ensures fits { IsSome result ↔ AreStorable (line_with order.now counts.now).numbers }
 {
-    let counts = keep.count_order(customer, &order.name, &order.issuer, &order.range)?;
     let in_column = counts.devices;
     let numbers = [
         order.range.quantity(),
@@ -100,12 +94,29 @@ fn order_line<K: Count>(
         counts.left,
     ];
     if !are_storable(&numbers) {
-        return Err(Unkept::without_error());
+        return None;
     }
-    Ok(OrderLine {
+    Some(OrderLine {
         name: order.name,
         numbers,
     })
+}
+
+/// The line of a customer's order. `Err` also where the tables have no room for a number.
+fn order_line<K: Count>(
+    keep: &mut K,
+    customer: &Name,
+    order: &OrderHead,
+) -> Result<OrderLine, Unkept>
+    ensures { ReadsOnly K.Keep keep.old keep.new result (λ t line.
+        (line ≡ line_of (has_issued_in t) (rows_of customer.now t.devices) order.now)
+        × AreStorable line.numbers) }
+{
+    let counts = keep.count_order(customer, &order.name, &order.issuer, &order.range)?;
+    match line_with(order, &counts) {
+        Some(line) => Ok(line),
+        None => Err(Unkept::without_error()),
+    }
 }
 
 /// A line for each of a customer's orders, in the order of their names, with all its numbers.

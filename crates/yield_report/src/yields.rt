@@ -1,5 +1,5 @@
 // The numbers of a line of a report.
-ghost use Rattle.std.specs.Prelude.{◌≡◌, true};
+ghost use Rattle.std.specs.Prelude.{◌≡◌, ◌↔◌, true};
 ghost use Rattle.yield_report.specs.Prelude.{AreStorable};
 
 use office_tables::LARGEST_NUMBER;
@@ -37,7 +37,7 @@ pub(crate) const NAMES: [&str; NUMBERS] = [
 
 /// Whether the tables have room for all numbers of a line.
 pub(crate) fn are_storable(numbers: &Yield) -> bool
-    ensures { result ≡ true → AreStorable numbers.now }
+    ensures { (result ≡ true) ↔ AreStorable numbers.now }
 {
     for number in numbers {
         if *number > LARGEST_NUMBER {

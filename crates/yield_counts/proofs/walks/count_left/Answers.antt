@@ -1,10 +1,7 @@
-use Rattle.std.proofs.Common.{◌≡◌, ◌-◌, ◌∙◌, List, ℕ, ap, arith, cond, is_some, refl, rules, sym, subst, map, filter}
+use Rattle.std.proofs.Common.{◌≡◌, ◌∙◌, ap, arith, cond, is_some, refl, rules}
 use Rattle.id_ranges.specs.Prelude.{serial_text}
-use Rattle.office_tables.specs.Prelude.{given_at, is_given_behind, Tables, Visits}
-use Rattle.office_tables.specs.declared.rows.OfCustomer.{OfCustomer}
-use Rattle.office_tables.specs.declared.rows.Given.{Given}
+use Rattle.office_tables.specs.Prelude.{given_at}
 use Rattle.office_tables.proofs.Reading.{reads_more}
-use Rattle.yield_counts.specs.Walks.{TakesSerial}
 use Rattle.yield_counts.proofs.Between.{bit_is, left_walked}
 use Rattle.yield_counts.proofs.walks.count_left.Goals as goal
 
@@ -25,6 +22,7 @@ returns g c = record {
       bit_is c.is_some-is_given.result c.from.result c.from.ensures ∙ ap (λ b. cond b 1 0)
       (c.is_some-is_given.ensures ∙ ap is_some (found ∙ ap (λ s. given_at issuer s t) (c.as_str.ensures.same ∙ first))) in
       let visits = rw (same, first) at (c.in_ok-visit_serials_behind.ensures.answer is) in
-      left_walked r c.first.ensures.range issuer t ascending.given _ c.visit_serials_behind.new.sink refl
-      (c.text.ensures ∙ ap (serial_text r) (omega (arith, c.first-2.ensures.same, c.quantity.ensures.same))) (omega (arith, c.quantity-2.ensures.same, one)) visits;
+      let last = c.text.ensures ∙ ap (serial_text r) (omega (arith, c.first-2.ensures.same, c.quantity.ensures.same)) in
+      left_walked r c.first.ensures.range issuer t ascending.given _ c.visit_serials_behind.new.sink refl last
+      (omega (arith, c.quantity-2.ensures.same, one)) visits;
 }

@@ -1,5 +1,4 @@
-use Rattle.std.proofs.Common.{◌≡◌, ◌∙◌, ap, subst, sym}
-use Rattle.office_tables.specs.Prelude.{device_cmp, with_row}
+use Rattle.std.proofs.Common.{◌∙◌, ap, subst, sym}
 use Rattle.yield_counts.specs.Counting.{AreCounted}
 use Rattle.yield_counts.proofs.Following.{by_writes, put_each}
 use Rattle.yield_counts.proofs.written.follow_devices.Goals as goal

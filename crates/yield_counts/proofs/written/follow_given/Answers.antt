@@ -1,7 +1,6 @@
-use Rattle.std.proofs.Common.{◌≡◌, ◌∙◌, ◌+◌, ◌<◌, ◌++◌, ◌∷◌, [], List, ap, arith, get_or, length, sym, subst, take, take_all}
+use Rattle.std.proofs.Common.{◌≡◌, ◌∙◌, ◌+◌, ◌++◌, ◌∷◌, [], ap, sym, subst, take, take_all}
 use Rattle.std.proofs.lemmas.List.{take_more}
-use Rattle.office_tables.specs.Prelude.{IsFree, Tables, Writes, Written}
-use Rattle.office_tables.specs.declared.rows.Write.{Write}
+use Rattle.office_tables.specs.Prelude.{IsFree, Tables, Written}
 use Rattle.office_tables.proofs.Writing.{Written_last}
 use Rattle.yield_counts.specs.Counts.{has_issued_in}
 use Rattle.yield_counts.specs.Left.{AreLeft}

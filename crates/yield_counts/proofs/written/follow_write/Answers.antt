@@ -1,5 +1,4 @@
-use Rattle.std.proofs.Common.{◌≡◌, subst, sym}
-use Rattle.office_tables.specs.Prelude.{IsFree, Writes}
+use Rattle.std.proofs.Common.{subst, sym}
 use Rattle.yield_counts.specs.Counts.{has_issued_in, HasIssued}
 use Rattle.yield_counts.specs.Left.{AreLeft}
 use Rattle.yield_counts.proofs.Following.{issued_more, issued_stays}

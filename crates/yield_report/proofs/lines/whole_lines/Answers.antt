@@ -1,4 +1,4 @@
-use Rattle.std.proofs.Common.{◌≡◌, ◌∙◌, arith, rules, subst, sym, take, take_all}
+use Rattle.std.proofs.Common.{◌≡◌, ◌∙◌, arith, subst, sym, take, take_all}
 use Rattle.office_tables.proofs.Reading.{reads_more}
 use Rattle.office_tables.specs.Prelude.{rows_of}
 use Rattle.yield_report.specs.Prelude.{has_issued_in}

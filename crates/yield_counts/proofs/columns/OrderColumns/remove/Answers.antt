@@ -1,7 +1,5 @@
-use Rattle.std.proofs.Common.{◌≡◌, ◌-◌, ◌∙◌, ap, refl, rules, sym, length}
+use Rattle.std.proofs.Common.{◌≡◌, ◌∙◌, ap, refl, rules, sym, length}
 use Rattle.std.proofs.lemmas.Result.{on_ok_weaker}
-use Rattle.office_tables.specs.Prelude.{state_row}
-use Rattle.yield_counts.specs.Prelude.{columns_at, count_at}
 use Rattle.yield_counts.proofs.Columned.{one_less}
 use Rattle.yield_counts.proofs.columns.OrderColumns.remove.Goals as goal
 

@@ -9,7 +9,7 @@ invariant_of-self g c = λ is.
     let can = rw (← c.self.view_is) at c.requires in
     record {
       devices = c.follow_devices.ensures c.args.writes.now t (g.K.Keep.tables c.commit.new.self) (c.fact_ascending.ensures was).devices
-      (c.change_of-old.ensures t.devices right.device) written right.devices;
+          (c.change_of-old.ensures t.devices right.device) written right.devices;
       left = c.follow_given.ensures t (g.K.Keep.tables c.commit.new.self) (can was) written right.left;
       device = tt;
     }

@@ -1,4 +1,4 @@
-use Rattle.std.proofs.Common.{◌≡◌, ◌∙◌, None, Some, refl, sym}
+use Rattle.std.proofs.Common.{◌≡◌, ◌∙◌, None, Some, sym}
 use Rattle.std.specs.BTreeMap.{get}
 use Rattle.office_tables.specs.Prelude.{device_cmp, text_cmp, with_row}
 use Rattle.yield_counts.proofs.Columned.{counted_put, others_stay, own_follow}

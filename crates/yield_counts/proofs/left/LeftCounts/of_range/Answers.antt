@@ -1,4 +1,4 @@
-use Rattle.std.proofs.Common.{◌≡◌, ◌∙◌, Some, sym, subst}
+use Rattle.std.proofs.Common.{sym, subst}
 use Rattle.yield_counts.specs.Left.{AreLeftOf}
 use Rattle.yield_counts.proofs.left.LeftCounts.of_range.Goals as goal
 

@@ -1,4 +1,4 @@
-use Rattle.std.proofs.Common.{◌≡◌, ◌∙◌, ℕ, List, Global, None, Some, Vec, sym, subst}
+use Rattle.std.proofs.Common.{◌∙◌, ℕ, List, Global, None, Vec, sym}
 use Rattle.yield_counts.specs.Left.{AreLeftOf}
 use Rattle.yield_counts.specs.declared.left.RangeLeft.{RangeLeft}
 use Rattle.yield_counts.proofs.Kept.{fit_put}
