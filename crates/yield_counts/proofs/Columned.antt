@@ -108,7 +108,7 @@ module _ (d : Device) (p n : OrderColumns) (numbers : List ℕ) (seven : length 
 abbrev pub counts_for : List ℕ → List ℕ → ℕ → OfCustomer Device → ℕ
 counts_for customer order column d = cond (is_of customer d) (in_column order column d.row) 0
 
-filtered : (of at here : Bool) (d : Device) (order : List ℕ) (column : ℕ) (later : List Device) → bytes_eq order d.order ≡ at
+pub filtered : (of at here : Bool) (d : Device) (order : List ℕ) (column : ℕ) (later : List Device) → bytes_eq order d.order ≡ at
     → ((state_row d.state).column == column) ≡ here → count_in (devices_of order (cond of (d ∷ later) later)) column
     ≡ cond of (cond (at && here) 1 0) 0 + count_in (devices_of order later) column
 filtered true true true d order column later a h = rw (a, h) (omega arith)

@@ -9,3 +9,4 @@ pub mod Texts
 pub mod Walked
 pub mod Between
 pub mod Following
+pub mod Placed

@@ -1,5 +1,5 @@
 -- What is counted of an order: its devices by the columns of their states, and its serial numbers that aren't given.
-use Rattle.std.specs.Prelude.{◌≡◌, ℕ, ◌==◌, Bool, List, [], ◌∷◌, codes, length, filter, map, bytes_eq, is_some}
+use Rattle.std.specs.Prelude.{◌≡◌, ℕ, ◌==◌, Bool, List, [], ◌∷◌, codes, length, filter, map, sum, take, bytes_eq, is_some}
 use Rattle.std.specs.List.{range_with_len}
 use Rattle.id_ranges.specs.Prelude.{Range, TextSet, numbers, is_unused}
 use Rattle.office_tables.specs.declared.rows.Order.{Order}
@@ -31,6 +31,10 @@ state_names =
 -- their places among each other
 abbrev pub columns : List ℕ
 columns = range_with_len 0 (length state_names)
+
+-- how many devices of these columns take a place of their order: those in all but the last two, of the quarantined and of the scrapped ones
+abbrev pub places_in : List ℕ → ℕ
+places_in numbers = sum (take 5 numbers)
 
 -- how many numbers of a range have a serial number that isn't given
 abbrev pub count_unused : TextSet → Range → ℕ

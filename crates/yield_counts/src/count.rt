@@ -1,6 +1,7 @@
 // What is counted of an order, and who knows it.
+ghost use Rattle.std.specs.Prelude.{◌≡◌, IfSome};
 ghost use Rattle.office_tables.specs.Prelude.{LooksUp};
-ghost use Rattle.yield_counts.specs.Counts.{AreCountsOf};
+ghost use Rattle.yield_counts.specs.Counts.{places_in, AreCountsOf};
 
 use id_ranges::SerialRange;
 use office_tables::{Keep, Unkept};
@@ -11,6 +12,21 @@ pub const COLUMNS: usize = 7;
 
 /// How many devices are in each column of states.
 pub type Columns = [u64; COLUMNS];
+
+/// How many columns have devices that take a place of their order: all but the last two, of the
+/// quarantined and of the scrapped ones.
+const PLACED_COLUMNS: usize = 5;
+
+/// How many devices of these columns take a place of their order, if 64 bits count them.
+pub(crate) fn places_in(numbers: &Columns) -> Option<u64>
+    ensures { IfSome result (λ places. places ≡ places_in numbers.now) }
+{
+    let mut places: u64 = 0;
+    for number in &numbers[..PLACED_COLUMNS] {
+        places = places.checked_add(*number)?;
+    }
+    Some(places)
+}
 
 /// What is counted of an order.
 #[derive(Clone, Copy, Drop)]

@@ -4,7 +4,7 @@ ghost use Rattle.office_tables.specs.Prelude.{ReadsOnly};
 ghost use Rattle.yield_counts.specs.Counting.{count_of};
 ghost use Rattle.yield_counts.specs.Counts.{count_unused, has_issued_in};
 
-use crate::count::{Columns, Count, OrderCounts};
+use crate::count::{Columns, Count, OrderCounts, places_in};
 use crate::devices::DeviceCounts;
 use crate::left::LeftCounts;
 use crate::walks::{count_devices, count_left};
@@ -186,7 +186,13 @@ impl<K: Keep> Keep for Counted<K> {
     }
 
     fn places_taken(&mut self, customer: &Name, order: &Name) -> Result<u64, Unkept> {
-        self.keep.places_taken(customer, order)
+        // A store that is shut tells nothing.
+        self.keep.map(0)?;
+        let numbers = self.columns(customer, order)?;
+        let Some(places) = places_in(&numbers) else {
+            return Err(Unkept::without_error());
+        };
+        Ok(places)
     }
 
     fn given(&mut self, issuer: &Name, serial: &str) -> Result<Option<GivenRow>, Unkept> {
