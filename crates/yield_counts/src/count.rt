@@ -1,5 +1,5 @@
 // What is counted of an order, and who knows it.
-ghost use Rattle.std.specs.Prelude.{◌≡◌, IfSome};
+ghost use Rattle.std.specs.Prelude.{◌≡◌, ◌≤◌, ◌^◌, IfNone, IfSome};
 ghost use Rattle.office_tables.specs.Prelude.{LooksUp};
 ghost use Rattle.yield_counts.specs.Counts.{places_in, AreCountsOf};
 
@@ -19,7 +19,8 @@ const PLACED_COLUMNS: usize = 5;
 
 /// How many devices of these columns take a place of their order, if 64 bits count them.
 pub(crate) fn places_in(numbers: &Columns) -> Option<u64>
-    ensures { IfSome result (λ places. places ≡ places_in numbers.now) }
+    ensures places { IfSome result (λ places. places ≡ places_in numbers.now) }
+    ensures fits { IfNone result (2 ^ 64 ≤ places_in numbers.now) }
 {
     let mut places: u64 = 0;
     for number in &numbers[..PLACED_COLUMNS] {

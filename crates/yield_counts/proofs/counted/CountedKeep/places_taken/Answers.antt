@@ -14,5 +14,5 @@ returns g c =
           let was = c.columns.ensures.read_only.was_open is in
           let each = rw (first.same was) at (c.in_ok-numbers.ensures.answer is) in
           let rows = rows_of c.args.customer.now (g.K.Keep.tables c.args.self.now).devices in
-          c.in-Some.ensures ∙ places_counted c.args.order.now rows _ each;
+          c.in-Some.ensures.places ∙ places_counted c.args.order.now rows _ each;
     }
