@@ -8,8 +8,8 @@ use Rattle.memory_keeper.specs.Prelude.{has_mac, serial_of, AreIndexed, without}
 use Rattle.text_core.specs.Prelude.{is_serial, serial_of_text}
 use Rattle.office_tables.specs.declared.rows.OfCustomer.{OfCustomer}
 use Rattle.office_tables.specs.declared.rows.Given.{Given}
-use Rattle.office_tables.specs.Prelude.{given_cmp, has_address, is_address, is_bound, is_given_behind, is_serial_of, is_of_issuer, with_row, text_cmp, text_pair_cmp}
-use Rattle.office_tables.specs.Prelude.{IsAddressFree}
+use Rattle.office_tables.specs.Prelude.{given_cmp, has_address, is_address, is_bound, is_given_behind, is_serial_of, is_of_issuer, with_row, text_cmp}
+use Rattle.office_tables.specs.Prelude.{text_pair_cmp, IsAddressFree}
 use Rattle.office_tables.proofs.Placing.{all_placed}
 use Rattle.memory_keeper.specs.declared.given.GivenIndex.{GivenIndex}
 use Rattle.memory_keeper.proofs.Alone.{find-placed, find-without, found_also, still_alone, alone_without}

@@ -6,7 +6,8 @@ use Rattle.sqlite.specs.Store.{Ghosts}
 use Rattle.office_tables.specs.Prelude.{Tables, LooksUp}
 use Rattle.office_sql.specs.Prelude.{SqlReads, Rests, IsReady, IsOffice, tables_in}
 use Rattle.office_sql.proofs.Resting.{same_now}
-use Rattle.office_store.specs.Prelude.{fuse_map_at, Kept, RemembersRight, tables_of, is_open_at, is_honest_at, may_leave_at, tells_text_at, commits_at, LooksUpBySql}
+use Rattle.office_store.specs.Prelude.{fuse_map_at, Kept, RemembersRight, tables_of, is_open_at, is_honest_at, may_leave_at, tells_text_at, commits_at}
+use Rattle.office_store.specs.Prelude.{LooksUpBySql}
 use Rattle.fusemap_core.specs.Numbers.{AreMapsOfNumbers}
 use Rattle.fusemap_core.specs.declared.numbered.NumberCache.{NumberCache}
 

@@ -6,6 +6,9 @@
 //! it keeps in memory, about 200 bytes an order, and follows each commit: nothing of it is in the store. Where
 //! there is no memory to follow one, the customer, or the issuer's ranges, are counted anew.
 //!
+//! How many places of an order are taken (`places_taken`) is the sum of its columns but the last two, of the
+//! quarantined and of the scrapped devices.
+//!
 //! No clause says what a walk costs, nor that one is spared: a test counts the walks of requests.
 #![tactic(auto)]
 
