@@ -17,29 +17,39 @@ const VISITS: &[(&str, &str, u64, u64)] = &[
         2,
         2,
     ),
-    ("devices are found by their chips", BY_KEYS, 2, 9),
-    ("a ledger is walked over", LEDGER, 3, 9),
-    ("a page of devices is one walk", PAGE, 5, 9),
-    ("what isn't accepted commits nothing", REFUSED, 5, 9),
+    (
+        "a customer's devices are counted once, and found by their chips",
+        BY_KEYS,
+        3,
+        9,
+    ),
+    ("a ledger is walked over", LEDGER, 4, 9),
+    ("a page of devices is one walk", PAGE, 6, 9),
+    ("what isn't accepted commits nothing", REFUSED, 6, 9),
     (
         "an order with addresses walks over orders once",
         WITH_ADDRESSES,
-        6,
+        7,
         10,
     ),
     (
         "an order is shown behind imported numbers after one walk over them",
         IMPORTED,
-        7,
+        8,
         11,
     ),
     (
-        "a first report counts devices once, and the serial numbers of each order",
+        "a first report walks over orders, and over the serial numbers of each",
         FIRST_REPORT,
         11,
         11,
     ),
-    ("a later report walks over orders alone", LATER_REPORT, 12, 12),
+    (
+        "a later report walks over orders alone",
+        LATER_REPORT,
+        12,
+        12,
+    ),
 ];
 
 /// An order, which is compared with the customer's other orders, and a map, which is counted among
