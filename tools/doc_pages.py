@@ -8,8 +8,6 @@ here. FOLDER/html has the same as a site, by Debian's mkdocs and debian/theme: i
 needs a server, and a page of all headings in its place. README.md is debian's. Python 3.11.
 """
 
-from __future__ import annotations
-
 import os
 import re
 import shutil

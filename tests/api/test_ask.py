@@ -18,7 +18,7 @@ from pathlib import Path
 import pytest
 
 from common.chip import CHIP, body_of, replay_words, requests, served, steps
-from common.ports import HOST
+from common.ports import HOST, accepted, whole_request
 from common.served import Caller, Server, station
 
 # Its statuses, by docs/reference/program.md.
@@ -236,11 +236,7 @@ class Copies:
         threading.Thread(target=self.serve, daemon=True).start()
 
     def serve(self):
-        while True:
-            try:
-                client = self.listener.accept()[0]
-            except OSError:
-                return
+        for client in accepted(self.listener):
             with client, socket.create_connection((HOST, self.port)) as server:
                 asked = whole_request(client)
                 self.asked.append(asked)
@@ -253,15 +249,6 @@ class Copies:
         with socket.create_connection((HOST, self.port)) as server:
             server.sendall(asked)
             return b"".join(iter(lambda: server.recv(65536), b""))
-
-
-def whole_request(client):
-    data = b""
-    while True:
-        head, end, body = data.partition(b"\r\n\r\n")
-        if end and len(body) >= int(head.lower().partition(b"content-length: ")[2].split(b"\r\n")[0]):
-            return data
-        data += client.recv(65536)
 
 
 def test_late_copy(plant):

@@ -70,20 +70,16 @@ def _cut(folder: Path) -> None:
     file.write_bytes(b"".join(file.read_bytes().splitlines(True)[:-10]))
 
 
-def _change_line(folder: Path) -> None:
-    """Has a request of a journal ask for another order."""
-    file = folder / "acme/a2.journal"
-    lines = file.read_text(encoding="ascii").splitlines(True)
-    place = next(place for place, line in enumerate(lines) if '"path":"/v1/device"' in line)
-    lines[place] = lines[place].replace('"gate-41"', '"gate-40"')
-    file.write_text("".join(lines), encoding="ascii")
+def _replaced(name: str, mark: str, old: str, new: str, most: int | None = 1) -> Callable[[Path], None]:
+    """Changes the first line of a journal that has a mark, or so many, and no digest."""
 
+    def change(folder: Path) -> None:
+        lines = (folder / name).read_text(encoding="ascii").splitlines(True)
+        for place in [place for place, line in enumerate(lines) if mark in line][:most]:
+            lines[place] = lines[place].replace(old, new)
+        (folder / name).write_text("".join(lines), encoding="ascii")
 
-def _change_reply(folder: Path) -> None:
-    """Has a reply of a journal tell another serial number."""
-    file = folder / "acme/a1.journal"
-    text = file.read_text(encoding="ascii")
-    file.write_text(text.replace('"serial":"G00002"', '"serial":"G00008"'), encoding="ascii")
+    return change
 
 
 def _take_away(folder: Path) -> None:
@@ -100,15 +96,6 @@ def _nameless(folder: Path) -> None:
     lines = []
     for line in map(json.loads, file.read_text(encoding="ascii").splitlines()):
         lines.append(json.dumps({name: it for name, it in line.items() if name not in ("seat", "operator")}) + "\n")
-    file.write_text("".join(lines), encoding="ascii")
-
-
-def _set_back(folder: Path) -> None:
-    """Moves a request and its reply to the day before: no digest is over the times."""
-    file = folder / "bolt/b1.journal"
-    lines = file.read_text(encoding="ascii").splitlines(True)
-    place = next(place for place, line in enumerate(lines) if '"outcome":"key"' in line)
-    lines[place] = lines[place].replace('"at":"2026-11-27', '"at":"2026-11-26')
     file.write_text("".join(lines), encoding="ascii")
 
 
@@ -249,10 +236,20 @@ FORGED = [
         "a journal without a line", journal=_take_away, audit=("numbers", "the number 9 has no line", "no_line", ONE)
     ),
     Forged(
-        "a changed line", journal=_change_line, audit=("journal", "was changed: its digest isn't that of what it asks")
+        "a changed line",
+        journal=_replaced("acme/a2.journal", '"path":"/v1/device"', '"gate-41"', '"gate-40"'),
+        audit=("journal", "was changed: its digest isn't that of what it asks"),
     ),
-    Forged("a changed time", journal=_set_back, audit=("journal", "seconds before the line in front of it")),
-    Forged("a changed reply", journal=_change_reply, audit=("other_note", "G00002", "G00008")),
+    Forged(  # to the day before: no digest is over the times
+        "a changed time",
+        journal=_replaced("bolt/b1.journal", '"outcome":"key"', '"at":"2026-11-27', '"at":"2026-11-26'),
+        audit=("journal", "seconds before the line in front of it"),
+    ),
+    Forged(
+        "a changed reply",
+        journal=_replaced("acme/a1.journal", '"serial":"G00002"', '"serial":"G00002"', '"serial":"G00008"', None),
+        audit=("other_note", "G00002", "G00008"),
+    ),
 ]
 
 

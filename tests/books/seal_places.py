@@ -2,16 +2,15 @@
 `openssl ts -reply`."""
 
 import contextlib
-import http.server
 import os
 import subprocess
 import tempfile
-import threading
 import time
 from pathlib import Path
 
 from books.seal_plant import END, START
 from common.commands import command
+from common.ports import Answering, answered
 
 PERIOD = ["--from", START, "--to", END]
 SECONDS = 600
@@ -49,7 +48,7 @@ def make_keys(folder):
     (folder / "tsa.conf").write_text(CONFIG.format(folder=folder))
 
 
-class Service(http.server.BaseHTTPRequestHandler):
+class Service(Answering):
     """Answers a query with a stamp; or with a page, or with the stamp before."""
 
     def do_POST(self):
@@ -59,27 +58,15 @@ class Service(http.server.BaseHTTPRequestHandler):
             words = "openssl ts -reply -config tsa.conf -section own -queryfile query -out reply"
             subprocess.run(words.split(), cwd=folder, check=True, capture_output=True)
         body = b"<html>" if self.server.fault == "page" else (folder / "reply").read_bytes()
-        self.send_response(200)
-        self.send_header("Content-Type", "application/timestamp-reply")
-        self.send_header("Content-Length", str(len(body)))
-        self.end_headers()
-        self.wfile.write(body)
-
-    def log_message(self, *_):
-        pass
+        self.answer(200, "application/timestamp-reply", body)
 
 
 @contextlib.contextmanager
 def stamp_service(folder: Path):
     """The service, over a folder with its keys."""
-    server = http.server.HTTPServer(("127.0.0.1", 0), Service)
-    server.folder, server.fault, server.url = folder, "", f"http://127.0.0.1:{server.server_address[1]}/"
-    threading.Thread(target=server.serve_forever, daemon=True).start()
-    try:
+    with answered(Service) as server:
+        server.folder, server.fault, server.url = folder, "", f"http://127.0.0.1:{server.server_address[1]}/"
         yield server
-    finally:
-        server.shutdown()
-        server.server_close()
 
 
 def environment():

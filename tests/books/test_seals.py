@@ -15,7 +15,7 @@ import pytest
 from books.seal_chains import CHAINS, Maker
 from books.seal_places import expect_said, make_keys, measured, run, stamp_service
 from books.seal_plant import START, TOKENS, chip_of, large, ship
-from common.commands import PROJECT, PYTHON
+from common.commands import PROJECT, killed_before
 from common.deployed import Place
 from common.needs import ROOT
 from common.served import Server, station
@@ -29,24 +29,6 @@ LATE = "2026-11-28T00:00Z"
 # How many chips are sealed through nginx.
 DEPLOYED = 16
 
-# Starts a command where nothing but the calls that the outside sees are counted, and dies before one of them.
-KILLED = """
-import os, runpy, signal, subprocess, sys
-count, last = [0], int(sys.argv[1])
-def counted(call):
-    def wrapped(*words, **named):
-        count[0] += 1
-        if count[0] == last:
-            os.kill(os.getpid(), signal.SIGKILL)
-        return call(*words, **named)
-    return wrapped
-for name in ("fsync", "replace", "unlink", "open"):
-    setattr(os, name, counted(getattr(os, name)))
-subprocess.Popen.__init__ = counted(subprocess.Popen.__init__)
-sys.argv = sys.argv[2:]
-runpy.run_path(sys.argv[0], run_name="__main__")
-"""
-
 
 # ---- the chain
 
@@ -54,7 +36,7 @@ runpy.run_path(sys.argv[0], run_name="__main__")
 def seal_killed(seals, store, call, before):
     """A seal that is killed before one call. The chain behind it, which had so many lines, has whole ones; what was set
     aside is removed. The status, the chain's lines, and how much was set aside."""
-    program = [PYTHON, "-B", "-c", KILLED, str(call), str(PROJECT), "wanekupo"]
+    program = [*killed_before(call, "fsync,replace,unlink,open"), str(PROJECT), "wanekupo"]
     status, _ = run("seal", seals, "--store", store, program=program)
     lines = (seals / "chain").read_text().splitlines() if (seals / "chain").exists() else []
     assert len(lines) in (before, before + 1)

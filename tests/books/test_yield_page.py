@@ -13,14 +13,12 @@ own back.
 import base64
 import contextlib
 import hashlib
-import http.server
 import json
 import os
 import re
 import socket
 import subprocess
 import tempfile
-import threading
 import time
 import urllib.request
 from pathlib import Path
@@ -30,7 +28,7 @@ import pytest
 from browser import Browser
 from common.deployed import certify, replaced
 from common.needs import ROOT
-from common.ports import free_ports
+from common.ports import Answering, answered, free_ports
 from common.served import Server, station
 from wanekupo.books.yields import LOOKS, SENTENCE
 from wanekupo.common.token_file import PREFIX, Outer, TokenSeat, Tokens, mark_of, current_minute, tokens_text
@@ -123,7 +121,7 @@ def devices_behind(after, token):
     return {"devices": page[:500], "next": page[499]["chip"] if len(page) > 500 else None}
 
 
-class Stub(http.server.BaseHTTPRequestHandler):
+class Stub(Answering):
     """A server that answers 503, and to two tokens a report and a list of devices."""
 
     def do_GET(self):
@@ -132,25 +130,8 @@ class Stub(http.server.BaseHTTPRequestHandler):
         body = (HEAD + lines).encode() if lines else b'{"error":"unkept","no":50}'
         if lines and path == "/v1/devices":
             body = json.dumps(devices_behind(query.removeprefix("after="), token)).encode()
-        self.send_response(200 if lines else 503)
-        self.send_header("Content-Type", "text/csv" if lines and path == "/v1/report" else "application/json")
-        self.send_header("Content-Length", str(len(body)))
-        self.end_headers()
-        self.wfile.write(body)
-
-    def log_message(self, *_):
-        pass
-
-
-@contextlib.contextmanager
-def stub(port):
-    server = http.server.HTTPServer(("127.0.0.1", port), Stub)
-    threading.Thread(target=server.serve_forever, daemon=True).start()
-    try:
-        yield
-    finally:
-        server.shutdown()
-        server.server_close()
+        kind = "text/csv" if lines and path == "/v1/report" else "application/json"
+        self.answer(200 if lines else 503, kind, body)
 
 
 def order(port, number):
@@ -383,7 +364,7 @@ def test_a_wrong_token(page, served):
 @pytest.fixture
 def invented(page):
     """What answers with the invented figures, in the program's place."""
-    with stub(page.upstream):
+    with answered(Stub, page.upstream):
         yield
 
 

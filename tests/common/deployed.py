@@ -12,7 +12,7 @@ import time
 from pathlib import Path
 
 from common.needs import ROOT
-from common.ports import HOST, free_ports
+from common.ports import HOST, accepted, free_ports
 from common.program import Failed
 from common.served import Server, station
 
@@ -74,11 +74,7 @@ class Recorder:
         threading.Thread(target=self.accept, daemon=True).start()
 
     def accept(self):
-        while True:
-            try:
-                connection, _ = self.listener.accept()
-            except OSError:
-                return
+        for connection in accepted(self.listener):
             threading.Thread(target=self.hand_over, args=(connection,), daemon=True).start()
 
     def hand_over(self, connection):

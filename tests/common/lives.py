@@ -2,7 +2,7 @@
 
 import hashlib
 
-from common.registrations import MAP, blocks_of, key_of, request
+from common.registrations import MAP, blocks_of, planned, request
 
 DIGEST = hashlib.sha256(MAP.encode()).hexdigest()
 STEPS = 7
@@ -38,16 +38,7 @@ class Seat:
     def life(self, number):
         """The requests of one device: its first read-back shows nothing of what was planned."""
         chip = f"{number:012x}"
-        key = key_of(number)
-        digest = hashlib.sha256(b"".join(word.to_bytes(4, "little") for word in key)).hexdigest()
-        wishes = [
-            {"kind": "key", "field": "BLOCK2", "key_sha256": digest},
-            {"kind": "rlock", "field": "BLOCK2"},
-        ]
-        burnt = blocks_of(number)
-        burnt[2] = [f"{word:08x}" for word in key]
-        locked = blocks_of(number)
-        locked[0][0] = "00020000"
+        wishes, burnt, locked = planned(number)
         return [
             self.ask("/v1/device", chip=chip, order="life", map=DIGEST, blocks=blocks_of(number)),
             self.ask("/v1/plan", chip=chip, wishes=wishes),
@@ -69,10 +60,7 @@ class Seat:
 
     def import_of(self, first):
         """An import of serial numbers of the order, from this one on."""
-        rows = [
-            f"L{n:09},{hashlib.sha256(b'import %d' % n).hexdigest()}\n"
-            for n in range(first, first + ROWS)
-        ]
+        rows = [f"L{n:09},{hashlib.sha256(b'import %d' % n).hexdigest()}\n" for n in range(first, first + ROWS)]
         return self.ask("/v1/import", issuer="acme-ca", csv="serial,key_sha256\n" + "".join(rows))
 
 

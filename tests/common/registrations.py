@@ -57,19 +57,8 @@ def request(path, members):
 def order_request(number):
     """An order for as many devices as each order gets."""
     count = DEVICES // ORDERS
-    return request(
-        "/v1/order",
-        {
-            "nr": number,
-            "name": f"o{number}",
-            "issuer": "acme-ca",
-            "prefix": "A",
-            "width": 9,
-            "first": number * count,
-            "quantity": count,
-            "macs": 0,
-        },
-    )
+    members = {"nr": number, "name": f"o{number}", "issuer": "acme-ca", "prefix": "A", "width": 9}
+    return request("/v1/order", {**members, "first": number * count, "quantity": count, "macs": 0})
 
 
 def blocks_of(number):
@@ -81,23 +70,21 @@ def blocks_of(number):
     return [[f"{word:08x}" for word in block] for block in words]
 
 
-def key_of(number):
-    """The key that a device gets, as the words of its block."""
-    return [number + 2**16] * 8
+def planned(number):
+    """The wishes for a device's key and its read lock, and what the chip shows behind each of the two batches."""
+    key = [number + 2**16] * 8
+    digest = hashlib.sha256(b"".join(word.to_bytes(4, "little") for word in key)).hexdigest()
+    burnt, locked = blocks_of(number), blocks_of(number)
+    burnt[2] = [f"{word:08x}" for word in key]
+    locked[0][0] = "00020000"
+    wishes = [{"kind": "key", "field": "BLOCK2", "key_sha256": digest}, {"kind": "rlock", "field": "BLOCK2"}]
+    return wishes, burnt, locked
 
 
 def device_request(number, digest):
     """The device with this number: the orders take turns."""
-    return request(
-        "/v1/device",
-        {
-            "nr": ORDERS + 1 + number,
-            "chip": f"{number:012x}",
-            "order": f"o{(number - 1) % ORDERS + 1}",
-            "map": digest,
-            "blocks": blocks_of(number),
-        },
-    )
+    names = {"nr": ORDERS + 1 + number, "chip": f"{number:012x}", "order": f"o{(number - 1) % ORDERS + 1}"}
+    return request("/v1/device", {**names, "map": digest, "blocks": blocks_of(number)})
 
 
 def stream():

@@ -17,9 +17,10 @@ from pathlib import Path
 
 import pytest
 
-from common.ports import HOST
+from common.customers import EVENTS, site_text, token_of
+from common.ports import HOST, accepted, whole_request
 from common.served import Caller, Server, station
-from faults.test_kill import EVENTS, FAR, Load, site_text
+from faults.test_kill import FAR, Load
 
 SEATS = [(customer, seat) for customer in range(2) for seat in range(2)]
 # How often a process is killed, a request is sent twice, and a reply is dropped; and the latest copy, in seconds.
@@ -36,11 +37,7 @@ class Network(threading.Thread):
         self.own = self.listener.getsockname()[1]
 
     def run(self) -> None:
-        while True:
-            try:
-                client = self.listener.accept()[0]
-            except OSError:
-                return
+        for client in accepted(self.listener):
             threading.Thread(target=self.serve, args=(client,), daemon=True).start()
 
     def serve(self, client: socket.socket) -> None:
@@ -69,28 +66,12 @@ class Network(threading.Thread):
             return b""
 
 
-def whole_request(client: socket.socket) -> bytes:
-    """The request that comes; nothing where its process is gone before its end."""
-    data = b""
-    while True:
-        head, end, body = data.partition(b"\r\n\r\n")
-        if end and len(body) >= int(head.lower().partition(b"content-length: ")[2].split(b"\r\n")[0]):
-            return data
-        try:
-            some = client.recv(65536)
-        except OSError:
-            return b""
-        if not some:
-            return b""
-        data += some
-
-
 class Seat(threading.Thread):
     """A seat's requests, each asked for until a process ends by itself."""
 
     def __init__(self, words: list[str], folder: Path, customer: int, seat: int, until: float) -> None:
         super().__init__(daemon=True)
-        self.token, self.until = f"token-{customer}-{seat}", until
+        self.token, self.until = token_of(customer, seat), until
         self.load, self.random = Load(7, customer, seat), random.Random(f"{customer} {seat}")
         state, token = folder / f"{customer}{seat}", folder / f"{customer}{seat}.token"
         token.write_text(self.token)
@@ -162,7 +143,7 @@ def differences(seat: Seat, caller: Caller) -> list[str]:
 @pytest.mark.sizes(8, 3600)
 def test_asks(program: Path, tmp_path: Path, port: int, size: int, found: Callable[[str], None]) -> None:
     site, db = tmp_path / "site.toml", tmp_path / "books.db"
-    site.write_text(site_text())
+    site.write_text(site_text(range(3)))
     server = Server([str(word) for word in station(program, site, db, port)], port).wait(Server.is_listening)
     network = Network(port, 7)
     network.start()

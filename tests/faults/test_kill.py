@@ -15,14 +15,14 @@ import hashlib
 import http.client
 import json
 import random
-import sqlite3
 import threading
 import time
 from collections import Counter
 
 import pytest
 
-from common.registrations import MAP, blocks_of, key_of
+from common.customers import EVENTS, site_text, tables, token_of
+from common.registrations import MAP, blocks_of, planned
 from common.served import Caller, Server, station
 
 CUSTOMERS = 3
@@ -33,41 +33,7 @@ DIGEST = hashlib.sha256(MAP.encode()).hexdigest()
 
 # A number that no seat has come to, so that its refusal tells the number that is expected.
 FAR = 2**53 - 1
-EVENTS = {
-    "/v1/device": "registered",
-    "/v1/plan": "planned",
-    "/v1/readback": "read",
-    "/v1/identity": "identified",
-    "/v1/ship": "shipped",
-    "/v1/scrap": "scrapped",
-}
 GONE = (http.client.HTTPException, OSError)
-
-# The tables of a store, without the numbers that the keeper draws.
-TABLES = {
-    "seat": "*",
-    "map": "body, digest",
-    "link": "customer, digest",
-    "orders": "*",
-    "order_start": "*",
-    "device": "*",
-    "given": "*",
-    "given_start": "*",
-    "ledger": "customer, chip, n, event, note, seat, bits, keys",
-    "site_text": "*",
-}
-
-
-def site_text():
-    """Three customers with two seats each, and a pool of addresses each."""
-    lines = []
-    for customer in range(CUSTOMERS):
-        lines += ["[[customer]]", f'name = "c{customer}"', f'issuer = ["c{customer}-ca"]']
-        lines += ["[[customer.pool]]", f'first = "02{customer:02x}00000000"', "count = 16777216"]
-        for seat in range(SEATS):
-            token = hashlib.sha256(f"token-{customer}-{seat}".encode()).hexdigest()
-            lines += ["[[customer.seat]]", f'name = "s{customer}{seat}"', f'token = "{token}"']
-    return "\n".join(lines) + "\n"
 
 
 class Load:
@@ -105,12 +71,7 @@ class Load:
         number = len(self.chips) + 1
         chip = f"{self.seat:02x}{number:010x}"
         self.chips.append(chip)
-        key = key_of(number)
-        digest = hashlib.sha256(b"".join(word.to_bytes(4, "little") for word in key)).hexdigest()
-        burnt, locked = blocks_of(number), blocks_of(number)
-        burnt[2] = [f"{word:08x}" for word in key]
-        locked[0][0] = "00020000"
-        wishes = [{"kind": "key", "field": "BLOCK2", "key_sha256": digest}, {"kind": "rlock", "field": "BLOCK2"}]
+        wishes, burnt, locked = planned(number)
         yield "/v1/device", {"chip": chip, "order": order, "map": DIGEST, "blocks": blocks_of(number)}
         yield "/v1/plan", {"chip": chip, "wishes": wishes}
         if self.random.random() < 0.3:
@@ -126,7 +87,7 @@ class Station(threading.Thread):
 
     def __init__(self, run, seed, customer, seat):
         super().__init__(daemon=True)
-        self.run_of, self.token = run, f"token-{customer}-{seat}"
+        self.run_of, self.token = run, token_of(customer, seat)
         self.name, self.customer = f"s{customer}{seat}", customer
         self.load = Load(seed, customer, seat)
         self.pauses = random.Random(f"pauses {seed} {customer} {seat}")
@@ -228,15 +189,6 @@ def books(port, stations):
     return shown
 
 
-def tables(path):
-    """The rows of a store's tables, in an order of their own."""
-    base = sqlite3.connect(path)
-    found = base.execute("PRAGMA integrity_check").fetchall() + base.execute("PRAGMA foreign_key_check").fetchall()
-    rows = {name: sorted(map(repr, base.execute(f"SELECT {what} FROM {name}"))) for name, what in TABLES.items()}
-    base.close()
-    return rows | {"test": found}
-
-
 def undisturbed(command, port, stations):
     """The books after the same requests, and the replies that differ."""
     server, faults = Server(command, port).wait(Server.is_listening), []
@@ -328,7 +280,7 @@ def counts_of(stations, shown):
 def test_kills(program, tmp_path, port, size, seed, found):
     """`lost` are requests whose reply came and that the books don't have; `twice` those that they have too often."""
     site, db, calm_db = (str(tmp_path / name) for name in ("site.toml", "killed.db", "calm.db"))
-    (tmp_path / "site.toml").write_text(site_text(), encoding="utf-8")
+    (tmp_path / "site.toml").write_text(site_text(range(CUSTOMERS)), encoding="utf-8")
     run = Run(station(program, site, db, port), port)
     stations = [Station(run, seed, customer, seat) for customer in range(CUSTOMERS) for seat in range(SEATS)]
     shown = run_killed(run, stations, size, seed)

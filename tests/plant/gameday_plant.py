@@ -18,7 +18,7 @@ from simulated_chip import SimulatedChip
 from support import DIGEST, MAP, WISHES, Held, rows
 
 from common.chip import Failed
-from common.commands import PYTHON, command
+from common.commands import command, killed_before
 from common.ports import free_port
 from common.served import Server, station
 from wanekupo.chips.espefuse import KeyFile
@@ -29,25 +29,8 @@ from wanekupo.seat.station import Station
 CUSTOMERS = {"acme": ("a1", "a2", "a3"), "bolt": ("b1", "b2", "b3"), "cord": ("c1", "c2")}
 SECONDS = 120
 FULL, SPENT, UNKNOWN_MAP = 18, 32, 13
-
-# Runs a command, and kills it before the call with this number that the outside sees.
-KILLED = """
-import http.client, os, runpy, signal, subprocess, sys
-count, last = [0], int(sys.argv[1])
-def counted(call):
-    def wrapped(*words, **named):
-        count[0] += 1
-        if count[0] == last:
-            os.kill(os.getpid(), signal.SIGKILL)
-        return call(*words, **named)
-    return wrapped
-for name in ("fsync", "replace", "rename", "mkdir"):
-    setattr(os, name, counted(getattr(os, name)))
-subprocess.Popen.__init__ = counted(subprocess.Popen.__init__)
-http.client.HTTPConnection.getresponse = counted(http.client.HTTPConnection.getresponse)
-sys.argv = sys.argv[2:]
-runpy.run_path(sys.argv[0], run_name="__main__")
-"""
+# The calls before which a restore is killed.
+CALLS = "fsync,replace,rename,mkdir"
 
 
 def token_of(seat):
@@ -306,7 +289,7 @@ class Plant:
         (self.folder / "restored").mkdir(exist_ok=True)
         for _ in range(2 if is_killed else 0):
             call = self.random.randint(1, 60)
-            killed = [PYTHON, "-B", "-c", KILLED, str(call), *command("station-restore")[2:], *map(str, words)]
+            killed = [*killed_before(call, CALLS), *command("station-restore")[2:], *map(str, words)]
             done = subprocess.run(killed, capture_output=True, text=True, timeout=SECONDS, check=False)
             if done.returncode == 0:
                 return done.stdout

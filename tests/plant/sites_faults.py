@@ -1,27 +1,13 @@
-"""Texts with a fault each, for test_sites.py: sites and maps, and the number that station.toml(5) gives them.
+"""Texts with a fault each, for test_sites.py: sites, and the number that station.toml(5) gives them.
 
-Of a site there is what docs/reference/program.md has the program say, in the words of crates/site_faults/specs; of a
-map, and of what is no TOML, the line and the member that a person has to look at.
+Of a site there is what docs/reference/program.md has the program say, in the words of crates/site_faults/specs; of what
+is no TOML the line and the member that a person has to look at.
 """
 
-from common.chip import ROOT, SITE
+from common.chip import SITE
 
 A1 = "ba7816bf8f01cfea414140de5dae2223b00361a396177a9cb410ff61f20015ad"
 SAMPLE = SITE.read_text(encoding="utf-8")
-NONE = (ROOT / "python/wanekupo/chips/families/none/map.toml").read_text(encoding="utf-8")
-
-KEYED = """name = "k"
-wr = "W"
-rd = "R"
-coding = "C"
-block = [{ words = 1 }, { words = 8 }]
-field = [
-    { name = "W", block = 0, bit = 0, count = 4, write = 1 },
-    { name = "R", block = 0, bit = 4, count = 2 },
-    { name = "C", block = 0, bit = 6, count = 2 },
-    { name = "K", block = 1, bit = 0, count = 256, write = 2, read = 1, key = true },
-]
-"""
 
 
 def changed(text: str, old: str, new: str) -> str:
@@ -32,10 +18,6 @@ def changed(text: str, old: str, new: str) -> str:
 
 def sample(old: str, new: str) -> str:
     return changed(SAMPLE, old, new)
-
-
-def keyed(old: str, new: str) -> str:
-    return changed(KEYED, old, new)
 
 
 def seats(count: int) -> str:
@@ -113,31 +95,3 @@ SITES = [
     ("faults 3, 4 and 5 together", sample("020000000020", "030000000013").replace('"b1"', '"a1"'), 3,
      f"customer bolt, seat 1: {ONCE}"),
 ]  # fmt: skip
-
-# What it is, the text, the number, the line, the member.
-MAPS = [
-    ("an open text", keyed('wr = "W"', 'wr = "W'), 1, 2, "the text"),
-    ("no name", keyed('name = "k"\n', ""), 2, 1, "name"),
-    ("a name of 33 letters", keyed('"k"', f'"{"k" * 33}"'), 2, 1, "name"),
-    ("a field's name of 33 letters", keyed('"C", block', f'"{"C" * 33}", block'), 2, 9, "field.name"),
-    ("a block of 9 words", keyed("words = 8", "words = 9"), 2, 5, "block.words"),
-    ("five blocks", keyed("[{ words = 1 }, ", "[" + "{ words = 1 }, " * 4), 2, 5, "block"),
-    ("a field of no bits", keyed("bit = 4, count = 2", "bit = 4, count = 0"), 2, 8, "field.count"),
-    ("a negative block", keyed('"R", block = 0', '"R", block = -1'), 2, 8, "field.block"),
-    ("a key that is a number", keyed("key = true", "key = 1"), 2, 10, "field.key"),
-    ("no fields", NONE[: NONE.index("field = ")] + "field = []\n", 2, 9, "field"),
-    ("a text that is too long", NONE + "#" * 32_768, 2, 1, "the text"),
-    ("a field twice", keyed('{ name = "C"', '{ name = "R"'), 3, 9, "field.name"),
-    ("a field in no block", keyed('"K", block = 1', '"K", block = 2'), 4, 10, "field.block"),
-    ("a field beyond its block", keyed("bit = 6, count = 2", "bit = 6, count = 27"), 4, 9, "field.count"),
-    ("fields that overlap", keyed("bit = 6, count = 2", "bit = 5, count = 2"), 5, 9, "field.bit"),
-    ("no such field", keyed('wr = "W"', 'wr = "V"'), 6, 2, "wr"),
-    ("a key field for locks", keyed('rd = "R"', 'rd = "K"'), 6, 3, "rd"),
-    ("one field for both", keyed('rd = "R"', 'rd = "W"'), 6, 3, "rd"),
-    ("a coding that is the locks'", keyed('coding = "C"', 'coding = "R"'), 6, 4, "coding"),
-    ("locks that can be hidden", keyed("count = 4, write = 1", "count = 4, write = 1, read = 0"), 6, 2, "wr"),
-    ("a lock beyond its field", keyed("write = 2", "write = 4"), 7, 10, "field.write"),
-    ("a read lock beyond its field", keyed("read = 1", "read = 2"), 7, 10, "field.read"),
-    ("a key without a read lock", keyed("read = 1, ", ""), 8, 10, "field.key"),
-    ("a key of half a block", keyed("count = 256", "count = 128"), 8, 10, "field.key"),
-]

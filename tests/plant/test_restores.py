@@ -19,9 +19,9 @@ from pathlib import Path
 import pytest
 
 from common.chip import Failed
-from common.commands import PROJECT, PYTHON, command
+from common.commands import PROJECT, PYTHON, command, killed_before
 from common.users import AS_USER, USER, another_user, umask
-from plant.gameday_plant import CUSTOMERS, KILLED, Plant
+from plant.gameday_plant import CALLS, CUSTOMERS, Plant
 from plant.restores_forged import (
     first_of, pairs_of, signed, test_folders, test_foreign, test_left_out, test_lost, test_lost_is_distrusted, written,
 )  # fmt: skip
@@ -81,7 +81,7 @@ class Bench:
         return [str(it) for it in [*words, "--port", self.plant.port, "--backups", self.saved, *more]]
 
     def restore(self, folder, *more, call=0, **named):
-        before = [PYTHON, "-B", *(["-c", KILLED, str(call)] if call else [])]
+        before = killed_before(call, CALLS) if call else [PYTHON, "-B"]
         words = [*before, str(PROJECT), "station-restore", *self.words(folder, *more, **named)]
         return subprocess.run(
             words, capture_output=True, text=True, timeout=120, stdin=subprocess.DEVNULL, check=False

@@ -1,10 +1,10 @@
 """station-site: what it says of a text, growths of a site over a served store, kills and failed starts.
 
 Each text of sites_faults.py has its number and the words that the program tells. Where a map is wrong the tool's reader
-says, and it has the program's number, also of texts that were changed by chance. Growths are said
-in words, tried over a copy of the store, and put in place with one stop. A growth that is killed right before one of
-its deeds (a file, a rename, a program) and begun again ends as one that nobody cut, and no token is lost, made twice,
-printed, or in a program's words.
+says (python/tests/plant/map_cases.py has the texts), and it has the program's number, also of texts that were changed
+by chance. Growths are said in words, tried over a copy of the store, and put in place with one stop. A growth that is
+killed right before one of its deeds (a file, a rename, a program) and begun again ends as one that nobody cut, and no
+token is lost, made twice, printed, or in a program's words.
 """
 
 import os
@@ -21,11 +21,16 @@ from common.chip import Failed
 from common.commands import PROJECT, copy_project
 from common.deployed import expect
 from common.grown_sites import GROWN, NO_SITES, OTHERS
+from map_cases import CHANGES, MAP
 from plant.house import House, digest_of, was_killed
-from plant.sites_faults import KEYED, MAPS, NO_TOML, NONE, SAMPLE, SECRET, SITES
+from plant.sites_faults import NO_TOML, SAMPLE, SECRET, SITES
 from wanekupo.plant.site.map_faults import map_faults
 
 pytestmark = pytest.mark.needs("curl", "sqlite3", "flock")
+
+# Maps with their first faults, but for texts that no longer mean to be maps.
+MAPS = [(MAP.replace(old, new, 1), faults[0]) for old, new, faults in CHANGES if faults and old != MAP]
+NONE = (PROJECT / "wanekupo/chips/families/none/map.toml").read_text(encoding="utf-8")
 
 # What a changed text gets in the place of a value or a letter.
 VALUES = ["1", "true", '"a"', "[]", "{}", "-1", "0", "256", "9223372036854775808", "1.5", "1979-05-27", '""', '"x y"',
@@ -90,9 +95,8 @@ def told(house: House, text: str) -> tuple[int, list[str]]:
 # ---- what is wrong with a text
 
 
-@pytest.mark.parametrize(("rows", "last"), [(SITES, 6), (MAPS, 8)], ids=["sites", "maps"])
-def test_each_number_has_a_text(rows, last) -> None:
-    assert {row[2] for row in rows} == set(range(1, last + 1))
+def test_each_number_has_a_text() -> None:
+    assert {row[2] for row in SITES} == set(range(1, 7)) and {fault[0] for _, fault in MAPS} == set(range(1, 9))
 
 
 @pytest.mark.parametrize(("text", "number", "words"), [row[1:] for row in SITES], ids=[row[0] for row in SITES])
@@ -111,8 +115,9 @@ def test_lines_of_no_toml(made: House, text: str, line: int, member: str) -> Non
     expect(first, bool(re.fullmatch(rf"station-site: F:{line}: {member}: .+ \(fault 1\)", first)), True)
 
 
-@pytest.mark.parametrize(("text", "number", "line", "member"), [row[1:] for row in MAPS], ids=[row[0] for row in MAPS])
-def test_faults_of_maps(made: House, text: str, number: int, line: int, member: str) -> None:
+@pytest.mark.parametrize(("text", "fault"), MAPS, ids=range(len(MAPS)))
+def test_faults_of_maps(made: House, text: str, fault: tuple[int, int, str]) -> None:
+    number, line, member = fault
     expect("the program's number", number_of(made, text), number)
     status, said = told(made, text)
     wanted = rf"station-site: F:{line}: {re.escape(member)}: .+ \(fault {number}\)"
@@ -126,10 +131,10 @@ def test_newer_toml(made: House) -> None:
     """The program reads TOML 1.1. Of a site it names the place, and of a map the line is told that is no TOML 1.0."""
     newer = 'x = "\\e"\n'
     expect("TOML 1.1 that is a site", told(made, newer + SAMPLE), (0, ["F is a site, says the program"]))
-    expect("TOML 1.1 that is a map", told(made, newer + KEYED), (0, ["F is a fuse map, says the program"]))
+    expect("TOML 1.1 that is a map", told(made, newer + MAP), (0, ["F is a fuse map, says the program"]))
     words = "station-site: F: station: site fault 3: customer bolt, seat 1: the name is there already"
     expect("TOML 1.1 with a fault", told(made, newer + SAMPLE.replace('"b1"', '"a1"')), (1, [words]))
-    status, said = told(made, newer + KEYED.replace("words = 8", "words = 9"))
+    status, said = told(made, newer + MAP.replace("words = 8", "words = 9"))
     expect("a map of TOML 1.1 with a fault", (status, said[1:]), (1, ["F: station: map fault 2"]))
     expect(said[0], said[0].startswith("station-site: F:1: the text: it is no TOML 1.0"), True)
 
@@ -175,7 +180,7 @@ def test_texts_have_the_programs_number(made: House, chance: random.Random, size
     """Maps that were changed by chance have the program's number."""
     found = set()
     for _ in range(size):
-        text = changed(chance.choice([KEYED, KEYED, NONE]), chance)
+        text = changed(chance.choice([MAP, MAP, NONE]), chance)
         number, faults = number_of(made, text), map_faults(text)
         found.add(number)
         if number != (faults[0].number if faults else 0):

@@ -17,7 +17,6 @@ from pathlib import Path
 import pytest
 
 from common.deployed import INNER, ROOT, expect, ran, refusal
-from wanekupo.common.token_file import later_minute
 
 pytestmark = [pytest.mark.root, pytest.mark.nginx]
 
@@ -358,15 +357,6 @@ def test_days(place):
         (place.reload("midnight.conf"), place.ask(by(place.outer["tonight"]), ORDER, port=port)[0]),
         (0, 401),
     )
-
-
-def test_later_minutes():
-    """The expression for a later minute, beside a comparison of texts."""
-    times = [f"{y}-{m:02}-{d:02}T{h:02}:{i:02}" for y in (2025, 2026, 2027, 2030, 2100) for m in range(1, 13)
-             for d in (1, 9, 10, 19, 28, 30, 31) for h in (0, 9, 19, 23) for i in (0, 9, 10, 58, 59)]  # fmt: skip
-    differ = [(it, end) for end in times[::311] + ["2026-11-28T23:59", "2029-12-31T23:59", "2099-09-09T19:09"]
-              for it in times if bool(re.match(later_minute(end), it)) != (it > end)]  # fmt: skip
-    expect("later minutes", differ, [])
 
 
 def test_changes(place):

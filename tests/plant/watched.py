@@ -19,7 +19,7 @@ from pathlib import Path
 from common.commands import command
 from common.deployed import Place, certify, expect, ran, replaced
 from common.needs import ROOT
-from common.ports import HOST, free_ports
+from common.ports import HOST, Answering, free_ports
 from common.program import Failed
 from common.served import Server, station
 
@@ -67,21 +67,14 @@ class Heard(http.server.ThreadingHTTPServer):
                 self.firing.pop(name, None)
 
 
-class Handler(http.server.BaseHTTPRequestHandler):
+class Handler(Answering):
     def do_POST(self):
         self.server.take(json.loads(self.rfile.read(int(self.headers["Content-Length"]))))
-        self.answer()
+        self.answer(200, "text/plain", b"")
 
     def do_GET(self):
         self.server.restart(away=AWAY)
-        self.answer()
-
-    def answer(self):
-        self.send_response(200)
-        self.end_headers()
-
-    def log_message(self, *_):
-        pass
+        self.answer(200, "text/plain", b"")
 
 
 class Deployed(Place):

@@ -2,8 +2,6 @@
 line by line.
 """
 
-from __future__ import annotations
-
 import contextlib
 import csv
 import json

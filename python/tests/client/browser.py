@@ -1,7 +1,5 @@
 """Chromium without a window, driven by its DevTools protocol over two pipes. Debian's package `chromium`."""
 
-from __future__ import annotations
-
 import base64
 import json
 import os

@@ -1,7 +1,5 @@
 """A CA's folder, and a spool of devices' requests for certificates, for the tests."""
 
-from __future__ import annotations
-
 import json
 import shutil
 import subprocess

@@ -1,7 +1,5 @@
 """The command `wanekupo` as a user gives it, in a folder that has its settings, and keys by openssl."""
 
-from __future__ import annotations
-
 import contextlib
 import importlib.util
 import io

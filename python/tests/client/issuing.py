@@ -1,8 +1,6 @@
 """CAs that OEMs have, for the tests: one that is asked by EST (RFC 7030) over https, and one by CMP (RFC 4210), whose
 messages are those of OpenSSL's own mock server. Each signs what it is asked for, by the list of a lot."""
 
-from __future__ import annotations
-
 import base64
 import contextlib
 import re

@@ -1,7 +1,5 @@
 """`wanekupo run` as a process, its page's own requests, and a robot that puts simulated chips into its sockets."""
 
-from __future__ import annotations
-
 import contextlib
 import fcntl
 import http.client

@@ -1,7 +1,5 @@
 """The program on a scratch store and a free port, a proxy that fails, and the life of a chip, for the tests."""
 
-from __future__ import annotations
-
 import contextlib
 import hashlib
 import http.client
@@ -162,16 +160,9 @@ class Proxy:
         threading.Thread(target=self.serve, daemon=True).start()
 
     def serve(self):
-        while True:
-            try:
-                client = self.listener.accept()[0]
-            except OSError:
-                return
-            with client:
-                try:
-                    self.pass_on(client)
-                except OSError:
-                    pass
+        for client in accepted(self.listener):
+            with client, contextlib.suppress(OSError):
+                self.pass_on(client)
 
     def pass_on(self, client):
         request = whole(client)
@@ -328,11 +319,7 @@ class Canned:
         return cls(head.encode() + body, **options)
 
     def serve(self):
-        while True:
-            try:
-                client = self.listener.accept()[0]
-            except OSError:
-                return
+        for client in accepted(self.listener):
             with client, contextlib.suppress(OSError):
                 whole(client)
                 if not self.pause:
@@ -360,6 +347,13 @@ def exchanged(port, request):
         server.sendall(request)
         server.shutdown(socket.SHUT_WR)
         return b"".join(iter(lambda: server.recv(65536), b""))
+
+
+def accepted(listener):
+    """Each connection to a port, until its listener is closed."""
+    with contextlib.suppress(OSError):
+        while True:
+            yield listener.accept()[0]
 
 
 def whole(client):
@@ -409,16 +403,21 @@ def life(station, chip_io, public_key=PUBLIC_KEY, order=ORDER["name"]):
     return station.device(chip)
 
 
-class StationCase(unittest.TestCase):
+class FolderCase(unittest.TestCase):
+    """A folder that goes with its test."""
+
+    def setUp(self):
+        self.folder = Path(self.enterContext(tempfile.TemporaryDirectory()))
+
+
+class StationCase(FolderCase):
     """A folder with a program, a key's file, and a seat with an order and the map. With `over_office` the tests run
     over the office of the API's page too, where no program is built."""
 
     over_office = False
 
     def setUp(self):
-        folder = tempfile.TemporaryDirectory()
-        self.addCleanup(folder.cleanup)
-        self.folder = Path(folder.name)
+        super().setUp()
         self.program = Program(self.folder, self.site(), self.over_office)
         self.addCleanup(lambda: self.program.kill())
         (self.folder / "flash.key").write_bytes(FLASH_KEY)
@@ -434,19 +433,22 @@ class StationCase(unittest.TestCase):
         return SITE
 
     def journal(self, file="a1.journal"):
-        journal = Journal(self.folder / file)
-        self.addCleanup(journal.close)
-        return journal
+        return self.enterContext(contextlib.closing(Journal(self.folder / file)))
 
     def station(self, url=None, token="abc", file="a1.json", **options):
         station = Station(url or self.program.url, token, self.folder / file, **options)
         self.addCleanup(station.close)
         return station
 
+    def prepared(self, **options):
+        """A seat with the order and the map."""
+        station = self.station(**options)
+        station.make_order(**ORDER)
+        station.import_map(MAP)
+        return station
+
     def proxy(self, faults=(), kind=Proxy):
-        proxy = kind(self.program, faults)
-        self.addCleanup(proxy.close)
-        return proxy
+        return self.enterContext(contextlib.closing(kind(self.program, faults)))
 
     def canned(self, *words, **options):
         """The URL of what isn't the program, and answers each request with a page, or with bytes and a pause."""

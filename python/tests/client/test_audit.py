@@ -3,8 +3,6 @@
 Stores are forged by sqlite3, journals are made up, and the states of a device are those of the drawing of the docs.
 """
 
-from __future__ import annotations
-
 import contextlib
 import hashlib
 import json
@@ -385,8 +383,7 @@ class Seals(BooksCase):
     def test_a_service_that_is_none(self):
         """A time stamp is asked of what doesn't speak HTTP: that is told in words, and nothing is added."""
         seals, store = self.sealed(), self.folder / "copy" / "books.db"
-        server = socket.create_server(("127.0.0.1", 0))
-        self.addCleanup(server.close)
+        server = self.enterContext(contextlib.closing(socket.create_server(("127.0.0.1", 0))))
 
         def answer():
             with contextlib.closing(server.accept()[0]) as client:
@@ -484,7 +481,3 @@ class States(unittest.TestCase):
         ways = ((start, name, ends) for name, its in states.STEPS.items() for start, ends in its.items())
         self.assertEqual({(start, name, end) for start, name, ends in ways for end in ends}, drawn)
         self.assertEqual(tuple(it.state for it in LOOKS), states.REPORTED)
-
-
-if __name__ == "__main__":
-    unittest.main()

@@ -3,16 +3,12 @@
 Journals are made up line by line. Beside them are the time stamps of seals, and what a chain of seals tells of gaps.
 """
 
-from __future__ import annotations
-
 import hashlib
 import json
 import os
 import shutil
-import tempfile
 import time
 import tracemalloc
-import unittest
 from collections import Counter
 from pathlib import Path
 from types import SimpleNamespace
@@ -20,6 +16,8 @@ from unittest import mock
 
 from books_case import DAY
 from commanding import ran
+
+from support import FolderCase
 
 from wanekupo.books import steps
 from wanekupo.books.audit import Audit, Found, Left, Unheld, _idle_faults, _journal_faults
@@ -62,12 +60,7 @@ def row(first, last, hour):
     return [line for it in range(first, last + 1) for line in done(f"{hour}:{it:02}:00", it, f"c{it}")]
 
 
-class SeatCase(unittest.TestCase):
-    def setUp(self):
-        folder = tempfile.TemporaryDirectory()
-        self.addCleanup(folder.cleanup)
-        self.folder = Path(folder.name)
-
+class SeatCase(FolderCase):
     def book(self, lines, name="a1"):
         file = self.folder / f"{name}.journal"
         file.write_text("".join(json.dumps(it) + "\n" for it in lines), encoding="ascii")
@@ -471,12 +464,7 @@ class Journals(SeatCase):
             self.assertEqual(verdict(Audit(PERIOD, found, unfinished=why)), meant)
 
 
-class Seals(unittest.TestCase):
-    def setUp(self):
-        folder = tempfile.TemporaryDirectory()
-        self.addCleanup(folder.cleanup)
-        self.folder = Path(folder.name)
-
+class Seals(FolderCase):
     def chained(self, *days):
         """A chain of a seal on each of these days of a month: its lines, and the last one's seal."""
         text = 'map acme 1 {"map":"1","text_sha256":"1"}\n'
@@ -535,7 +523,3 @@ class Seals(unittest.TestCase):
                 except BadChain as error:
                     self.assertFalse(is_taken, error)
         self.assertEqual(len(chain.seals()), 2)
-
-
-if __name__ == "__main__":
-    unittest.main()

@@ -4,8 +4,6 @@ Expected values are those of docs/integrate/api.md and docs/line/bench.md. How s
 test_endings.py.
 """
 
-from __future__ import annotations
-
 import hashlib
 import json
 import os
@@ -15,18 +13,7 @@ import sys
 import time
 import unittest
 
-from running import (
-    FACTS,
-    GREEN,
-    PAGE,
-    BenchCase,
-    Robot,
-    Running,
-    macs_of,
-    script,
-    table_rows,
-    tool,
-)
+from running import FACTS, GREEN, PAGE, BenchCase, Robot, Running, macs_of, script, table_rows, tool
 from simulated_chip import NEWER, chip_class, new_chip
 from support import ROOT, SIMULATED, Proxy, steps
 
@@ -216,7 +203,3 @@ class Table(unittest.TestCase):
         for ending in TABLE:
             self.assertEqual(shown.get(ending.name), (ending.told.format(**blank), ending.todo.format(**blank)))
         self.assertEqual(len(rows), len(TABLE))
-
-
-if __name__ == "__main__":
-    unittest.main()

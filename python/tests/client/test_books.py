@@ -4,8 +4,6 @@ a store is forged to is by sqlite3, and digests are those of hashlib over the pa
 `tests/books` tries many more forged stores, kills, signatures, time stamps and large stores.
 """
 
-from __future__ import annotations
-
 import base64
 import contextlib
 import gzip
@@ -278,7 +276,3 @@ class Books(BooksCase):
         states = re.search(r"const STATES = (\[.*?\n  \]);", page, re.DOTALL)[1]
         found = json.loads(re.sub(r",\s*\]$", "]", states))
         self.assertEqual(found, [[it.state, it.colour, it.ink, it.lines] for it in LOOKS])
-
-
-if __name__ == "__main__":
-    unittest.main()

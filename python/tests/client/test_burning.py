@@ -3,14 +3,11 @@
 Expected are the outcomes of docs/integrate/api.md, and that no key is on a screen, whoever runs the lines.
 """
 
-from __future__ import annotations
-
 import json
 import os
 import shlex
 import subprocess
 import sys
-import unittest
 
 from commanding import CommandCase
 from simulated_chip import NEWER, new_chip
@@ -89,7 +86,3 @@ class Burning(CommandCase):
                 words = self.planned(mac, family, tool)
                 self.assertEqual(self.burnt(mac, words, tool, family), ("match", "awaiting2"))
                 self.assertEqual(self.burnt(mac, words, tool, family), ("match", "settled"))
-
-
-if __name__ == "__main__":
-    unittest.main()

@@ -1,7 +1,5 @@
 """The commands `certify` and `verify`, over requests and a CA that openssl makes: what they issue, once, and refuse."""
 
-from __future__ import annotations
-
 import json
 import os
 import re
@@ -10,7 +8,6 @@ import signal
 import subprocess
 import sys
 import time
-import unittest
 from unittest import mock
 
 from support import HOST, free_port
@@ -492,7 +489,3 @@ class TwoIssuers(CertificateCase):
         self.assertIn(f"Two issuers may have given {first}", self.counted(0, 1, 1, "--issuer", "acme-ca-2"))
         self.assertEqual(self.in_index(), [f"/serialNumber={it}" for it in (first, following)])
         self.assertEqual((self.ca / "ca.pem").read_bytes(), anchor)
-
-
-if __name__ == "__main__":
-    unittest.main()

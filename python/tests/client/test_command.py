@@ -3,8 +3,6 @@
 The replies that it prints are compared with those that the server gives to plain requests, keys with openssl's.
 """
 
-from __future__ import annotations
-
 import contextlib
 import hashlib
 import json
@@ -15,7 +13,6 @@ import shlex
 import subprocess
 import sys
 import tomllib
-import unittest
 
 from commanding import CLIENT, NEEDS_KEYS, OTHER_MAC, CommandCase, digest_by_openssl, made_key
 from simulated_chip import FAMILIES, chip_class
@@ -85,8 +82,7 @@ class Looking(CommandCase):
         """As `wanekupo devices | head -1`: quiet, whether the reader went before the first line or between."""
         device = {"chip": MAC, "order": "o1", "state": "shipped", "reason": None, "serial": "A998"}
         page = json.dumps({"devices": 5000 * [device], "next": None}).encode()
-        canned = Canned.page(200, "application/json", page)
-        self.addCleanup(canned.close)
+        canned = self.enterContext(contextlib.closing(Canned.page(200, "application/json", page)))
         words = [sys.executable, "-B", "-m", "wanekupo", "devices", "--url", canned.url]
         environment = {**os.environ, "HOME": str(self.folder), "PYTHONPATH": str(CLIENT)}
         for lines in (0, 1):
@@ -384,7 +380,3 @@ class SecondSeat(CommandCase):
         self.assertEqual(self.ran("scrap", OTHER_MAC, *self.own)[::2], (0, ""))
         with self.station(file="maker.json") as bench, self.assertRaises(OutOfStep):
             bench.plan(OTHER_MAC, [])
-
-
-if __name__ == "__main__":
-    unittest.main()

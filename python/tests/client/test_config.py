@@ -3,8 +3,6 @@
 Expected values are those of docs/reference/files.md and docs/line/bench.md.
 """
 
-from __future__ import annotations
-
 import contextlib
 import os
 import re
@@ -144,7 +142,3 @@ class Example(unittest.TestCase):
         self.assertLessEqual({"order", "burnt_as", "lost_in_a_row", "inches", "before_ship", "KEY_SHA256"}, names)
         man = (ROOT / "deploy" / "wanekupo-recipe.5").read_text(encoding="utf-8")
         self.assertEqual([name for name in sorted(names) if not re.search(rf"\b{name}\b", man)], [])
-
-
-if __name__ == "__main__":
-    unittest.main()

@@ -1,10 +1,7 @@
 """The client's connection: it is kept between requests, and made anew where it was closed, at whichever moment."""
 
-from __future__ import annotations
-
 import json
 import time
-import unittest
 from unittest import mock
 
 from support import DIGEST, LIFE, MAP, ORDER, KeptProxy, StationCase, life, rows, steps
@@ -134,7 +131,3 @@ class Connections(StationCase):
                 station.report()
             took = time.monotonic() - began
         self.assertTrue(0.9 < took < 1.9, took)
-
-
-if __name__ == "__main__":
-    unittest.main()

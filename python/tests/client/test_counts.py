@@ -2,16 +2,13 @@
 docs/line/bench.md.
 """
 
-from __future__ import annotations
-
 import contextlib
 import json
-import tempfile
-import unittest
-from pathlib import Path
 from unittest import mock
 
 import support  # noqa: F401  it finds the package
+
+from support import FolderCase
 
 from wanekupo.bench.board import ShiftCounts, ended_socket
 from wanekupo.bench.endings import Ended
@@ -40,13 +37,8 @@ CASES = [
 ]
 
 
-class Counts(unittest.TestCase):
+class Counts(FolderCase):
     """The counts that a bench keeps."""
-
-    def setUp(self):
-        folder = tempfile.TemporaryDirectory()
-        self.addCleanup(folder.cleanup)
-        self.folder = Path(folder.name)
 
     def test_each_chip_once(self):
         for place, (stays, *expected) in enumerate(CASES):
@@ -81,7 +73,3 @@ class Counts(unittest.TestCase):
             self.stay(kept, 0, "c1", "stray")
             shift = kept.shift()
         self.assertEqual((shift.passed, shift.failed, len(shift.row)), (7, {"stray": 3}, 2))
-
-
-if __name__ == "__main__":
-    unittest.main()

@@ -4,8 +4,6 @@ network and of the disk, over the program and simulated chips.
 Expected values are those of docs/integrate/api.md and docs/line/bench.md.
 """
 
-from __future__ import annotations
-
 import hashlib
 import json
 import os
@@ -13,23 +11,9 @@ import re
 import socket
 import subprocess
 import time
-import unittest
 from pathlib import Path
 
-from running import (
-    ASK_WHERE,
-    FACTS,
-    GREEN,
-    PAGE,
-    RED,
-    BenchCase,
-    is_passed,
-    life_of,
-    macs_of,
-    script,
-    table_rows,
-    tool,
-)
+from running import ASK_WHERE, FACTS, GREEN, PAGE, RED, BenchCase, is_passed, life_of, macs_of, script, table_rows, tool
 from support import DIGEST, LIFE, MAC, MAP, ORDER, Proxy, TlsProxy, steps, whole
 
 from wanekupo.seat.journal import issued, strict_lines, requests_of
@@ -470,7 +454,3 @@ class Endings(BenchCase):
             self.assertEqual(life_of(self.ledger(mac)), LIFE)
             self.take("left", mac)
         self.assertGreater(len(reached), 1, reached)
-
-
-if __name__ == "__main__":
-    unittest.main()

@@ -4,8 +4,6 @@ Whatever fails, and whenever the program or its command is killed, the CA signs 
 in between is what the sentence says: look in the CA's list.
 """
 
-from __future__ import annotations
-
 import fcntl
 import os
 import random
@@ -234,7 +232,3 @@ class Enrolling(Oem):
         if lock.exists():
             with open(lock, "rb") as opened:
                 fcntl.flock(opened, fcntl.LOCK_EX)
-
-
-if __name__ == "__main__":
-    unittest.main()

@@ -3,12 +3,9 @@
 The names of messages are those of IPC-2591; an UUID of version 5 is told by RFC 9562.
 """
 
-from __future__ import annotations
-
 import json
 import subprocess
 import sys
-import unittest
 import uuid
 
 from books_case import BooksCase, device, lines_of, read, step
@@ -108,7 +105,3 @@ class Events(BooksCase):
         self.assertEqual(([meant(it) for it in once], len(lines)), (MEANT, 8))
         self.assertEqual(len({it["UniqueID"] for it in once}), 6)
         self.assertEqual(self.events("--post", url, "--patience", "1")[0], 0)
-
-
-if __name__ == "__main__":
-    unittest.main()

@@ -5,8 +5,6 @@ Expected are espefuse's own definitions and what its own commands burn, and the 
 ESPEFUSE has no words that run espefuse 4, the tests of it are left out.
 """
 
-from __future__ import annotations
-
 import base64
 import functools
 import hashlib
@@ -455,7 +453,3 @@ class FreshStore:
         for file in [*case.program.db.parent.glob("books.db*"), *case.folder.glob("a1.json*"), case.folder / MAC]:
             file.unlink(missing_ok=True)
         case.program.start()
-
-
-if __name__ == "__main__":
-    unittest.main()

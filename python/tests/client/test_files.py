@@ -1,7 +1,5 @@
 """The files of a station: whose they are, who can put or replace them, and what of a key stays in them."""
 
-from __future__ import annotations
-
 import contextlib
 import json
 import os
@@ -154,9 +152,7 @@ class Keys(StationCase):
     def setUp(self):
         super().setUp()
         self.proxy_of = self.proxy()
-        self.seat = self.station(self.proxy_of.url, patience=0)
-        self.seat.make_order(**ORDER)
-        self.seat.import_map(MAP)
+        self.seat = self.prepared(url=self.proxy_of.url, patience=0)
         self.held = self.chip()
         self.seat.register(MAC, "o1", DIGEST, self.held.read())
         self.seat.plan(MAC, WISHES)
@@ -217,9 +213,7 @@ class Cut(StationCase):
             station.import_map("# \u0416\n" + MAP)
             station.make_order(**ORDER)
         whole = (self.folder / "a1.journal").read_bytes().splitlines(keepends=True)
-        patch = mock.patch.object(os, "fsync")  # nothing is cut here by a power failure
-        patch.start()
-        self.addCleanup(patch.stop)
+        self.enterContext(mock.patch.object(os, "fsync"))  # nothing is cut here by a power failure
         for lines in (whole, whole[:-1]):
             before, last = b"".join(lines[:-1]), lines[-1]
             for end in range(len(last) + 1):
@@ -253,7 +247,3 @@ class Cut(StationCase):
             with self.assertRaises(BadJournal):
                 Journal(file)
             self.assertEqual(file.read_bytes(), text)
-
-
-if __name__ == "__main__":
-    unittest.main()

@@ -3,8 +3,6 @@
 Expected are the rules of docs/line/bench.md, over the program and simulated chips.
 """
 
-from __future__ import annotations
-
 import json
 import os
 import subprocess
@@ -27,9 +25,7 @@ class Removing(unittest.TestCase):
     """What is in a folder that goes."""
 
     def setUp(self):
-        room = tempfile.TemporaryDirectory()
-        self.addCleanup(room.cleanup)
-        self.room = Path(room.name)
+        self.room = Path(self.enterContext(tempfile.TemporaryDirectory()))
         self.folder = self.room / "chips" / MAC
         (self.folder / "deeper").mkdir(parents=True)
 
@@ -143,7 +139,3 @@ class Folders(BenchCase):
         done = subprocess.run(command, env=own, input=f"{answer}\n", capture_output=True, text=True, timeout=60)
         self.assertEqual((done.returncode, done.stderr), (0, ""))
         return done.stdout
-
-
-if __name__ == "__main__":
-    unittest.main()

@@ -4,8 +4,6 @@ The honest plant is the program's own, with three stations of two customers. Wha
 docs/integrate/api.md. Beside them are honest plants of which nothing may be said.
 """
 
-from __future__ import annotations
-
 import contextlib
 import gzip
 import hashlib
@@ -399,7 +397,3 @@ class Rules(unittest.TestCase):
             self.assertEqual(list(others_of(base.execute)), [])
             base.execute("INSERT INTO seat VALUES ('a9', 'acme', -1, x'', '')")
             self.assertIn("a seat's last number is below 1", " ".join(excluded(base.execute)))
-
-
-if __name__ == "__main__":
-    unittest.main()

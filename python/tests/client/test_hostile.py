@@ -3,8 +3,6 @@
 A text is plain here by the categories of Unicode (its section 4.5), and not by the client's own rule.
 """
 
-from __future__ import annotations
-
 import csv
 import json
 import os
@@ -12,7 +10,6 @@ import subprocess
 import sys
 import time
 import unicodedata
-import unittest
 
 from support import DIGEST, MAC, ORDER, StationCase
 
@@ -276,7 +273,3 @@ class Hostile(StationCase):
             with self.assertRaises(ValueError):
                 Station(url, "abc", None, insecure=True)
         self.assertEqual(self.ran_at("http://127.0.0.2:9", "--insecure", "report")[0], 3)
-
-
-if __name__ == "__main__":
-    unittest.main()

@@ -1,8 +1,6 @@
 """Each member of a reply is held to its form (docs/integrate/api.md). A server that breaks one gets nothing done: no
 hook runs, nothing is burnt, and the request goes on where the server is its own again."""
 
-from __future__ import annotations
-
 import copy
 import json
 import re
@@ -241,7 +239,3 @@ class AtBench(BenchCase):
         self.assertEqual(bench.ended("left")[:2], ("FAIL", "other_wishes"))
         self.assertEqual((self.folder / "places" / "left").read_bytes(), blank)
         self.assertFalse((self.folder / "hooked").exists())
-
-
-if __name__ == "__main__":
-    unittest.main()

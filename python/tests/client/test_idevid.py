@@ -1,8 +1,6 @@
 """Whether a certificate is held to each line of the page on certificates: openssl makes one that breaks the line, and
 that line alone. The sentences of a chain are openssl's own (X509_verify_cert_error_string)."""
 
-from __future__ import annotations
-
 import hashlib
 import os
 import re
@@ -326,7 +324,3 @@ class Idevid(unittest.TestCase):
             certificate = self.made("device", "root", {"start": start}, OWN)
             found = list(late_fault(certificate, {"not_before": begins}, asked))
             self.assertEqual(found, [f"it begins at {start}, which isn't its time of issue"] if is_late else [])
-
-
-if __name__ == "__main__":
-    unittest.main()

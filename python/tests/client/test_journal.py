@@ -1,7 +1,5 @@
 """The station's own log: what stands in it, what doesn't, and what a restore by it brings back."""
 
-from __future__ import annotations
-
 import errno
 import hashlib
 import json
@@ -289,9 +287,7 @@ class Days(StationCase):
         self.days.mkdir(mode=0o700)
         self.now = "2026-11-28T23:59:59Z"
         moment = lambda: time.strptime(self.now, "%Y-%m-%dT%H:%M:%SZ")
-        patch = mock.patch.object(time, "gmtime", moment)
-        patch.start()
-        self.addCleanup(patch.stop)
+        self.enterContext(mock.patch.object(time, "gmtime", moment))
         self.wire = self.proxy()
 
     def opened(self):
@@ -427,7 +423,3 @@ class Records(StationCase):
                 status, out, err = ran("issued", self.written("one.journal", *requests))
                 self.assertEqual((status, err), (0, ""), more)
                 self.assertIn(f"{MAC},acme-ca,A998,{'a' * 64},\n", out)
-
-
-if __name__ == "__main__":
-    unittest.main()

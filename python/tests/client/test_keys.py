@@ -3,11 +3,8 @@
 Keys are made by openssl, and the digests of records are compared with its own.
 """
 
-from __future__ import annotations
-
 import json
 import os
-import unittest
 
 from commanding import KINDS, NEEDS_KEYS, OTHER_MAC, CommandCase, digest_by_openssl, made_key
 from support import DIGEST, MAC, ORDER
@@ -105,7 +102,3 @@ class Keys(CommandCase):
             status, out, err = self.ran(*words)
             self.assertEqual((status, out, told in err, name in err), (2, "", True, True), (words, err))
         self.assertEqual((self.number(), list(self.spool.iterdir())), (number, []))
-
-
-if __name__ == "__main__":
-    unittest.main()

@@ -3,8 +3,6 @@
 What is expected is of docs/integrate/api.md: its refusals, and that a request is done once.
 """
 
-from __future__ import annotations
-
 import hashlib
 import json
 import os
@@ -32,9 +30,7 @@ class Late(StationCase):
 
     def setUp(self):
         super().setUp()
-        patch = mock.patch.object(wanekupo.seat.connection, "FIRST_PAUSE", 0.01)
-        patch.start()
-        self.addCleanup(patch.stop)
+        self.enterContext(mock.patch.object(wanekupo.seat.connection, "FIRST_PAUSE", 0.01))
         self.told, self.wire = [], self.proxy()
         self.seat, self.other = self.opened(), self.station(token="second", file="a2.json")
         self.seat.make_order(**{**ORDER, "macs": 0})
@@ -248,7 +244,3 @@ class Late(StationCase):
                 os._exit(status)
         status = os.waitpid(child, 0)[1]
         return os.WTERMSIG(status) if os.WIFSIGNALED(status) else os.WEXITSTATUS(status)
-
-
-if __name__ == "__main__":
-    unittest.main()

@@ -1,7 +1,5 @@
 """The command `manifest`: its list against the replies and the store, what it refuses, and what stands beside it."""
 
-from __future__ import annotations
-
 import base64
 import csv
 import hashlib
@@ -14,7 +12,6 @@ import re
 import shutil
 import subprocess
 import sys
-import unittest
 import zipfile
 from unittest import mock
 from xml.etree import ElementTree
@@ -389,7 +386,3 @@ class Manifest(StationCase):
         shutil.copy(self.folder / "one.csr", spool / "A998.csr")
         status, _, err = self.manifest("--all", *more)
         self.assertEqual((status, "with another key than the record" in err), (2, True), err)
-
-
-if __name__ == "__main__":
-    unittest.main()

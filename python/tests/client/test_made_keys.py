@@ -3,8 +3,6 @@
 Expected values are those of docs/line/bench.md.
 """
 
-from __future__ import annotations
-
 import base64
 import hashlib
 import json
@@ -194,7 +192,3 @@ class PrintedKeys(BenchCase):
         self.assertEqual((bench.ended("left")[1], self.holding()), ("passed", set()))
         known = self.asked("GET", f"/v1/device?chip={MAC}")[1]["keys"]
         self.assertEqual(known, {"BLOCK1": hashlib.sha256(self.key[::-1]).hexdigest()})
-
-
-if __name__ == "__main__":
-    unittest.main()

@@ -3,8 +3,6 @@
 What a wish comes to is counted here, from the map's text and docs/integrate/api.md.
 """
 
-from __future__ import annotations
-
 import hashlib
 import json
 import re
@@ -134,7 +132,3 @@ class Esp32(unittest.TestCase):
             self.assertEqual(status, 200, asked)
             if expected is not None:
                 self.assertEqual(reply, expected, asked)
-
-
-if __name__ == "__main__":
-    unittest.main()

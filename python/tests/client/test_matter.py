@@ -1,8 +1,6 @@
 """A bench that writes Matter's certificates: each device's is signed by a PAI behind its identity, before it is
 shipped, by the hook `dac` of deploy/thermostat as it stands; and keys that no certificate of a profile has."""
 
-from __future__ import annotations
-
 import os
 import shutil
 import sys
@@ -41,9 +39,7 @@ class Matter(BenchCase):
         (self.folder / "bin").mkdir()
         script(self.folder / "bin" / "wanekupo", f'exec {sys.executable} -B -m wanekupo "$@"\n')
         named = {"PATH": f"{self.folder}/bin:{os.environ['PATH']}", "WANEKUPO_URL": self.program.url}
-        patch = mock.patch.dict(os.environ, named)
-        patch.start()
-        self.addCleanup(patch.stop)
+        self.enterContext(mock.patch.dict(os.environ, named))
 
     def bench(self, csr, hooks=None, profile=PROFILE):
         """A bench for two parts without fuses, whose requests this script makes."""
@@ -98,7 +94,3 @@ class Matter(BenchCase):
                 self.assertIn(told, said)
                 self.assertEqual(self.asked("GET", "/v1/device?chip=0200000000a1")[1]["state"], "settled")
                 bench.end()
-
-
-if __name__ == "__main__":
-    unittest.main()

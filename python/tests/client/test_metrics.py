@@ -3,8 +3,6 @@ of that is missing. The expected values are counted by hand of what was asked; t
 it is on the machine. The names in deploy/prometheus are held to what the command writes.
 """
 
-from __future__ import annotations
-
 import contextlib
 import json
 import os
@@ -184,8 +182,7 @@ class Metrics(StationCase):
             found, told = self.metrics(*words, "--status", f"{url}/status", **environment)
             self.assertEqual((found["wanekupo_connections_left"], told), (left, ""), seen)
             self.assertEqual(found["wanekupo_http_requests_total"], seen)
-        mail = Canned(b"220 mail.example ESMTP\r\n")
-        self.addCleanup(mail.close)
+        mail = self.enterContext(contextlib.closing(Canned(b"220 mail.example ESMTP\r\n")))
         for url, sentence in (
             (self.canned(200, "text/html", b"<html>"), "isn't nginx's page of its counts"),
             (mail.url, f"What {mail.url} answers is no HTTP. Look at --status"),
@@ -264,9 +261,7 @@ class Journals(StationCase):
         self.journals = self.folder / "journals"
         (self.journals / "acme").mkdir(parents=True)
         self.file = self.journals / "acme" / "a1-2026-11-29.journal"
-        now = mock.patch("wanekupo.metrics.journal_counts.now_text", return_value="2026-12-01T00:00:00Z")
-        now.start()
-        self.addCleanup(now.stop)
+        self.enterContext(mock.patch("wanekupo.metrics.journal_counts.now_text", return_value="2026-12-01T00:00:00Z"))
 
     def add(self, *lines, end="\n"):
         with open(self.file, "a", encoding="ascii") as out:
@@ -488,7 +483,3 @@ class Form(unittest.TestCase):
             status, _, told = ran("metrics", "--shift", hours)
             self.assertEqual(status, 2)
             self.assertRegex(told, "no hours like 'Mon-Fri 06:00-14:00'|ends behind 24:00")
-
-
-if __name__ == "__main__":
-    unittest.main()

@@ -1,13 +1,12 @@
 """A request is done once: by whichever faults it is befallen, and whoever answers it."""
 
-from __future__ import annotations
-
+import contextlib
 import http.client
 import json
 import os
 import signal
-import tempfile
 import time
+import tempfile
 import unittest
 from concurrent.futures import ThreadPoolExecutor
 from unittest import mock
@@ -15,22 +14,8 @@ from unittest import mock
 from books_case import ALWAYS, audited
 from simulated_chip import SimulatedChip
 from support import (
-    CHUNKED,
-    DIGEST,
-    DRIPPING,
-    LIFE,
-    MAC,
-    MAP,
-    ORDER,
-    OTHERS,
-    Canned,
-    Held,
-    Proxy,
-    StationCase,
-    life,
-    rows,
-    steps,
-)
+    CHUNKED, DIGEST, DRIPPING, LIFE, MAC, MAP, ORDER, OTHERS, Canned, Held, Proxy, StationCase, life, rows, steps,
+)  # fmt: skip
 
 import wanekupo.seat.connection
 from wanekupo.common.errors import BadStateFile, NoReply, NotTheServer, OutOfStep
@@ -44,9 +29,7 @@ class Once(StationCase):
 
     def setUp(self):
         super().setUp()
-        patch = mock.patch.object(wanekupo.seat.connection, "FIRST_PAUSE", 0.01)
-        patch.start()
-        self.addCleanup(patch.stop)
+        self.enterContext(mock.patch.object(wanekupo.seat.connection, "FIRST_PAUSE", 0.01))
 
     def test_a_lost_reply(self):
         """The same bytes are sent again, and get the kept reply."""
@@ -248,11 +231,9 @@ class Peers(unittest.TestCase):
 
     def serve(self, *words, **options):
         """A station whose server answers each request with a page, or with bytes and a pause."""
-        canned = Canned.page(*words) if len(words) == 3 else Canned(*words)
-        self.addCleanup(canned.close)
-        folder = tempfile.TemporaryDirectory()
-        self.addCleanup(folder.cleanup)
-        station = Station(canned.url, "abc", f"{folder.name}/a1.json", patience=0, **options)
+        canned = self.enterContext(contextlib.closing(Canned.page(*words) if len(words) == 3 else Canned(*words)))
+        folder = self.enterContext(tempfile.TemporaryDirectory())
+        station = Station(canned.url, "abc", f"{folder}/a1.json", patience=0, **options)
         self.addCleanup(station.close)
         return station
 
@@ -301,7 +282,3 @@ class Peers(unittest.TestCase):
             self.assertNotIn("hell", str(found.exception))
         with self.assertRaises(ValueError):
             Station("htps://127.0.0.1", "abc", None)
-
-
-if __name__ == "__main__":
-    unittest.main()

@@ -3,17 +3,12 @@
 The endings are those of the table in docs/line/bench.md.
 """
 
-from __future__ import annotations
-
 import copy
 import re
 import string
-import tempfile
-import unittest
-from pathlib import Path
 from unittest import mock
 
-from support import ROOT
+from support import ROOT, FolderCase
 
 from wanekupo.bench import words
 from wanekupo.bench.board import Board, ShiftCounts, Socket, box_of, ended_socket, in_common, state_of
@@ -45,16 +40,12 @@ def blanks(*texts):
     return sorted(it[1:3] for text in texts for it in string.Formatter().parse(text) if it[1] is not None)
 
 
-class Words(unittest.TestCase):
+class Words(FolderCase):
     def setUp(self):
         """What a file changes is taken back."""
         for place, values in ((ENDINGS, {}), (words.SAID, copy.deepcopy(words.SAID))):
-            patch = mock.patch.dict(place, values)
-            self.addCleanup(patch.stop)
-            patch.start()
-        folder = tempfile.TemporaryDirectory()
-        self.addCleanup(folder.cleanup)
-        self.folder = Path(folder.name)
+            self.enterContext(mock.patch.dict(place, values))
+        super().setUp()
 
     def file(self, text):
         file = self.folder / "our.toml"
@@ -171,7 +162,3 @@ class Words(unittest.TestCase):
             with self.assertRaises(BadRecipe, msg=more) as caught:
                 read(more)
             self.assertIn(told, str(caught.exception), more)
-
-
-if __name__ == "__main__":
-    unittest.main()

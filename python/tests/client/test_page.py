@@ -4,8 +4,6 @@ It needs Debian's chromium, and is left out where there is none. With PICTURES=1
 docs/line/bench.md.
 """
 
-from __future__ import annotations
-
 import json
 import os
 import unittest
@@ -261,7 +259,3 @@ class Page(BenchCase):
             self.assertTrue(fields["Content-Security-Policy"].startswith("default-src 'none';"), path)
             self.assertNotIn(b"abc", body if path.startswith("/board") else b"")
         self.assertEqual(json.loads(bench.asked("GET", "/board?after=0")[2])["order"], "o1")
-
-
-if __name__ == "__main__":
-    unittest.main()

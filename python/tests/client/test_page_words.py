@@ -3,8 +3,6 @@
 The statuses are those of RFC 9110; no browser and no server is needed.
 """
 
-from __future__ import annotations
-
 import contextlib
 import io
 import json
@@ -42,9 +40,7 @@ class Bench:
 
 class Words(unittest.TestCase):
     def setUp(self):
-        shorter = mock.patch("wanekupo.bench.page.LONGEST_LOOK", 1.0)
-        self.addCleanup(shorter.stop)
-        shorter.start()
+        self.enterContext(mock.patch("wanekupo.bench.page.LONGEST_LOOK", 1.0))
         self.bench = Bench()
         self.page = Page(self.bench, 0)
         self.addCleanup(self.page.close)
@@ -120,8 +116,7 @@ class Words(unittest.TestCase):
         """One above is told so at once, and is served once another one has gone."""
         before, held = threading.active_count(), []
         for _ in range(MOST_CONNECTIONS + 8):
-            one = socket.create_connection(self.address, timeout=5)
-            self.addCleanup(one.close)
+            one = self.enterContext(contextlib.closing(socket.create_connection(self.address, timeout=5)))
             one.sendall(f"GET /board?after={10**9} HTTP/1.1\r\nHost: {self.host}\r\n\r\n".encode())
             held.append(one)
         self.assertIn(self.asked(self.post(TYPED)), ([503], []))
@@ -134,7 +129,3 @@ class Words(unittest.TestCase):
             self.assertLess(time.monotonic(), end)
             time.sleep(0.2)
         self.assertEqual(self.bench.done, ["stop"])
-
-
-if __name__ == "__main__":
-    unittest.main()

@@ -4,9 +4,6 @@ place in the order.
 Expected values are those of docs/integrate/api.md and docs/line/bench.md.
 """
 
-from __future__ import annotations
-
-import unittest
 
 from running import GREEN, RED, BenchCase, macs_of, script
 from simulated_chip import SimulatedChip
@@ -129,7 +126,3 @@ class Planned(BenchCase):
         self.put("left", macs_of(3)[2])
         bench.said("left")
         self.assertEqual(bench.ended("left")[1], "passed")
-
-
-if __name__ == "__main__":
-    unittest.main()

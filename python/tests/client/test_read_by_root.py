@@ -1,21 +1,16 @@
-"""What is read of files that others wrote, by root and by an auditor: no pipe, no link, no bomb, and not for ever.
-
-    python3 -m unittest test_read_by_root
-"""
+"""What is read of files that others wrote, by root and by an auditor: no pipe, no link, no bomb, and not for ever."""
 
 import gzip
 import hashlib
 import json
 import os
-import tempfile
 import tracemalloc
 import unittest
 from email.message import Message
-from pathlib import Path
 from types import SimpleNamespace
 from unittest import mock
 
-import support  # noqa: F401
+from support import FolderCase
 from wanekupo.common import files
 from wanekupo.bench import page
 from wanekupo.books import folder
@@ -31,14 +26,7 @@ ROW = 'seat acme a1 {"digest":null,"last":0,"name":"a1","reply_sha256":null}\n'
 NAMES = ("chain", "000001.rows", "000001.rows.gz", "000001.seal", "000001.seal.minisig", "000001.tsr")
 
 
-class Folder(unittest.TestCase):
-    def setUp(self):
-        made = tempfile.TemporaryDirectory()
-        self.addCleanup(made.cleanup)
-        self.folder = Path(made.name)
-
-
-class Seals(Folder):
+class Seals(FolderCase):
     def seal(self, data, rows):
         """A folder of one seal over these bytes, which its line says are so many rows."""
         made = sealed(NONE, 1, AT, "acme", rows, hashlib.sha256(data).hexdigest())
@@ -110,7 +98,7 @@ def lines(seat, chip):
     return "".join(json.dumps(it) + "\n" for it in (asked, replied))
 
 
-class Journals(Folder):
+class Journals(FolderCase):
     def setUp(self):
         super().setUp()
         for name, seat in (("pc7", "a1"), ("pc8", "b1")):
@@ -176,7 +164,3 @@ class Journals(Folder):
         (self.folder / "link").symlink_to(self.folder / "all/pc7")
         with self.assertRaisesRegex(UnsafeFile, "others than root write .*/all,"):
             files.tested_reading(self.folder / "link")
-
-
-if __name__ == "__main__":
-    unittest.main()

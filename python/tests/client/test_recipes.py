@@ -3,10 +3,7 @@
 Expected are the sentences of docs/line/bench.md's rules, and that nothing is sent.
 """
 
-from __future__ import annotations
-
 import json
-import unittest
 
 from running import MAP_FILE, SECONDS, BenchCase, Running, script, tool
 
@@ -115,7 +112,3 @@ class Recipes(BenchCase):
         (self.folder / "bad.toml").write_text(text, encoding="utf-8")
         told = f"its map, {self.folder}/esp32.toml, is no fuse map: station-site check says why."
         self.assertEqual(self.said_by("bad.toml"), [f"{self.folder}/bad.toml: {told}", self.NONE_BEGUN])
-
-
-if __name__ == "__main__":
-    unittest.main()

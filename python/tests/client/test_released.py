@@ -3,9 +3,6 @@
 Expected values are those of docs/line/bench.md, and what the shell's own commands print.
 """
 
-from __future__ import annotations
-
-import unittest
 
 from running import ASK_WHERE, ENDED, BenchCase, macs_of, script
 from support import MAC
@@ -104,7 +101,3 @@ class Released(BenchCase):
             lines = [it for it in strict_lines(self.folder / "a1.journal") if "path" in it]
             self.assertEqual({it["operator"] for it in lines if it["asked"].get("chip") == mac}, {good})
             bench.end()
-
-
-if __name__ == "__main__":
-    unittest.main()

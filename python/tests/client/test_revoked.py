@@ -1,10 +1,7 @@
 """What a CA revoked, in `manifest` and `verify`, and what is named wrongly: folders, files, secrets that others can
 read."""
 
-from __future__ import annotations
-
 import json
-import unittest
 
 from certifying import ORDER, CertificateCase, made_ca, need
 from commanding import NEEDS_KEYS
@@ -79,7 +76,3 @@ class Revoked(CertificateCase):
         (self.ca / "ca.cnf").write_text(config, encoding="utf-8")
         (self.ca / "ca.key").chmod(0o640)
         self.assertIn(f"chmod go-rwx {self.ca}/ca.key", self.certify()[2])
-
-
-if __name__ == "__main__":
-    unittest.main()

@@ -3,13 +3,10 @@
 Expected are the sentences and rules of docs/line/bench.md, and the states of docs/integrate/api.md.
 """
 
-from __future__ import annotations
-
 import json
 import os
 import subprocess
 import sys
-import unittest
 
 from running import PYTHONPATH, BenchCase, macs_of, script
 from support import DIGEST, MAC, MAP, ORDER
@@ -187,7 +184,3 @@ class Scrapping(BenchCase):
         told = "Somebody else used this bench's seat (refusal 12): touch nothing, and call the engineer."
         self.assertEqual(bench.until(lambda board: board["stopped"])["stopped"], told)
         self.assertEqual(self.state(), ("quarantined", "stray"))
-
-
-if __name__ == "__main__":
-    unittest.main()

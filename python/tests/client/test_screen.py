@@ -5,8 +5,6 @@ docs/line/bench.md. What it expects is that page's: capitals of 12.8 mm (22 minu
 is 2 * 2000 mm * tan(11')), letters at least half as wide as high (ISO 9241-303), and controls of 20 mm.
 """
 
-from __future__ import annotations
-
 import copy
 import json
 import math
@@ -382,7 +380,3 @@ class Screen(unittest.TestCase):
     def assert_within(self, inner, outer, told):
         for place, sign in enumerate((1, 1, -1, -1)):
             self.assertGreaterEqual(sign * (inner[place] - outer[place]), -1.5, told)
-
-
-if __name__ == "__main__":
-    unittest.main()

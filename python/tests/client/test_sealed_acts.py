@@ -1,8 +1,5 @@
 """What root had done is sealed with a plant's books: `wanekupo seal --store COPY --acts FILE`."""
 
-from __future__ import annotations
-
-import unittest
 
 from commanding import ran
 from support import StationCase
@@ -32,7 +29,3 @@ class SealedActs(StationCase):
             self.assertTrue(rows == sorted(rows) and rows[1].startswith(b"act 0000000002 {"), rows)
         for words in (["--customer", "acme"], ["--verify"]):
             self.assertEqual(ran("seal", seals, *words, "--acts", file)[0], 2)
-
-
-if __name__ == "__main__":
-    unittest.main()

@@ -1,17 +1,15 @@
 """`wanekupo ship-journal`, as a user gives it: what is at the other place, and that nothing there is replaced."""
 
-from __future__ import annotations
-
 import contextlib
 import io
 import os
 import shutil
-import tempfile
 import unittest
-from pathlib import Path
 from unittest import mock
 
 import support  # noqa: F401  (it puts the package into Python's path)
+
+from support import FolderCase
 
 from wanekupo.cli.main import main
 from wanekupo.seat.journal import Journal
@@ -28,12 +26,10 @@ def ran(*words, **environment):
     return status, out.getvalue(), err.getvalue()
 
 
-class Shipping(unittest.TestCase):
+class Shipping(FolderCase):
     def setUp(self):
         self.addCleanup(os.umask, os.umask(0o022))  # as of a service
-        folder = tempfile.TemporaryDirectory()
-        self.addCleanup(folder.cleanup)
-        self.folder = Path(folder.name)
+        super().setUp()
         self.to = self.folder / "to"
         self.to.mkdir()
         self.own = self.made("own")
@@ -116,7 +112,3 @@ class Shipping(unittest.TestCase):
                 self.assertEqual((status, out), (2, ""))
                 self.assertTrue(err.startswith(line), err)
                 self.assertEqual(err.count("\n"), 1)
-
-
-if __name__ == "__main__":
-    unittest.main()

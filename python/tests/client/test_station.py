@@ -4,8 +4,6 @@ Expected values are those of docs/integrate/api.md and docs/first-chip.md, never
 `crates/station/out/station`, or what the variable STATION_PROGRAM names; `bench/client` sets it.
 """
 
-from __future__ import annotations
-
 import os
 import shlex
 import subprocess
@@ -16,23 +14,9 @@ from unittest import mock
 
 from simulated_chip import SimulatedChip
 from support import (
-    BLANK,
-    DIGEST,
-    FIRST,
-    FLASH_DIGEST,
-    LIFE,
-    MAC,
-    MAP,
-    NOTHING,
-    ORDER,
-    PUBLIC_KEY,
-    SECOND,
-    WISHES,
-    StationCase,
-    life,
-    rows,
-    steps,
-)
+    BLANK, DIGEST, FIRST, FLASH_DIGEST, LIFE, MAC, MAP, NOTHING, ORDER, PUBLIC_KEY, SECOND, WISHES, StationCase, life,
+    rows, steps,
+)  # fmt: skip
 
 from wanekupo.chips.chip import bit
 from wanekupo.seat.import_rows import import_parts
@@ -123,9 +107,7 @@ class Commands(StationCase):
     @unittest.skipUnless(os.environ.get("ESPEFUSE"), "the words of a real espefuse.py aren't in ESPEFUSE")
     def test_a_life_over_espefuse_itself(self):
         """espefuse's own virtual chip; without --no-protect-key the same key ends as `stray`."""
-        station = self.station()
-        station.make_order(**ORDER)
-        station.import_map(MAP)
+        station = self.prepared()
         for mac, protects in ((MAC, False), ("240ac4000002", True)):
             words = ["--chip", "esp32", "--virt", "--path-efuse-file", str(self.folder / mac), "--do-not-confirm"]
             chip_io = Espefuse([*shlex.split(os.environ["ESPEFUSE"]), *words], self.keys)
@@ -145,9 +127,7 @@ class Commands(StationCase):
                 self.assertEqual(steps(self.ledger(mac)), LIFE)
 
     def test_refusals_have_their_numbers(self):
-        station = self.station()
-        station.make_order(**ORDER)
-        station.import_map(MAP)
+        station = self.prepared()
         station.register(MAC, "o1", DIGEST, self.chip().read())
         other, others = "240ac4000002", self.chip("240ac4000002").read()
         overlapping = MAP.replace("count = 4, write = 0", "count = 5, write = 0")
@@ -178,9 +158,7 @@ class Commands(StationCase):
 
     def test_imports(self):
         """A number that an import gave is passed over; one that is there with its key changes nothing."""
-        station = self.station()
-        station.make_order(**ORDER)
-        station.import_map(MAP)
+        station = self.prepared()
         self.assertEqual(station.import_serials("acme-ca", rows("A998 Z1")), Imported(2, 0))
         self.assertEqual(station.import_serials("acme-ca", rows("Z1 Z2")), Imported(1, 1))
         self.assertEqual(station.import_serials("acme-ca", []), Imported(0, 0))
@@ -228,9 +206,7 @@ class Commands(StationCase):
         self.assertEqual(station.import_all("acme-ca", given), (Imported(200, 500), 0))
 
     def test_a_long_ledger_is_shown_whole(self):
-        station = self.station()
-        station.make_order(**ORDER)
-        station.import_map(MAP)
+        station = self.prepared()
         chip = self.chip()
         station.register(MAC, "o1", DIGEST, chip.read())
         station.plan(MAC, WISHES)
@@ -282,9 +258,7 @@ class Quarantine(StationCase):
 
     def setUp(self):
         super().setUp()
-        self.seat = self.station()
-        self.seat.make_order(**ORDER)
-        self.seat.import_map(MAP)
+        self.seat = self.prepared()
         self.held = self.chip()
         self.seat.register(MAC, "o1", DIGEST, self.held.read())
         self.seat.plan(MAC, WISHES)
@@ -349,7 +323,3 @@ class Quarantine(StationCase):
             device = self.seat.settle(MAC, self.held)
         self.assertEqual((device.state, device.batch1, device.batch2), ("awaiting1", FIRST, SECOND))
         self.assertEqual(steps(self.ledger())[2:], ["read short"])
-
-
-if __name__ == "__main__":
-    unittest.main()

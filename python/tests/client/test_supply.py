@@ -4,13 +4,10 @@ scrapped behind their identity, which gives their places back and not their numb
 Expected values are those of docs/integrate/api.md and docs/line/bench.md.
 """
 
-from __future__ import annotations
-
 import hashlib
 import os
 import random
 import threading
-import unittest
 from unittest import mock
 
 from running import BenchCase, is_passed, macs_of, script
@@ -263,7 +260,3 @@ class Moments(StationCase):
         ask(lambda station: station.read_back(mac, chip.read()))
         ask(lambda station: station.identify(mac, mac.encode()))
         return ask(lambda station: station.ship(mac))
-
-
-if __name__ == "__main__":
-    unittest.main()

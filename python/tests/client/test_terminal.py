@@ -3,12 +3,9 @@
 Expected values are those of docs/line/bench.md.
 """
 
-from __future__ import annotations
-
 import json
 import re
 import time
-import unittest
 
 from running import BenchCase, Terminal, macs_of, script
 from support import MAC
@@ -239,7 +236,3 @@ class Begun(BenchCase):
         self.assertEqual([it["result"] for it in self.logged() if "result" in it], ["passed", "passed"])
         self.put("left", mac)
         bench.until(lambda board: board["sockets"][0]["reason"] == "passed_before")
-
-
-if __name__ == "__main__":
-    unittest.main()

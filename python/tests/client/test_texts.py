@@ -37,9 +37,7 @@ def blocks_of(text):
 
 class Texts(unittest.TestCase):
     def setUp(self):
-        folder = tempfile.TemporaryDirectory()
-        self.addCleanup(folder.cleanup)
-        self.path = str(Path(folder.name) / "a.key")
+        self.path = str(Path(self.enterContext(tempfile.TemporaryDirectory())) / "a.key")
         Path(self.path).write_bytes(bytes(range(32)))
 
     def test_a_dump(self):
@@ -93,7 +91,3 @@ class Texts(unittest.TestCase):
         self.assertTrue(shows_work(blocks, Work((Word(0, 6, 0x40), Word(0, 0, 0x110080)), {"BLOCK2": KEY_SHA256})))
         self.assertFalse(shows_work(blocks, Work((Word(0, 6, 0x41),), {})))
         self.assertFalse(shows_work(blocks, Work((), {"BLOCK1": hashlib.sha256(bytes(range(31, -1, -1))).hexdigest()})))
-
-
-if __name__ == "__main__":
-    unittest.main()

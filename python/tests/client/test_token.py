@@ -1,9 +1,6 @@
 """A seat that gets another token, as from a proxy that knows tokens of its own, and a token that is another seat's."""
 
-from __future__ import annotations
-
 import json
-import unittest
 
 from support import LIFE, MAC, MAP, ORDER, StationCase, TokenProxy, life, steps
 
@@ -206,7 +203,3 @@ class Tokens(StationCase):
         for words in (["--new-token", "finish"], ["finish"]):
             status, out, err = ran(*common, *words)
             self.assertEqual((status, '"path":"/v1/map"' in out, err), (0, True, ""))
-
-
-if __name__ == "__main__":
-    unittest.main()

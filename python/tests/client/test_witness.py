@@ -1,7 +1,5 @@
 """What a witness says: the highest number of each seat that has its reply, as the store has it or a lower one."""
 
-from __future__ import annotations
-
 import json
 import re
 

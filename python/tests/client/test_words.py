@@ -1,7 +1,5 @@
 """The command line over the program."""
 
-from __future__ import annotations
-
 import io
 import json
 import shutil
@@ -60,18 +58,6 @@ class Words(StationCase):
             file.write_text(text, encoding="utf-8")
             self.assertEqual(self.ran(*words)[::2], (2, told))
 
-    def test_an_older_store(self):
-        """The line at 11 sends nobody to --resynchronize where the store may be one that nobody restored."""
-        (self.folder / "map").write_text(MAP, encoding="utf-8")
-        self.program.copied(self.folder / "backup")
-        self.assertEqual(self.ran("map", str(self.folder / "map"))[0], 0)
-        self.program.restored(self.folder / "backup")
-        status, out, err = self.ran("ship", MAC)
-        self.assertEqual((status, out), (5, ""))
-        self.assertIn("/v1/ship was sent with number 2, and the server expects 1", err)
-        self.assertIn("older", err)
-        self.assertNotIn("--resynchronize", err)
-
     def test_statuses(self):
         order = ["make-order", "o1", "acme-ca", "A", "--width", "3", "--first", "998", "--quantity", "2", "--yes"]
         status, out, _ = self.ran(*order)
@@ -112,7 +98,3 @@ class Words(StationCase):
             self.assertEqual(self.ran("devices", *words)[:2], (0, f"{MAC},o1,quarantined,stray,\n"))
         for words in (["--state", "shipped"], ["--after", MAC]):
             self.assertEqual(self.ran("devices", *words)[:2], (0, ""))
-
-
-if __name__ == "__main__":
-    unittest.main()

@@ -1,8 +1,6 @@
 """What two printed reports say of a period, and which chips were lost. The counts are made up, and subtracted by hand.
 """
 
-from __future__ import annotations
-
 import json
 import unittest
 from datetime import datetime, timezone
@@ -100,9 +98,7 @@ class Yield(StationCase):
 
     def test_the_report_of_now(self):
         """A customer's and the site's, each with what a chip's life adds to what was printed before."""
-        station = self.station()
-        station.make_order(**ORDER)
-        station.import_map(MAP)
+        station = self.prepared()
         for name, token in (("acme", "abc"), ("site", "test")):
             self.written(f"{name}.token", token)
             (self.folder / f"{name}.token").chmod(0o600)
@@ -214,7 +210,3 @@ class Lost(StationCase):
         status, out, _ = ran("lost", *words, "--to", DAY + "06:00Z")
         self.assertEqual([line.split()[2:] for line in out.splitlines()[1:]], [[self.STRAY, "stray"]])
         self.assertEqual(ran("lost", *words, *moments[2:], "--from", DAY + "14:00Z")[0], 2)
-
-
-if __name__ == "__main__":
-    unittest.main()

@@ -1,7 +1,5 @@
 """What is noted of who had root do what. Expected are the environment's own words, and sshd(8)."""
 
-from __future__ import annotations
-
 import json
 import os
 import re

@@ -1,8 +1,6 @@
 """Seals of two stores, in which one thing more was given twice: `wanekupo apart` names it with both stores. Files that
 were cut, changed or not sorted, and two seals of one store, are refused. What is twice is written by hand."""
 
-from __future__ import annotations
-
 import gzip
 import os
 from pathlib import Path

@@ -4,7 +4,7 @@ import json
 import os
 
 import pytest
-from wanekupo.plant.backup.folder import NAME, encrypted, last_of, last_snapshot, remove_begun, staying_backups
+from wanekupo.plant.backup.folder import NAME, last_of, last_snapshot, staying_backups
 
 LATE, END = "T020000Z", ".tar.age"
 
@@ -97,32 +97,3 @@ def test_note_that_is_no_plain_file(tmp_path):
     noted.unlink()
     other.rename(noted)
     assert last_of(tmp_path) == json.loads('{"snapshot": "lvm"}')
-
-
-def test_what_killed_runs_left_is_removed(tmp_path):
-    """What a run has begun, at once; a trial's copy once it is an hour old. A link goes, and not what it names."""
-    elsewhere = tmp_path / "elsewhere"
-    (elsewhere / "kept").mkdir(parents=True)
-    folder = tmp_path / "all"
-    for name in (".new-2026-11-29T020000Z", "trial.old", "trial.now", "2026-11-28T020000Z"):
-        (folder / name).mkdir(parents=True)
-        (folder / name / "books.db").write_text("x")
-    (folder / ".new-2026-11-29T020000Z.tar.age").write_text("x")
-    (folder / ".new-link").symlink_to(elsewhere)
-    os.utime(folder / "trial.old", (0, 0))
-    gone = [".new-2026-11-29T020000Z", ".new-2026-11-29T020000Z.tar.age", ".new-link", "trial.old"]
-    assert remove_begun(folder) == gone
-    assert sorted(it.name for it in folder.iterdir()) == ["2026-11-28T020000Z", "trial.now"]
-    assert (elsewhere / "kept").is_dir()
-
-
-def test_age_that_fails_is_an_error_and_leaves_the_backup(tmp_path, monkeypatch):
-    begun, commands = tmp_path / ".new-x", tmp_path / "bin"
-    begun.mkdir()
-    commands.mkdir()
-    (commands / "age").write_text("#!/bin/sh\necho 'age: error: no' >&2\nexit 1\n")
-    (commands / "age").chmod(0o755)
-    monkeypatch.setenv("PATH", f"{commands}:{os.environ['PATH']}")
-    with pytest.raises(Exception, match="age doesn't encrypt the backup: age: error: no"):
-        encrypted(begun, "x", ["age1x"])
-    assert begun.is_dir()

@@ -83,24 +83,6 @@ def test_tidy_removes_backups_alone(tmp_path):
     assert sorted(os.listdir(tmp_path)) == sorted([*mine, "2026-11-03T140000Z", "2026-11-04T020000Z.tar.age"])
 
 
-@pytest.mark.parametrize("days, weeks, names, kept", [
-    # ISO 8601: 2026-12-28 to 2027-01-03 is week 53 of 2026; a week begins with Monday.
-    (0, 2, ["2026-12-27", "2026-12-28", "2026-12-31", "2027-01-03", "2027-01-04"], ["2027-01-03", "2027-01-04"]),
-    (0, 3, ["2026-12-27", "2026-12-28", "2026-12-31", "2027-01-03", "2027-01-04"],
-     ["2026-12-27", "2027-01-03", "2027-01-04"]),
-    (0, 1, ["2024-12-30", "2025-01-05"], ["2025-01-05"]), (0, 2, ["2024-12-30", "2025-01-05"], ["2025-01-05"]),
-    (0, 0, ["2026-01-01", "2026-01-02"], ["2026-01-02"]),
-    (1, 5, ["2025-01-01", "2026-01-01"], ["2025-01-01", "2026-01-01"]),
-    (2, 0, ["2025-01-01", "2026-01-01", "2026-05-05"], ["2026-01-01", "2026-05-05"]),
-])  # fmt: skip
-def test_tidy_by_days_and_weeks(tmp_path, days, weeks, names, kept):
-    """The newest always stays; a day or a week without a backup takes none away."""
-    for name in names:
-        put(tmp_path / f"{name}T020000Z/file")
-    tidy(tmp_path, days, weeks)
-    assert sorted(os.listdir(tmp_path)) == [f"{name}T020000Z" for name in kept]
-
-
 # ---- names and the lock
 
 
@@ -315,9 +297,3 @@ def test_only_what_may_be_a_size_is_one(tmp_path, size, found):
     """The store's user writes that file, and root's lvcreate gets the size."""
     put(tmp_path / "last-backup.json", json.dumps({"snapshot": "lvm", "snapshot_size": size}))
     assert last_snapshot(tmp_path) == ("lvm", found)
-
-
-def test_nothing_noted(tmp_path):
-    assert last_snapshot(tmp_path) == ("", "")
-    put(tmp_path / "last-backup.json", "{}")
-    assert last_snapshot(tmp_path) == ("", "")

@@ -57,15 +57,3 @@ def test_a_day_of_a_clock_that_was_ahead_is_not_the_last_one(kept: Path) -> None
     before = kept / "2000-01-01/pc8/x/a.journal"
     (today,) = {*kept.glob("*/pc8/x/a.journal")} - {before}
     assert today.samefile(before)
-
-
-def test_what_costs_a_station_nothing_costs_no_room_either(kept: Path) -> None:
-    """A file of many names is kept once; empty folders, and what is no journal, aren't."""
-    folder = kept.parents[1] / "lib/journals/all/pc8"
-    for name in ("b.journal", "none"):
-        (folder / "x" / name).hardlink_to(folder / "x/a.journal")
-    (folder / "empty/e").mkdir(parents=True)
-    run(kept)
-    found = {it.relative_to(kept).parts[2:]: it.stat().st_ino for it in kept.glob("*/pc8/**/*")}
-    assert set(found) == {("x",), ("x", "a.journal"), ("x", "b.journal")}
-    assert found["x", "a.journal"] == found["x", "b.journal"]

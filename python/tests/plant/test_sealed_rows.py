@@ -1,8 +1,6 @@
 """Rows of a seal in which something came twice, or is of another name or order: `seal --verify` says so of the rows
 alone, also where all of them came since the seal before. Numbers and addresses are reckoned by hand."""
 
-from __future__ import annotations
-
 import json
 
 import pytest

@@ -5,8 +5,6 @@ there answers whatever they have a row for, and the seat is killed between any t
 number is 7; here it is any.
 """
 
-from __future__ import annotations
-
 import contextlib
 import http.client
 import json

@@ -1,8 +1,6 @@
 """The CA of stations' certificates, deploy/ca/stations.cnf, by the commands at its head: a certificate has the name
 that the operator gives, whatever the request asks for."""
 
-from __future__ import annotations
-
 import re
 import shutil
 import subprocess

@@ -8,7 +8,6 @@ from pathlib import Path
 
 import pytest
 from wanekupo.common import token_file
-from wanekupo.standby.half import StandbySettings
 from scripts import script
 from wanekupo.common.token_file import LAST, Outer, TokenSeat, TokenError, Tokens, mark_of, tokens_of
 
@@ -85,24 +84,6 @@ def state_of(tokens):
     return {it.token: (bool(it.text), it.until, it.ended) for it in tokens.outers}
 
 
-def test_revoke_ends_one_or_all_of_a_seat():
-    for name, gone in (("a1:1", ["a1:1"]), ("a1", ["a1:1", "a1:2"]), ("b1", ["b1:3"])):
-        tokens = tokens_with(outer(1), outer(2), outer(3, "b1"), outer(4, "b1", text="", ended="2026-11-01T00:00"))
-        marks = {it.token: it.mark for it in tokens.outers}
-        done = token.revoke(args_of("revoke", name), tokens)
-        ended = {it.token for it in tokens.outers if it.ended == f"{DAY}T10:00"}
-        assert ended == set(gone) and not any(it.text for it in tokens.outers if it.ended)
-        assert {it.token: it.mark for it in tokens.outers} == marks
-        assert done.is_change and all(f"{it} has ended" in done.told for it in gone)
-
-
-@pytest.mark.parametrize("name", ["a1:9", "b1:5", "c1", "", "a1:"])
-def test_nothing_to_revoke(name):
-    tokens = tokens_with(outer(1), outer(4, "b1", text="", ended="2026-11-01T00:00"))
-    with pytest.raises(TokenError, match="there is no outer token"):
-        token.revoke(args_of("revoke", name), tokens)
-
-
 def test_rotate_gives_another_and_ends_the_old_one_now():
     tokens = tokens_with(outer(1, looks=True, until=f"2026-12-24{LAST}", holder="line 1"), outer(7, "b1"))
     done = token.rotate(args_of("rotate", "a1:1"), tokens)
@@ -140,28 +121,8 @@ def test_not_rotated(outers, name, told):
     assert tokens.outers == outers
 
 
-def test_add_gives_what_is_asked_for():
-    tokens = tokens_with()
-    token.add_outer(args_of("add", "a1", "--look", "--until", "2026-12-24", "--holder", "office"), tokens)
-    token.add_outer(args_of("add", "b1", "--certificate", "CN=pc7,O=Our plant"), tokens)
-    looks, certificate = tokens.outers
-    assert (looks.token, looks.looks, looks.until, looks.holder) == ("a1:10", True, f"2026-12-24{LAST}", "office")
-    assert (certificate.text, certificate.subject, certificate.number) == ("", "CN=pc7,O=Our plant", 2)
-    for words, told in ((("add", "c1"), "there is no seat"), (("add", "a1", "--until", "2026-11-28"), "is past"),
-                        (("add", "a1", "--certificate", "CN=pc7,O=Our plant"), "has a seat already"),
-                        (("add", "a1", "--certificate", 'CN="x'), "is no subject"),
-                        (("add", "a1", "--holder", "x\x1b"), "is no text")):  # fmt: skip
-        with pytest.raises(TokenError, match=told):
-            token.add_outer(args_of(*words), tokens)
-    assert len(tokens.outers) == 2
-
-
-def test_the_list_shows_no_token():
+def test_the_list_in_json_shows_no_token():
     tokens = tokens_with(outer(1), outer(2, until=f"2026-11-28{LAST}"), outer(3, text="", ended="2026-11-01T00:00"))
-    lines = token.show(args_of("list", "--all"), tokens).shown.splitlines()
-    assert [line.split()[0] for line in lines] == ["name", "a1:1", "a1:2", "a1:3"]
-    assert "2026-11-28 past" in lines[2] and "ended 2026-11-01T00:00" in lines[3]
-    assert len(token.show(args_of("list"), tokens).shown.splitlines()) == 3
     first, second = map(json.loads, token.show(args_of("list", "--json"), tokens).shown.splitlines())
     assert (first["name"], first["seat"], second["until"]) == ("a1:1", "a1", "2026-11-28 past")
     assert not {it.text for it in tokens.outers if it.text} & {*first.values(), *second.values()}
@@ -229,20 +190,3 @@ def test_a_site_file_lies_where_nobody_else_puts_another(tmp_path):
     with pytest.raises(TokenError, match="others may write it"):
         token.run_token(args_of(*words, str(site)))
     assert there.read_text() == site.read_text() == SITE and not path.exists()
-
-
-def test_a_list_that_cant_be_left_is_status_6(tmp_path, monkeypatch):
-    path, _ = files(tmp_path)
-    monkeypatch.setattr(token, "SETTINGS", tmp_path)
-    monkeypatch.setattr(token, "read_settings", lambda: StandbySettings(tokens=str(path)))
-    monkeypatch.setattr(token.Half, "is_mounted", lambda self: True)
-    frozen = token.StandbyError("frozen.")
-    monkeypatch.setattr(token.living, "leave", lambda half, tokens: (_ for _ in ()).throw(frozen))
-    with pytest.raises(TokenError, match="the other machine doesn't know it. frozen") as error:
-        token.run_token(args_of("--file", str(path), "--no-reload", "seat", "a1", "--customer", "acme"))
-    assert error.value.status == 6 and "a1" in tokens_of(path.read_text(), path).seats
-    left = []
-    monkeypatch.setattr(token.living, "leave", lambda half, tokens: left.append(sorted(tokens.seats)))
-    token.run_token(args_of("--file", str(path), "--no-reload", "seat", "b1", "--customer", "bolt"))
-    token.run_token(args_of("--file", str(path), "--no-reload", "list"))
-    assert left == [["a1", "b1"]]

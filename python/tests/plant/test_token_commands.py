@@ -1,10 +1,10 @@
 """The commands for tokens: what each makes, ends and prints, what is refused, and what is left where nginx refuses."""
 
+import contextlib
 import os
 import re
 import stat
 import sys
-import tomllib
 
 import pytest
 from wanekupo.common import token_file
@@ -224,23 +224,6 @@ def test_a_token_that_nginx_cannot_have(tmp_path, text):
         token.inner_of(str(tmp_path / "inner"))
 
 
-def test_a_seat_into_a_site_file(file, tmp_path):
-    (tmp_path / "new.toml").write_text("# mine\n[[customer]]\nname = 'acme'\nissuer = []\n")
-    found = done(file, "seat", "a2", "--customer", "acme", "--into", str(tmp_path / "new.toml"))
-    digest = token.digest_of(found.seats["a2"].inner)
-    text = "# mine\n[[customer]]\nname = 'acme'\nissuer = []\n"
-    seat = f'[[customer.seat]]\nname = "a2"\ntoken = "{digest}"\n'
-    assert (tmp_path / "new.toml").read_text() == text + seat
-
-
-def test_no_line_stands_in_a_string():
-    """What looks like the customer's section in a text of several lines is none."""
-    text = "note = '''\n[[customer]]\nname = \"acme\"\n[x]\n'''\n[[customer]]\nname = \"acme\"\nissuer = []\n"
-    found = tomllib.loads(token.with_seat(text, TokenSeat("a1", "acme", "abc"), "t"))
-    assert found["customer"] == [{"name": "acme", "issuer": [], "seat": [{"name": "a1", "token": ABC}]}]
-    assert found["note"] == tomllib.loads(text)["note"]
-
-
 @pytest.mark.parametrize("mode, is_fit", [(0o700, True), (0o755, True), (0o711, True), (0o775, False), (0o757, False)])
 def test_a_folder_that_others_write_is_refused(file, mode, is_fit):
     """Whoever may write there may be every caller; who may pass through it reads no token."""
@@ -283,7 +266,7 @@ def test_add(file, capsys, more, changes):
 
 @pytest.mark.parametrize("more", [
     ["--until", "2026-06-14"], ["--certificate", "CN=$x"], ["--holder", "a\nb"], ["--holder", "x" * 81],
-    ["--holder", "é"],
+    ["--holder", "é"], ["--holder", "x\x1b"],
 ])  # fmt: skip
 def test_add_refuses(file, more):
     put(file, tokens_text(seats()))
@@ -325,8 +308,10 @@ def test_revoke(file, name, ended):
     found = done(file, "revoke", name)
     assert [it.number for it in found.outers if it.ended and it.number != 12] == ended
     assert all(bool(it.text) != bool(it.ended) for it in found.outers), "one that has ended keeps no text"
-    with pytest.raises(TokenError):
-        done(file, "revoke", "a1:")
+    assert {it.mark for it in found.outers} == {"0" * 12}, "and its mark"
+    for other in ("a1:", "a1:9", "c1", ""):
+        with pytest.raises(TokenError, match="there is no outer token"):
+            done(file, "revoke", other)
 
 
 def test_a_token_whose_time_is_past_stays_ended(file, monkeypatch):
@@ -479,7 +464,10 @@ def test_one_of_two_machines(file, tmp_path, monkeypatch, capsys, is_mounted, le
     monkeypatch.setattr(token, "read_settings", lambda: StandbySettings(tokens=str(file)))
     monkeypatch.setattr(token.Half, "is_mounted", lambda it: is_mounted)
 
+    lists = []
+
     def leave(half, tokens):
+        lists.append(sorted(tokens.seats))
         if left:
             raise token.StandbyError(left)
 
@@ -487,10 +475,14 @@ def test_one_of_two_machines(file, tmp_path, monkeypatch, capsys, is_mounted, le
     missed = token.left_to_the_other(file, seats())
     assert (missed and missed.status) == status and told in capsys.readouterr().err
     put(file, tokens_text(seats()))
-    monkeypatch.setattr(token, "commit", lambda *_: TokenError(5, "no worker"))
-    with pytest.raises(TokenError, match="no worker" + ("\n.*frozen" if left else "")) as error:
-        token.run_token(words(file, "add", "a1"))
-    assert error.value.status == 5
+    for late, wanted in ((None, status), (TokenError(5, "no worker"), 5)):
+        monkeypatch.setattr(token, "commit", lambda *_, late=late: late)
+        said = "\n.*".join(filter(None, (late and "no worker", left)))
+        with pytest.raises(TokenError, match=said) if wanted else contextlib.nullcontext() as error:
+            token.run_token(words(file, "add", "a1"))
+        assert wanted is None or error.value.status == wanted
+    token.run_token(words(file, "list"))
+    assert lists == is_mounted * 3 * [["a1", "b1"]], "a look leaves none"
 
 
 def test_on_one_machine_alone_nothing_is_left(file, tmp_path, monkeypatch):

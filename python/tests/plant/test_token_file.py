@@ -152,14 +152,13 @@ def test_a_token_goes_to_its_own_seats_server():
     assert NGINX.filled("$caller_server $caller_customer $caller_name", known) == "station acme a1:1"
 
 
-MINUTES = ["2026-11-29T09:59", "2026-11-29T10:00", "2026-12-24T23:59", "2026-12-25T00:00", "2027-01-01T00:00",
-           "2029-12-31T23:59", "2030-01-01T00:00", "2099-09-09T19:09", "2999-12-31T23:59"]  # fmt: skip
-
-
-@pytest.mark.parametrize("minute", MINUTES)
-def test_later_minutes_are_those_behind_it(minute):
-    found = [it for it in MINUTES if re.search(later_minute(minute), f"{it}:30+01:00")]
-    assert found == [it for it in MINUTES if it > minute]
+def test_later_minutes_are_those_behind_it():
+    """Beside a comparison of texts."""
+    times = [f"{y}-{m:02}-{d:02}T{h:02}:{i:02}" for y in (2025, 2026, 2027, 2030, 2100) for m in range(1, 13)
+             for d in (1, 9, 10, 19, 28, 30, 31) for h in (0, 9, 19, 23) for i in (0, 9, 10, 58, 59)]  # fmt: skip
+    for end in times[::311] + ["2026-11-28T23:59", "2029-12-31T23:59", "2099-09-09T19:09", "2999-12-31T23:59"]:
+        later = re.compile(later_minute(end))
+        assert [it for it in times if later.search(f"{it}:30+01:00")] == [it for it in times if it > end]
 
 
 def test_the_file_is_read_again_as_it_was():

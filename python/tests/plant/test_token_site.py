@@ -1,12 +1,11 @@
-"""A seat in a site file: whether it is there, and its lines in a new text, by Python's own reader of TOML."""
+"""A seat's lines in a new text of a site, by Python's own reader of TOML."""
 
 import tomllib
 
 import pytest
 from wanekupo.common.errors import PlantError
 from wanekupo.common.token_file import TokenSeat
-from wanekupo.plant.site.growth import lines_of, with_seat
-from wanekupo.plant.token import digests_of, is_in
+from wanekupo.plant.site.growth import with_seat
 
 ABC = "ba7816bf8f01cfea414140de5dae2223b00361a396177a9cb410ff61f20015ad"
 A2 = TokenSeat("a2", "acme", "abc")
@@ -25,35 +24,6 @@ token = "{0}"
 issuer = ["bolt-ca"]
 name = 'bolt'
 """.format("0" * 64)
-
-
-def test_lines():
-    assert lines_of(A2) == f'[[customer.seat]]\nname = "a2"\ntoken = "{ABC}"\n'
-    assert lines_of(TokenSeat("@manager", "@manager", "abc")) == f'[manager]\ntoken = "{ABC}"\n'
-
-
-def test_digests_of_a_site(tmp_path):
-    site = tmp_path / "site.toml"
-    site.write_text(BOTH + f'[manager]\ntoken = "{ABC.upper()}"\n')
-    assert digests_of(site) == {"a1": ("acme", "0" * 64), "@manager": ("@manager", ABC)}
-    site.write_text("customer = []\n")
-    assert digests_of(site) == {}
-
-
-IN = [
-    (TokenSeat("a1", "acme", "abc"), {"a1": ("acme", ABC)}, True),
-    (TokenSeat("a1", "bolt", "abc"), {"a1": ("acme", ABC)}, False),
-    (TokenSeat("a1", "acme", "abd"), {"a1": ("acme", ABC)}, False),
-    (TokenSeat("a2", "acme", "abc"), {"a1": ("acme", ABC)}, False),
-    (TokenSeat("@manager", "@manager", "abc"), {"@manager": ("@manager", ABC)}, True),
-    (TokenSeat("@second", "@second", "abc"), {"@manager": ("@manager", ABC)}, True),
-    (TokenSeat("@manager", "@manager", "abc"), {}, False),
-]
-
-
-@pytest.mark.parametrize("seat, digests, is_there", IN)
-def test_whether_a_site_has_a_seat(seat, digests, is_there):
-    assert is_in(digests, seat) == is_there
 
 
 SITES = [

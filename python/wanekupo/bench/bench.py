@@ -5,8 +5,6 @@ answers, as the recipe says. The line stops after so many failed chips in a row,
 mended first; then a person has it go on.
 """
 
-from __future__ import annotations
-
 import argparse
 import contextlib
 import os

@@ -8,8 +8,6 @@
 The folder is one user's and one bench's. The station's own journal, which a restore goes by, isn't here.
 """
 
-from __future__ import annotations
-
 import calendar
 import contextlib
 import json

@@ -105,7 +105,7 @@ class ShiftCounts:
 
 def state_of(ending: Ending) -> str:
     """What a socket shows of an ending."""
-    return PASSED if ending.is_pass() else LABEL if ending.name == NO_LABEL else FAILED
+    return PASSED if ending.effect == PASS else LABEL if ending.name == NO_LABEL else FAILED
 
 
 def box_of(ending: Ending) -> str:

@@ -4,8 +4,6 @@ An ending says what happened, and what the operator does. docs/line/bench.md has
 a test holds the two to each other. `ended_by` finds the ending of an error.
 """
 
-from __future__ import annotations
-
 import errno
 import ssl
 import subprocess
@@ -46,9 +44,6 @@ class Ending:
         """The one sentence that screen and page show, safe to print."""
         filled = {name: shown(str(facts.get(name) or "")) for name in FACTS}
         return f"{self.told.format(**filled).replace(' ()', '').replace(': )', ')')}: {self.todo.format(**filled)}."
-
-    def is_pass(self) -> bool:
-        return self.effect == PASS
 
     def is_last(self) -> bool:
         """Whether the chip isn't awaited any more: it doesn't go on where it was."""

@@ -4,8 +4,6 @@ A hook is a command with CHIP, ORDER, SOCKET and OPERATOR in its environment, an
 a session of its own, so that all that it started ends with it.
 """
 
-from __future__ import annotations
-
 import contextlib
 import os
 import select

@@ -5,8 +5,6 @@ with reports at its order's end (`supply`), and seven starts of espefuse: one to
 each command that may take minutes, as another chip may be there.
 """
 
-from __future__ import annotations
-
 from pathlib import Path
 from typing import Any, Callable, Mapping, Optional, Protocol, Sequence, TypeVar
 

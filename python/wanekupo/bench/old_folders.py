@@ -3,8 +3,6 @@
 The server says which chips are shipped or scrapped, and a person says yes: some may want the keys first.
 """
 
-from __future__ import annotations
-
 import sys
 
 from wanekupo.bench.bench_files import BenchFiles

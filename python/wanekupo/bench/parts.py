@@ -1,7 +1,5 @@
 """What is in a socket: a chip behind espefuse, or a part without fuses whose name a command prints."""
 
-from __future__ import annotations
-
 import re
 from typing import Mapping, Sequence, Union
 

@@ -1,7 +1,5 @@
 """What a bench asks a person, one question at a time: `yes` does it, and anything else doesn't."""
 
-from __future__ import annotations
-
 import threading
 from typing import Callable, Optional, Sequence
 

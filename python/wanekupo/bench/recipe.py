@@ -4,8 +4,6 @@
 paths and commands count from the recipe's own folder.
 """
 
-from __future__ import annotations
-
 import hashlib
 import re
 import tomllib

@@ -4,8 +4,6 @@ nobody can undo.
 Each fault is a part of a sentence for who wrote the recipe. No chip is asked for, and nothing is sent.
 """
 
-from __future__ import annotations
-
 import difflib
 import os
 import shutil

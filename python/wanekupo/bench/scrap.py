@@ -4,8 +4,6 @@ The server forgets why a device was quarantined once it is scrapped. So the line
 has that reason, or the ending by which this bench put the chip aside.
 """
 
-from __future__ import annotations
-
 import re
 import threading
 from typing import Callable, Optional, Protocol, Sequence, TypeVar

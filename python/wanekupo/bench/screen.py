@@ -119,11 +119,9 @@ def asked_lines(board: Mapping[str, Any], width: int, has_colours: bool) -> Iter
     if board["stopped"]:
         yield from banner_lines("STOPPED", f"{board['stopped']} {said('go_typed')}", width, has_colours)
     if board["away"]:
-        yield from banner_lines("AWAY", away_told(board["away"]), width, has_colours)
-
-
-def away_told(away: Mapping[str, Any]) -> str:
-    return said("away_since", time=time.strftime("%H:%M:%S", time.localtime(away["since"])), why=away["why"])
+        since = time.strftime("%H:%M:%S", time.localtime(board["away"]["since"]))
+        told = said("away_since", time=since, why=board["away"]["why"])
+        yield from banner_lines("AWAY", told, width, has_colours)
 
 
 def start_told(board: Mapping[str, Any]) -> str:

@@ -15,8 +15,6 @@ No report is asked for where the last one had as many free numbers as were begun
 benches could begin, at OTHERS a second.
 """
 
-from __future__ import annotations
-
 import random
 import threading
 import time

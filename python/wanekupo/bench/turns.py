@@ -3,8 +3,6 @@
 A server that is away ends no chip. The request stays under way and is sent again, and the board says so meanwhile.
 """
 
-from __future__ import annotations
-
 import threading
 from typing import Callable, TypeVar
 

@@ -5,8 +5,6 @@ too. A word that the file lacks stays English. A file is tried when it is taken:
 by then, so that none fails while a chip is in its socket.
 """
 
-from __future__ import annotations
-
 import string
 import tomllib
 from dataclasses import replace

@@ -4,8 +4,6 @@ No program looks at another one's store. Each file is held to its seal, and has 
 was given is sorted by SQLite, in a file of its own.
 """
 
-from __future__ import annotations
-
 from dataclasses import dataclass
 from itertools import groupby
 from operator import itemgetter
@@ -16,19 +14,10 @@ from wanekupo.books.chain import NONE, Chain, Seal, seal_of
 from wanekupo.books.compare import named_row
 from wanekupo.books.folder import MOST_ROWS, RowsFile, row_files
 from wanekupo.books.lines import BadRow, line_parts
-from wanekupo.books.scratch import base_of
+from wanekupo.books.scratch import Sorted
 from wanekupo.common.errors import BadSettings
 from wanekupo.common.files import small_bytes
 from wanekupo.seat.forms import DIGEST
-
-CREATED = """
-CREATE TABLE given (what TEXT, whose TEXT, value TEXT, mark TEXT, store INTEGER, kind TEXT, key TEXT);
-CREATE TABLE span (first INTEGER, behind INTEGER, store INTEGER, kind TEXT, key TEXT)
-"""
-
-# A record in front of an import, so that two records are seen.
-SORTED = "SELECT * FROM given ORDER BY what, whose, value, kind DESC, store, key"
-SPANS = "SELECT * FROM span ORDER BY first, store, kind, key"
 
 # The addresses that there are, and the most bytes of a seal's line.
 ADDRESSES, LONGEST_LINE = 1 << 48, 4096
@@ -64,7 +53,7 @@ class Given:
     """What stores gave, gathered to be sorted. `same` has customers that are another one by another name."""
 
     def __init__(self, same: Mapping[str, str]):
-        self._base, self._same = base_of(CREATED), same
+        self._given, self._spans, self._same = Sorted(8, 6), Sorted(5, 4), same
         self.files, self._seats, self.records = list[Path](), dict[tuple[str, str], int](), 0
 
     def add(self, store: StoreRows) -> None:
@@ -106,22 +95,22 @@ class Given:
             self._add("key", "", it["key_sha256"], it["issuer"], *place)
         if kind in ("record", "order") and it["mac"]:
             first, count = int(it["mac"], 16), it["quantity"] * it["macs"] if kind == "order" else 1
-            words = first, first + max(0, min(count, ADDRESSES)), *place
-            self._base.execute("INSERT INTO span VALUES (?, ?, ?, ?, ?)", words)
+            self._spans.put([(first, *place, first + max(0, min(count, ADDRESSES)))])
 
-    def _add(self, *words: Any) -> None:
-        self._base.execute("INSERT INTO given VALUES (?, ?, ?, ?, ?, ?, ?)", words)
+    def _add(self, what: str, whose: str, value: str, mark: str, store: int, kind: str, key: str) -> None:
+        """A record comes in front of an import, so that two records are seen."""
+        self._given.put([(what, whose, value, kind == "import", store, key, kind, mark)])
 
     def twice(self) -> Iterator[tuple[str, str]]:
         """What stands twice: its kind, and a sentence."""
-        for (what, whose, value), rows in groupby(self._base.execute(SORTED), itemgetter(0, 1, 2)):
-            (*_, mark, store, kind, key), *others = rows
-            for *_, its, place, other_kind, other in others:
+        for (what, whose, value), rows in groupby(self._given, itemgetter(0, 1, 2)):
+            (*_, store, key, kind, mark), *others = rows
+            for *_, place, other, other_kind, its in others:
                 is_other = its != mark and (whose or place != store)
                 if is_other or what != "key" and kind == other_kind != "import":
                     yield self._told(what, value, (store, kind, key), (place, other_kind, other))
         furthest = dict[tuple[int, str], tuple[int, str]]()
-        for first, behind, store, kind, key in self._base.execute(SPANS):
+        for first, store, kind, key, behind in self._spans:
             for (place, its_kind), (end, its) in furthest.items():
                 if end > first and (place != store or its_kind == kind):
                     yield self._told("address", f"{first:012x}", (place, its_kind, its), (store, kind, key))

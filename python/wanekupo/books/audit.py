@@ -1,7 +1,5 @@
 """What an audit finds: a store's ledgers against the journals of its stations, and what has to be there but once."""
 
-from __future__ import annotations
-
 import bisect
 import sys
 from collections import Counter, defaultdict
@@ -22,8 +20,7 @@ from wanekupo.books.steps import Book, Step
 from wanekupo.books.store_rows import Books, LedgerRow, StoredChip
 
 
-@dataclass(frozen=True)
-class Found:
+class Found(NamedTuple):
     """What isn't as it should be: its kind, whose it is, by whose clock when, and what it is in words."""
 
     kind: str
@@ -34,8 +31,7 @@ class Found:
     told: str
 
 
-@dataclass(frozen=True)
-class Held:
+class Held(NamedTuple):
     """A seat: its journal, how that is known to be its own, and how much of it was held to the store."""
 
     customer: str

@@ -1,7 +1,5 @@
 """What an audit looks like: a page that is printed, tables for a terminal, and a file of comma-separated values."""
 
-from __future__ import annotations
-
 from collections import Counter
 from typing import Sequence
 
@@ -56,16 +54,12 @@ NOT_SHOWN = (
 )
 
 
-def read_table(files: Sequence[tuple[str, int, str]]) -> Table:
-    return Table("read", "What was read", READ, files, NUMBERS)
-
-
 def found_table(audit: Audit) -> Table:
     """What was found: of each kind and seat the first ones, and how many more there are."""
     rows, counts = list[tuple[str, ...]](), Counter[tuple[str, str, str]]()
     for it in audit.found:
         counts[whose := (it.kind, it.customer, it.seat)] += 1
-        rows += [(it.kind, it.at, it.customer, it.seat, it.chip, it.told)] if counts[whose] <= MOST_TOLD else []
+        rows += [it] if counts[whose] <= MOST_TOLD else []
     for (kind, customer, seat), count in sorted(counts.items()):
         more = (kind, "", customer, seat, "", f"{count - MOST_TOLD} more of this kind and seat")
         rows += [more] if count > MOST_TOLD else []
@@ -73,11 +67,7 @@ def found_table(audit: Audit) -> Table:
 
 
 def held_table(audit: Audit) -> Table:
-    rows = [
-        (it.customer, it.seat, it.journal, it.known, it.lines, it.matched, it.unanswered, it.numbers, it.last)
-        for it in audit.held
-    ]
-    return Table("held", "What was held to what", HELD, rows, NUMBERS)
+    return Table("held", "What was held to what", HELD, audit.held, NUMBERS)
 
 
 def verdict(audit: Audit) -> str:
@@ -117,7 +107,7 @@ def as_html(audit: Audit, files: Sequence[tuple[str, int, str]]) -> str:
         *([heading("What these mean"), *meant] if meant else []),
         found_table(audit).as_html(),
         held_table(audit).as_html(),
-        read_table(files).as_html(),
+        Table("read", "What was read", READ, files, NUMBERS).as_html(),
         heading("What this shows, and what it doesn't"),
         *map(paragraph, (HELD_TO, ALWAYS, NOT_SHOWN)),
     ]

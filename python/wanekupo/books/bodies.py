@@ -5,8 +5,6 @@ is the line's. Of a key nobody knows more than the digest. So another key is put
 the replies get the old digests back.
 """
 
-from __future__ import annotations
-
 import hashlib
 import json
 from itertools import chain

@@ -5,8 +5,6 @@ one. The file `chain` has all lines, and is replaced whole, last of all. What a 
 the next seal.
 """
 
-from __future__ import annotations
-
 import contextlib
 import hashlib
 import itertools

@@ -12,7 +12,7 @@ from bisect import bisect_right
 from dataclasses import dataclass
 from typing import Any, Iterable, Iterator, NamedTuple, Sequence
 
-from wanekupo.books.scratch import base_of
+from wanekupo.books.scratch import Sorted
 from wanekupo.books.shift import Period, seconds_between
 from wanekupo.books.steps import Step, Steps, digits_of
 
@@ -30,16 +30,16 @@ class Pairs(Sequence[Timed]):
     """The ids of entries with their lines, which are on the disk; behind `end` in the order of the ids."""
 
     def __init__(self) -> None:
-        self._base = base_of("CREATE TABLE pair (id INTEGER, home INTEGER, place INTEGER)")
+        self._rows = Sorted(3, 1)
         self._homes, self._columns = dict[int, Steps](), [array("q"), array("q"), array("i")]
 
     def append(self, number: int, step: Step) -> None:
         assert step.home is not None
         self._homes[id(step.home)] = step.home
-        self._base.execute("INSERT INTO pair VALUES (?, ?, ?)", (number, id(step.home), step.place_of))
+        self._rows.put([(number, id(step.home), step.place_of)])
 
     def end(self) -> None:
-        for row in self._base.execute("SELECT id, home, place FROM pair ORDER BY id, rowid"):
+        for row in self._rows:
             for column, it in zip(self._columns, row):
                 column.append(it)
 

@@ -1,7 +1,5 @@
 """Whether a device, its ledger and its record say the same: who changes one of them by hand forgets the others."""
 
-from __future__ import annotations
-
 import heapq
 from itertools import groupby, repeat
 from typing import Any, Iterable, Iterator, Sequence

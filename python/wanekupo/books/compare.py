@@ -4,14 +4,12 @@ A record, an entry of a ledger and an import stay as they are, byte for byte. A 
 its state only go on, an order changes its next serial number alone, and a seat's number never falls.
 """
 
-from __future__ import annotations
-
 import json
 import re
 from dataclasses import dataclass
 from itertools import chain, groupby
 from operator import itemgetter
-from typing import Any, Iterable, Iterator, Mapping, Optional
+from typing import Any, Iterable, Iterator, Mapping, Optional, Self
 
 from wanekupo.books.coherence import Chip, by_chip, faults_of
 from wanekupo.books.lines import NUMBERED, BadRow, line_parts
@@ -81,7 +79,7 @@ class Text:
         self.bad: list[str] = []
 
     @classmethod
-    def of(cls, lines: Iterable[str], known: Optional[Text] = None) -> Text:
+    def of(cls, lines: Iterable[str], known: Optional[Self] = None) -> Self:
         """The text of these lines. One that another text has is a row, and isn't read again."""
         made = cls()
         for number, text in enumerate(lines, 1):

@@ -1,7 +1,5 @@
 """The rows that a customer's own token shows, gathered while the line runs."""
 
-from __future__ import annotations
-
 from typing import Any, Callable, Iterator
 
 from wanekupo.seat import listings as gathering

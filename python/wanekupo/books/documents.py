@@ -3,9 +3,6 @@
 Nothing of either is held: a store is asked by its keys, and rows, which are in the order of their bytes, by halves.
 """
 
-from __future__ import annotations
-
-import json
 import os
 from bisect import bisect_right
 from collections import Counter
@@ -265,7 +262,3 @@ def _addresses(row: Row, blocks: list[tuple[int, int]]) -> list[str]:
     first = int(row["mac"], 16)
     at = bisect_right(blocks, (first, 1 << 48)) - 1
     return [f"{first + more:012x}" for more in range(max(blocks[at][1] if at >= 0 else 1, 1))]
-
-
-def found_line(row: Row, customer: str, file: Path) -> str:
-    return json.dumps({**row, "customer": customer, "store": str(file)}, sort_keys=True, separators=(",", ":"))

@@ -3,8 +3,6 @@
 What was done is counted, so that nobody takes a test that had nothing to test for one that found nothing.
 """
 
-from __future__ import annotations
-
 import gzip
 import hashlib
 import os

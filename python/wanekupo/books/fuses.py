@@ -1,7 +1,5 @@
 """What the columns of fuses of a store mean, by the map of a device (docs/reference/files.md#the-store)."""
 
-from __future__ import annotations
-
 import functools
 import struct
 import tomllib

@@ -1,15 +1,12 @@
 """What lines say was given: serial numbers, keys and addresses, each of them once, whatever the store has of these."""
 
-from __future__ import annotations
-
 import contextlib
-import sqlite3
 from itertools import groupby, islice
 from operator import itemgetter
-from typing import Iterator, NamedTuple, Optional, Sequence
+from typing import Iterator, NamedTuple, Optional, Self, Sequence
 
 from wanekupo.books.matches import Seated
-from wanekupo.books.scratch import Known, base_of
+from wanekupo.books.scratch import Known, Sorted
 from wanekupo.books.steps import Step
 from wanekupo.seat.import_rows import rows_of
 
@@ -25,7 +22,7 @@ class GivenNumbers(NamedTuple):
     chip: Optional[str]
     step: Step
 
-    def differs_from(self, other: GivenNumbers) -> bool:
+    def differs_from(self, other: Self) -> bool:
         """Whether both can't be true: another chip; or, where one is of an import, another key or serial number."""
         if self.chip is not None and other.chip is not None:
             return self.chip != other.chip
@@ -35,29 +32,23 @@ class GivenNumbers(NamedTuple):
         return f"{f'to the chip {self.chip}' if self.chip else 'by an import'} ({self.step.place()})"
 
 
-# What lines gave, in the order of the values: the first line of each is the one that the others are held to.
-CREATED = """
-CREATE TABLE given (name INTEGER, whose TEXT, value TEXT, own INTEGER, place INTEGER, part INTEGER);
-CREATE TABLE span (start INTEGER, behind INTEGER, own INTEGER, place INTEGER)
-"""
 NAMES = ("serial", "key_sha256", "mac")
 
 # The addresses that there are.
 ADDRESSES = 1 << 48
-GIVEN = "SELECT name, whose, value, own, place, part FROM given ORDER BY 1, 2, 3, rowid"
 
 
 def given_twice(journals: list[Seated]) -> Iterator[Row]:
     """What lines of two chips have, or of a chip and an import. Not what was given since a copy that a later restore
-    made an older one; and of an import not what a restore took away."""
-    base = base_of(CREATED)
+    made an older one; and of an import not what a restore took away. The first line of each value is the one that the
+    others are held to."""
+    given = Sorted(6, 3)
     for number, it in enumerate(journals):
         for step in (step for step in it.book.steps if step.turn <= 0):
             for part, (issuer, own, mac) in enumerate(_given_by(step)):
                 named = enumerate(((issuer, own.serial), (issuer, own.key), ("", mac)))
-                words = [(name, *its, number, step.place_of, part) for name, its in named if its[1] != "None"]
-                base.executemany("INSERT INTO given VALUES (?, ?, ?, ?, ?, ?)", words)
-    for (name, _, value), rows in groupby(base.execute(GIVEN), itemgetter(0, 1, 2)):
+                given.put((name, *its, number, step.place_of, part) for name, its in named if its[1] != "None")
+    for (name, _, value), rows in groupby(given, itemgetter(0, 1, 2)):
         (*_, number, place, part), *others = rows
         first = _part_of(journals[number].book.steps.at(place), part) if others else None
         for *_, number, place, part in others:
@@ -65,7 +56,7 @@ def given_twice(journals: list[Seated]) -> Iterator[Row]:
             if first and _part_of(step, part).differs_from(first):
                 told = f"the {NAMES[name]} {value} was given twice: also {first.told()}"
                 yield "twice", step.at, it.customer, it.seat, step.chip, f"{told} ({step.place()})"
-    yield from _addresses_twice(journals, base)
+    yield from _addresses_twice(journals)
 
 
 def _part_of(step: Step, part: int) -> GivenNumbers:
@@ -83,10 +74,10 @@ def _given_by(step: Step) -> Iterator[tuple[str, GivenNumbers, str]]:
                 yield str(step.asked.get("issuer")), GivenNumbers(serial, key.lower(), None, step), "None"
 
 
-def _addresses_twice(journals: Sequence[Seated], base: sqlite3.Connection) -> Iterator[Row]:
+def _addresses_twice(journals: Sequence[Seated]) -> Iterator[Row]:
     """Addresses behind the first one of a record, of which another chip's record has one: an order says how many each
     has."""
-    macs, orders = dict[tuple[str, str], int](), Known()
+    macs, orders, spans = dict[tuple[str, str], int](), Known(), Sorted(4, 2)
     for number, it in enumerate(journals):
         for step in (step for step in it.book.steps if step.turn <= 0):
             if step.path == "/v1/order" and step.status in (None, 200):
@@ -97,11 +88,10 @@ def _addresses_twice(journals: Sequence[Seated], base: sqlite3.Connection) -> It
                 with contextlib.suppress(ValueError):
                     start = int(step.reply["mac"], 16)
                     count = macs.get((it.customer, orders.get((it.customer, step.chip), "")), 1)
-                    words = start, start + max(1, count), number, step.place_of
                     if start < ADDRESSES:
-                        base.execute("INSERT INTO span VALUES (?, ?, ?, ?)", words)
+                        spans.put([(start, start + max(1, count), number, step.place_of)])
     end, before = 0, ""
-    for start, behind, number, place in base.execute("SELECT * FROM span ORDER BY start, behind, rowid"):
+    for start, behind, number, place in spans:
         it, step = journals[number], journals[number].book.steps.at(place)
         if start < end and step.chip != before:
             told = f"the address {start:012x} was given twice: it is also one of the chip {before} ({step.place()})"

@@ -1,7 +1,5 @@
 """What a customer's imports brought, and which of them another seat made at the same time."""
 
-from __future__ import annotations
-
 from bisect import bisect_left, bisect_right, insort
 from functools import lru_cache
 from itertools import chain

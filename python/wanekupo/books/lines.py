@@ -4,8 +4,6 @@ What a token shows over HTTP and what a copy of the store has are the same lines
 the plant's.
 """
 
-from __future__ import annotations
-
 import json
 import re
 from typing import Any, Callable, Iterator, Mapping
@@ -110,10 +108,6 @@ def _is_address(it: Any) -> bool:
     return it is None or isinstance(it, str) and MAC.fullmatch(it) is not None
 
 
-def _is_width(it: Any) -> bool:
-    return _is_number(it) and 0 < it <= 64
-
-
 def _is_word(it: Any) -> bool:
     if not isinstance(it, dict) or it.keys() != {"block", "word", "mask"}:
         return False
@@ -133,10 +127,6 @@ def _is_batch(it: Any) -> bool:
     return isinstance(it, dict) and it.keys() == {"bits", "keys"} and _is_bits(it["bits"]) and _is_keys(it["keys"])
 
 
-def _is_pending(it: Any) -> bool:
-    return isinstance(it, dict) and all(map(_is_batch, it.values()))
-
-
 # What a member has to be, by its name: the same in each kind of row. One that isn't here is a text, a number or null.
 FORMS: dict[str, Callable[[Any], bool]] = {
     **dict.fromkeys(("event", "issuer", "key_sha256", "map", "note", "prefix", "state"), _is_text),
@@ -145,8 +135,8 @@ FORMS: dict[str, Callable[[Any], bool]] = {
     "bits": _is_bits,
     "keys": _is_keys,
     "mac": _is_address,
-    "pending": _is_pending,
-    "width": _is_width,
+    "pending": lambda it: isinstance(it, dict) and all(map(_is_batch, it.values())),
+    "width": lambda it: _is_number(it) and 0 < it <= 64,
 }
 
 

@@ -1,7 +1,5 @@
 """The chips that were lost or scrapped, by the stations' logs."""
 
-from __future__ import annotations
-
 from datetime import datetime
 from functools import partial
 from pathlib import Path

@@ -4,8 +4,6 @@ Entries have no times: each has that of its line. Of one chip and one seat both 
 beside each other from the first to the last.
 """
 
-from __future__ import annotations
-
 import difflib
 import sqlite3
 from collections import Counter, defaultdict, deque
@@ -14,7 +12,7 @@ from itertools import takewhile
 from typing import Iterable, Iterator, Mapping, Optional, Sequence
 
 from wanekupo.books.coherence import Chip
-from wanekupo.books.scratch import base_of
+from wanekupo.books.scratch import Sorted, base_of
 from wanekupo.books.steps import Book, Step
 from wanekupo.books.store_rows import Books, LedgerRow
 
@@ -79,12 +77,11 @@ class Matched:
 
 def steps_by_chip(journals: Sequence[Seated]) -> Iterator[tuple[Chip, Told]]:
     """The lines of steps in the order of the chips that they are of, those of a seat in that of its numbers."""
-    base = base_of("CREATE TABLE told (customer, chip, turn INTEGER, number INTEGER, own INTEGER, place INTEGER)")
+    lines = Sorted(6, 5)
     for own, it in enumerate(journals):
         steps = (step for step in it.book.steps if step.event)
-        words = ((it.customer, step.chip, step.turn, step.number, own, step.place_of) for step in steps)
-        base.executemany("INSERT INTO told VALUES (?, ?, ?, ?, ?, ?)", words)
-    for customer, chip, _, _, own, place in base.execute("SELECT * FROM told ORDER BY 1, 2, 3, 4, 5, rowid"):
+        lines.put((it.customer, step.chip, step.turn, step.number, own, step.place_of) for step in steps)
+    for customer, chip, _, _, own, place in lines:
         yield (customer, chip), (journals[own], journals[own].book.steps.at(place))
 
 

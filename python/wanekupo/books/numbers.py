@@ -4,8 +4,6 @@ The lines of a seat are put in the order of these numbers, over all its journals
 that it had, the store was replaced by an older one, and a turn of the seat begins.
 """
 
-from __future__ import annotations
-
 import contextlib
 import heapq
 import json

@@ -1,7 +1,5 @@
 """How many serial numbers orders have left, by a report of now."""
 
-from __future__ import annotations
-
 from dataclasses import dataclass, replace
 from typing import Iterable, Optional
 

@@ -1,7 +1,5 @@
 """What of a store no reply of the program shows: where orders go on, dumps, columns, its file, and what a site says."""
 
-from __future__ import annotations
-
 from typing import Iterator
 
 from wanekupo.books.store_rows import Books

@@ -4,8 +4,6 @@ All text is escaped, and no control character of a journal or a store comes thro
 in but its style, as that of the page of yields.
 """
 
-from __future__ import annotations
-
 import base64
 import hashlib
 from dataclasses import dataclass

@@ -1,7 +1,5 @@
 """A proved program that answers requests over a store in memory, which goes with it."""
 
-from __future__ import annotations
-
 import contextlib
 import os
 import shutil
@@ -10,7 +8,7 @@ import subprocess
 import threading
 from itertools import islice
 from pathlib import Path
-from typing import Any
+from typing import Any, Self
 
 from wanekupo.common.errors import BadSettings, StationError
 from wanekupo.common.store_user import LONGEST, opened
@@ -58,7 +56,7 @@ class Program:
         self._limit = threading.Timer(seconds, self._child.kill)
         self._limit.start()
 
-    def __enter__(self) -> Program:
+    def __enter__(self) -> Self:
         return self
 
     def __exit__(self, *_: Any) -> None:

@@ -5,8 +5,6 @@ books. So the lines of each customer whose journals are whole are answered once 
 whose journals aren't leaves the audit unfinished.
 """
 
-from __future__ import annotations
-
 import hashlib
 import json
 import tempfile

@@ -1,7 +1,5 @@
 """A report as the server prints it, and what was done between two of them (docs/line/lots.md)."""
 
-from __future__ import annotations
-
 import re
 from dataclasses import dataclass
 from typing import Mapping

@@ -1,8 +1,6 @@
 """The tables of a store of schema 3, as the program makes them (docs/reference/files.md#the-store), and what of a store
 is otherwise, so that no server opens it."""
 
-from __future__ import annotations
-
 import hashlib
 import re
 from typing import Any, Callable, Iterable, Iterator

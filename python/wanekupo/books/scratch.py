@@ -1,11 +1,9 @@
 """What is larger than the memory: a base in a file of SQLite's own, in /var/tmp, which ends with it."""
 
-from __future__ import annotations
-
 import json
 import marshal
 import sqlite3
-from functools import lru_cache
+from functools import lru_cache, partial
 from typing import Any, Callable, Iterable, Iterator, Mapping
 
 # A base that is there for one run needs no journal, and 8 MB of its file are in memory.
@@ -25,9 +23,24 @@ def base_of(created: str) -> sqlite3.Connection:
 
 def in_order(lines: Iterable[str]) -> Iterator[str]:
     """Lines in the order of their bytes."""
-    base = base_of("CREATE TABLE line (text TEXT)")
-    base.executemany("INSERT INTO line VALUES (?)", ((it,) for it in lines))
-    return (text for (text,) in base.execute("SELECT text FROM line ORDER BY text"))
+    rows = Sorted(1, 1)
+    rows.put((it,) for it in lines)
+    return (text for (text,) in rows)
+
+
+class Sorted:
+    """Rows in the order of their first columns; those that are alike there come as they were put."""
+
+    def __init__(self, columns: int, by: int):
+        self._base = base_of(f"CREATE TABLE it ({', '.join(f'c{place}' for place in range(columns))})")
+        self._put = f"INSERT INTO it VALUES ({', '.join('?' * columns)})"
+        self._walk = f"SELECT * FROM it ORDER BY {', '.join(f'c{place}' for place in range(by))}, rowid"
+
+    def put(self, rows: Iterable[tuple[Any, ...]]) -> None:
+        self._base.executemany(self._put, rows)
+
+    def __iter__(self) -> Iterator[tuple[Any, ...]]:
+        return iter(self._base.execute(self._walk))
 
 
 class Values:
@@ -35,7 +48,7 @@ class Values:
 
     def __init__(self) -> None:
         self._base = base_of("CREATE TABLE it (place INTEGER PRIMARY KEY, data BLOB, members BLOB)")
-        self._members = lru_cache(LAST)(self._members_at)
+        self._members = lru_cache(LAST)(partial(self._loaded, "members"))
 
     def add(self, data: Any, members: Any) -> int:
         words = marshal.dumps(data), marshal.dumps(members)
@@ -46,16 +59,13 @@ class Values:
         self._members.cache_clear()
 
     def at(self, place: int) -> Any:
-        return self._loaded(place, "data")
+        return self._loaded("data", place)
 
     def members(self, place: int) -> tuple[Mapping[str, Any], Mapping[str, Any]]:
         """Both of the members at a place."""
         return Part(self._members, place, 0), Part(self._members, place, 1)
 
-    def _members_at(self, place: int) -> Any:
-        return self._loaded(place, "members")
-
-    def _loaded(self, place: int, name: str) -> Any:
+    def _loaded(self, name: str, place: int) -> Any:
         ((data,),) = self._base.execute(f"SELECT {name} FROM it WHERE place = ?", (place,))
         return marshal.loads(data)
 

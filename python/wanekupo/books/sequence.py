@@ -5,8 +5,6 @@ An order, a map or an import has no entry. Clocks say when it came, but it waits
 for its addresses, a device for its order, its map and its serial number, an import for what devices were given.
 """
 
-from __future__ import annotations
-
 from array import array
 from collections import defaultdict
 from dataclasses import dataclass, replace
@@ -134,10 +132,6 @@ def _candidates(seat: StoredSeat, lines: Sequence[Step]) -> list[Step]:
     kept = [it for it in lines if (it.number, it.digest) == (seat.last, seat.digest)]
     bare = [it for it in reversed(lines) if it.status is None]
     return done[:1] or kept or bare or list(lines)
-
-
-def _is_before(one: Step, other: Step) -> bool:
-    return is_behind(begin_of(other), end_of(one))
 
 
 def _of_store(path: str, **asked: Any) -> Step:
@@ -329,8 +323,8 @@ class Requests:
         """Notes which of the next requests were surely done before the one that is first. Entries have their order from
         the store."""
         for it in heads:
-            is_sure = (it.entry is None or first.entry is None) and _is_before(it.step, first.step)
-            if is_sure and it.seat != first.seat:
+            is_sure = (it.entry is None or first.entry is None) and it.seat != first.seat
+            if is_sure and is_behind(begin_of(first.step), end_of(it.step)):
                 self._waited.setdefault(it.place(), first.step)
 
     def _unlaid(self, entry: Optional[LedgerRow]) -> Iterator[NotLaid]:

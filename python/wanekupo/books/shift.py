@@ -4,14 +4,12 @@ A step counts when its reply was written down, by the station's clock. A chip is
 chip is counted by customer and name. `wanekupo.books.yields` says what the yield is.
 """
 
-from __future__ import annotations
-
 import statistics
 from bisect import bisect_left
 from collections import Counter, defaultdict
 from dataclasses import dataclass, field
 from datetime import datetime
-from typing import Iterable, Optional
+from typing import Iterable, NamedTuple, Optional
 
 from wanekupo.books.steps import SET_BACK, Book, Step
 from wanekupo.common.moments import moment_of, text_of
@@ -129,8 +127,7 @@ class StationShift:
         return max(self.seconds) if self.seconds else (None, "")
 
 
-@dataclass(frozen=True)
-class Lost:
+class Lost(NamedTuple):
     """A chip that was given up, with who did it and why."""
 
     at: str
@@ -142,8 +139,7 @@ class Lost:
     reason: str
 
 
-@dataclass(frozen=True)
-class UnfinishedChip:
+class UnfinishedChip(NamedTuple):
     """A chip that isn't finished: its state since its last step."""
 
     customer: str

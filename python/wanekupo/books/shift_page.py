@@ -1,7 +1,5 @@
 """What a shift looks like: tables for a terminal and for files of comma-separated values, and a page to be printed."""
 
-from __future__ import annotations
-
 from typing import Iterator, Optional, Sequence
 
 from wanekupo.books.pages import Table, bars, heading, looks, page, paragraph
@@ -29,21 +27,16 @@ NO_REST = "Not asked: give --left, and this says what the next shift runs out of
 
 def shift_tables(shift: ShiftReport, rests: Optional[Sequence[Rest]]) -> list[Table]:
     """All tables, by the names of their files."""
-    lost = [(it.at, it.customer, it.station, it.operator, it.order, it.chip, it.reason) for it in shift.lost]
-    under_way = [(it.customer, it.order, it.chip, it.state, it.since, it.station) for it in shift.under_way]
+    no_rest = NO_REST if rests is None else "None of these orders is known to the server."
     stopped = [(it.at, it.customer, it.station, it.told, it.went_on or "not yet") for it in shift.stopped]
     return [
         Table("orders", "Orders", ORDERS, list(_order_rows(shift)), NUMBERS, "No journal has an order's chip."),
         Table("stations", "Stations", STATIONS, list(_station_rows(shift)), NUMBERS),
-        Table("lost", "Chips given up", GIVEN_UP, lost),
+        Table("lost", "Chips given up", GIVEN_UP, shift.lost),
         Table("stopped", "Stations out of step, or without a reply", STOPPED, stopped),
-        Table("rest", "What the next shift runs out of", RESTS, _rest_rows(rests), NUMBERS, _no_rest(rests)),
-        Table("under_way", "Under way", UNDER_WAY, under_way),
+        Table("rest", "What the next shift runs out of", RESTS, _rest_rows(rests), NUMBERS, no_rest),
+        Table("under_way", "Under way", UNDER_WAY, shift.under_way),
     ]
-
-
-def _no_rest(rests: Optional[Sequence[Rest]]) -> str:
-    return NO_REST if rests is None else "None of these orders is known to the server."
 
 
 def _counts(counts: OrderCounts) -> list[object]:

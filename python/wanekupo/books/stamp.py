@@ -1,7 +1,5 @@
 """Time stamps by a service (RFC 3161), which Debian's `openssl ts` asks for and verifies."""
 
-from __future__ import annotations
-
 import http.client
 import re
 import subprocess

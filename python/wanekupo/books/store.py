@@ -4,13 +4,11 @@ The file may be anybody's: its tables have to be those of schema 3 and nothing e
 is written beside it where its log has been joined.
 """
 
-from __future__ import annotations
-
 import contextlib
 import os
 import sqlite3
 from pathlib import Path
-from typing import Any, Iterator, Optional
+from typing import Any, Iterator, Optional, Self
 
 from wanekupo.books.schema import others_of
 from wanekupo.common.errors import StationError
@@ -54,7 +52,7 @@ class StoreCopy:
             self.close()
             raise
 
-    def __enter__(self) -> StoreCopy:
+    def __enter__(self) -> Self:
         return self
 
     def __exit__(self, *_: Any) -> None:

@@ -3,8 +3,6 @@
 `clients/web/yield.html` has the same sentence, the same count and the same looks; a test holds it to this module.
 """
 
-from __future__ import annotations
-
 from dataclasses import dataclass
 from typing import Iterator, Mapping, Optional
 

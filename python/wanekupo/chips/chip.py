@@ -1,7 +1,5 @@
 """A chip as a station names it: the wishes of a plan, what a chip shows, and what of it goes into a log."""
 
-from __future__ import annotations
-
 import hashlib
 from typing import Any, Mapping
 

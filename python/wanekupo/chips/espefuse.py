@@ -6,8 +6,6 @@ espefuse prints nothing is told but where it fails: its reason, and the whole fo
 key, since `burn_block_data` prints it.
 """
 
-from __future__ import annotations
-
 import argparse
 import contextlib
 import hashlib

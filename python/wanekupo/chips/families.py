@@ -2,14 +2,12 @@
 its keys are burnt. Each is a folder of `families`, by the name that espefuse's --chip has for it: `family.toml` is the
 family, and `map.toml` the fuse map that comes with it."""
 
-from __future__ import annotations
-
 import functools
 import re
 import tomllib
 from dataclasses import dataclass, field
 from pathlib import Path
-from typing import Any, Mapping, Optional, Sequence
+from typing import Any, Mapping, Optional, Self, Sequence
 
 from wanekupo.common.errors import StationError
 
@@ -180,7 +178,7 @@ class Dump:
         """The blocks that the server is told, in its order."""
         return Told([list(self.words[number]) for number in self.family.told], self.chip())
 
-    def differs(self, first: Dump) -> list[int]:
+    def differs(self, first: Self) -> list[int]:
         """The numbers of the blocks that the server isn't told and that changed since the first dump."""
         untold = sorted(self.words.keys() - set(self.family.told))
         return [number for number in untold if self.words[number] != first.words.get(number)]

@@ -4,8 +4,6 @@ The server judges each plan by itself. This is for a chip that can't be planned 
 plan, and what is burnt of one that has its identity. The map's form is on the page docs/reference/files.md.
 """
 
-from __future__ import annotations
-
 import hashlib
 import tomllib
 from dataclasses import dataclass

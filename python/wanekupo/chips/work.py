@@ -1,7 +1,5 @@
 """What is burnt or awaited of a chip: bits, and keys."""
 
-from __future__ import annotations
-
 from dataclasses import dataclass
 
 

@@ -1,7 +1,5 @@
 """The command `apart`: whether the sealed rows of several stores have anything in common."""
 
-from __future__ import annotations
-
 import argparse
 from collections import Counter
 from pathlib import Path

@@ -1,7 +1,5 @@
 """The command `audit`: a stopped store's ledgers against the journals of its stations, over a period."""
 
-from __future__ import annotations
-
 import argparse
 from datetime import datetime, timezone
 from pathlib import Path

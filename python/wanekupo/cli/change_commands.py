@@ -1,7 +1,5 @@
 """The commands that change something on the server, each a request of the seat that is done once."""
 
-from __future__ import annotations
-
 import argparse
 import shlex
 import sys

@@ -1,7 +1,5 @@
 """The command `events`: what stations' journals say, as IPC-CFX's messages in JSON, from where the last run stopped."""
 
-from __future__ import annotations
-
 import argparse
 import contextlib
 import json
@@ -18,7 +16,7 @@ from wanekupo.common.errors import BadSettings, BadStateFile, NoReply
 from wanekupo.common.files import hold_lock, opened_own, replace_file, tested_folder
 from wanekupo.common.printing import print_shown
 from wanekupo.common.texts import compact_json
-from wanekupo.seat.command_line import Command
+from wanekupo.seat.command_line import Command, add_journal_words
 from wanekupo.seat.journal import OF_A_DAY, Asked, merged
 from wanekupo.seat.settings import Settings
 
@@ -103,7 +101,7 @@ def _place_in(kept: Path) -> dict[str, str]:
 
 
 def _add_arguments(parser: argparse.ArgumentParser) -> None:
-    parser.add_argument("journals", nargs="+", metavar="JOURNAL", help="a journal, or a folder with journals")
+    add_journal_words(parser)
     parser.add_argument("--cfx", action="store_true", required=True, help="in the form of IPC-CFX: there is no other")
     parser.add_argument("--kept", type=Path, required=True, metavar="FILE", help="where the place is, with FILE.lock")
     parser.add_argument("--post", metavar="URL", help="give each message to a listener, in place of printing it")

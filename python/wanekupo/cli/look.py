@@ -1,7 +1,5 @@
 """The command `look`: what a server would show, out of a copy of its store or a seal's rows, without the server."""
 
-from __future__ import annotations
-
 import argparse
 import contextlib
 from pathlib import Path
@@ -61,15 +59,12 @@ def _look(_: Settings, args: argparse.Namespace) -> int:
         if not books.has(args.customer[0]):
             raise NotShown(f"{files[0]} has nothing of a customer {args.customer[0]}", "Look at the name.")
         try:
-            print_shown(_document(books, args.customer[0], kind, chip_word(word)))
+            words = books, args.customer[0], chip_word(word)
+            print_shown(documents.report_text(*words[:2]) if kind == REPORT else f"{OF_CHIP[kind](*words)}\n")
         except Refused as refused:
             say_json(refused.body)
             return NOT_THERE
     return DONE
-
-
-def _document(books: ClosedBooks, customer: str, kind: str, chip: str) -> str:
-    return documents.report_text(books, customer) if kind == REPORT else OF_CHIP[kind](books, customer, chip) + "\n"
 
 
 def _found(files: list[Path], customers: list[str], text: str) -> int:
@@ -78,7 +73,7 @@ def _found(files: list[Path], customers: list[str], text: str) -> int:
     for file, customer in ((file, customer) for file in files for customer in customers):
         with contextlib.closing(documents.books_in(file)) as books:
             for count, row in enumerate(documents.found_rows(books, customer, text), count + 1):
-                print_shown(documents.found_line(row, customer, file) + "\n")
+                say_json({**row, "customer": customer, "store": str(file)})
     return DONE if count else NOT_THERE
 
 

@@ -3,8 +3,6 @@
 `argparse` of the standard library reads the words, and shows the help.
 """
 
-from __future__ import annotations
-
 import argparse
 import io
 import os
@@ -140,17 +138,14 @@ def client_parser() -> argparse.ArgumentParser:
     subparsers = made.add_subparsers(dest="command", metavar="COMMAND")
     common = _common(False)
     for row in COMMANDS:
+        example = f"Example: wanekupo {EXAMPLES[row.name]}"
         one = subparsers.add_parser(
-            row.name, parents=[common], allow_abbrev=False, help=row.said,
-            description=f"{row.said}{row.more}", epilog=_epilog(row.name),
-        )
+            row.name, parents=[common], allow_abbrev=False, help=row.said, description=f"{row.said}{row.more}",
+            epilog=f"{example}. The settings, as --url and --token, are those of: wanekupo --help.",
+        )  # fmt: skip
         row.add_arguments(one)
         one.set_defaults(run=row.run)
     return made
-
-
-def _epilog(name: str) -> str:
-    return f"Example: wanekupo {EXAMPLES[name]}. The settings, as --url and --token, are those of: wanekupo --help."
 
 
 def exit_status(error: BaseException) -> int:

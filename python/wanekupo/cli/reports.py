@@ -1,19 +1,17 @@
 """The commands of journals and of printed reports: what was issued, what was lost, the yield, and a restore."""
 
-from __future__ import annotations
-
 import argparse
 from pathlib import Path
 
 from wanekupo.cli.change_commands import asks
-from wanekupo.seat.command_line import Command, file_text, told_as_error
+from wanekupo.cli.shift import add_period
+from wanekupo.seat.command_line import Command, add_journal_words, add_json, file_text
 from wanekupo.seat.settings import Settings, looking_station_of
 from wanekupo.common.errors import BadSettings, NotTheServer, StationError
 from wanekupo.seat.journal import issued, merged
 from wanekupo.seat.journal_lines import add_folders, named_folders
 from wanekupo.books.pages import write
 from wanekupo.books.lost import LOST, given_up, lost_csv, lost_formulas, lost_text
-from wanekupo.common.moments import moment_of
 from wanekupo.common.site_file import SiteFileError, read_site_file
 from wanekupo.common.printing import Formulas, Progress, print_shown, table_lines, warn
 from wanekupo.books.report_counts import as_csv, as_json, as_text, counts_of, difference_of, formulas_of
@@ -22,7 +20,6 @@ from wanekupo.seat.station import Station
 
 ISSUED = ("chip", "issuer", "serial", "key_sha256", "mac")
 
-JOURNALS = "a journal, or a folder with journals"
 YIELDED = """, from the earlier one to the later one, or to the report of now, which the server is asked for. begun: how
 many were registered. given_up: how many were quarantined, or scrapped without that. yield: 100 times shipped /
 (shipped + given_up), each counted when it happened, so that more may be shipped than begun."""
@@ -32,13 +29,9 @@ registration. A read-back without a reply is told on standard error. With --fold
 site file, or where that isn't there its folder's: then one that two stations gave up is there twice."""
 
 
-def _add_journals(parser: argparse.ArgumentParser) -> None:
-    parser.add_argument("journals", nargs="+", metavar="JOURNAL", help=JOURNALS)
-
-
 def _add_issued(parser: argparse.ArgumentParser) -> None:
-    _add_journals(parser)
-    parser.add_argument("--json", action="store_true", help="a line of JSON each, in place of values and commas")
+    add_journal_words(parser)
+    add_json(parser)
 
 
 def _issued(_: Settings, args: argparse.Namespace) -> int:
@@ -52,20 +45,14 @@ def _issued(_: Settings, args: argparse.Namespace) -> int:
     return 0
 
 
-def _add_times(parser: argparse.ArgumentParser) -> None:
-    said = "as 2026-11-27T06:00 by this machine's clock, 2026-11-27T06:00Z or 2026-11-27T06:00+02:00"
-    for name in ("from", "to"):
-        parser.add_argument(f"--{name}", dest=f"{name}_time", metavar="TIME", type=told_as_error(moment_of), help=said)
-
-
 def _add_lost(parser: argparse.ArgumentParser) -> None:
-    _add_journals(parser)
-    _add_times(parser)
+    add_journal_words(parser)
+    add_period(parser, is_required=False)
     add_folders(parser)
     said = "with --folders, the site file, which says whose each seat is (%(default)s)"
     parser.add_argument("--site", type=Path, default=Path("/etc/station/site.toml"), metavar="FILE", help=said)
     parser.add_argument("--csv", metavar="FILE", help="write it as comma-separated values too")
-    parser.add_argument("--json", action="store_true", help="a line of JSON each, in place of a table")
+    add_json(parser, "a table")
 
 
 def _customers_at(site: Path) -> dict[str, str]:
@@ -93,7 +80,7 @@ def _add_yield(parser: argparse.ArgumentParser) -> None:
     parser.add_argument("earlier", metavar="EARLIER", help=REPORT)
     parser.add_argument("later", metavar="LATER", nargs="?", help="the same, printed later")
     parser.add_argument("--csv", metavar="FILE", help="write it as comma-separated values too")
-    parser.add_argument("--json", action="store_true", help="a line of JSON each, in place of a table")
+    add_json(parser, "a table")
 
 
 def _report_in(file: str) -> str:
@@ -139,5 +126,5 @@ COMMANDS = [
     Command("issued", "show the records that journals have", _add_issued, _issued),
     Command("lost", "show which chips were lost or scrapped, when and why, by journals", _add_lost, _lost, GIVEN_UP),
     Command("yield", "show what was done between two reports that were printed", _add_yield, _yield, YIELDED),
-    Command("restore", "bring what journals say into a restored store", _add_journals, asks(restore_journals)),
+    Command("restore", "bring what journals say into a restored store", add_journal_words, asks(restore_journals)),
 ]

@@ -1,7 +1,5 @@
 """The command `seal`: a digest of all books over yesterday's, signed, and what two of them show of each other."""
 
-from __future__ import annotations
-
 import argparse
 import itertools
 from pathlib import Path

@@ -1,7 +1,5 @@
 """The command `shift`: what was done between two moments, over all customers and lines, by the stations' journals."""
 
-from __future__ import annotations
-
 import argparse
 import os
 from datetime import datetime, timedelta, timezone
@@ -12,7 +10,7 @@ from wanekupo.books.numbers_left import asked, rests
 from wanekupo.books.shift import Owned, period_of, shift_of
 from wanekupo.books.shift_page import as_html, as_text, shift_tables
 from wanekupo.books.steps import books_of, named, told_faults
-from wanekupo.seat.command_line import Command, told_as_error
+from wanekupo.seat.command_line import Command, add_journal_words, told_as_error
 from wanekupo.seat.settings import Settings
 from wanekupo.common.errors import BadSettings
 from wanekupo.common.moments import moment_of, tested_period
@@ -24,15 +22,14 @@ asked by --left."""
 TIME = "as 2026-11-27T06:00 by this machine's clock, 2026-11-27T06:00Z or 2026-11-27T06:00+02:00"
 
 
-def add_period(parser: argparse.ArgumentParser) -> None:
+def add_period(parser: argparse.ArgumentParser, is_required: bool = True) -> None:
     for name in ("from", "to"):
-        parser.add_argument(
-            f"--{name}", dest=f"{name}_time", required=True, metavar="TIME", type=told_as_error(moment_of), help=TIME
-        )
+        parser.add_argument(f"--{name}", dest=f"{name}_time", required=is_required, metavar="TIME",
+                            type=told_as_error(moment_of), help=TIME)  # fmt: skip
 
 
 def _add_arguments(parser: argparse.ArgumentParser) -> None:
-    parser.add_argument("journals", nargs="+", metavar="JOURNAL", help="a journal, or a folder with journals")
+    add_journal_words(parser)
     add_period(parser)
     said = "ask what orders have left, by a customer's token that looks: FILE, or acme=FILE; may come again"
     parser.add_argument("--left", action="append", default=[], metavar="TOKEN", help=said)

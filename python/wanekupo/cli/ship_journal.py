@@ -5,8 +5,6 @@ below the one that is named, by a number that lies beside them. So where a machi
 same seat and day stands beside the one from before, and replaces nothing of it.
 """
 
-from __future__ import annotations
-
 import argparse
 import os
 import re

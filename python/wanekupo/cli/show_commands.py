@@ -1,11 +1,9 @@
 """The commands that look at what the server has. They change nothing, and want neither a state file nor a journal."""
 
-from __future__ import annotations
-
 import argparse
 from typing import Any, Callable, Iterator, Sequence
 
-from wanekupo.seat.command_line import Command, chip_word, required_words
+from wanekupo.seat.command_line import Command, add_json, chip_word, required_words
 from wanekupo.seat.settings import Settings, looking_station_of
 from wanekupo.common.printing import Formulas, print_shown, say_json, table_lines
 from wanekupo.seat.replies import Listed
@@ -33,7 +31,7 @@ def _add_devices(parser: argparse.ArgumentParser) -> None:
     parser.add_argument("--state", metavar="STATE", help="those in this state alone")
     said = "those whose chips come behind this one"
     parser.add_argument("--after", default="", metavar="CHIP", type=chip_word, help=said)
-    parser.add_argument("--json", action="store_true", help="a line of JSON each, in place of values and commas")
+    add_json(parser)
 
 
 def _wanted(devices: Iterator[Listed], args: argparse.Namespace) -> Iterator[Listed]:
@@ -60,11 +58,7 @@ def _devices(settings: Settings, args: argparse.Namespace) -> int:
 
 def _add_report(parser: argparse.ArgumentParser) -> None:
     parser.add_argument("--order", metavar="NAME", help="the line of this order alone")
-    parser.add_argument("--json", action="store_true", help="a line of JSON each, in place of values and commas")
-
-
-def _add_site_report(parser: argparse.ArgumentParser) -> None:
-    parser.add_argument("--json", action="store_true", help="a line of JSON each, in place of values and commas")
+    add_json(parser)
 
 
 def counts_in_json(row: Sequence[str]) -> list[Any]:
@@ -102,7 +96,7 @@ COMMANDS = [
     Command(
         "site-report",
         "show the site's report, by the manager's token",
-        _add_site_report,
+        add_json,
         _report_of("/v1/site/report"),
     ),
 ]

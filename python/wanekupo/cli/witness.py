@@ -4,13 +4,11 @@ A store in which a seat's last number is lower is an older one. Who starts a sto
 before any station asks (docs/operate/second-machine.md).
 """
 
-from __future__ import annotations
-
 import argparse
 from pathlib import Path
 from typing import Any, Iterable, Mapping
 
-from wanekupo.seat.command_line import Command
+from wanekupo.seat.command_line import Command, add_journal_words
 from wanekupo.seat.settings import Settings
 from wanekupo.common.errors import BadJournal
 from wanekupo.common.moments import now_text
@@ -50,10 +48,6 @@ def _seat_of(line: Mapping[str, Any], file: str, seat: str) -> str:
     return name
 
 
-def _add_arguments(parser: argparse.ArgumentParser) -> None:
-    parser.add_argument("journals", nargs="+", metavar="JOURNAL", help="a journal, or a folder with journals")
-
-
 def _witness(settings: Settings, args: argparse.Namespace) -> int:
     numbers = acknowledged(args.journals, settings.seat)
     lines = [f"at {now_text()}"]
@@ -62,4 +56,4 @@ def _witness(settings: Settings, args: argparse.Namespace) -> int:
     return 0
 
 
-COMMANDS = [Command("witness", "show the highest accepted number of each seat", _add_arguments, _witness, MORE)]
+COMMANDS = [Command("witness", "show the highest accepted number of each seat", add_journal_words, _witness, MORE)]

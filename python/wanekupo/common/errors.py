@@ -1,7 +1,5 @@
 """What a station can't do by itself."""
 
-from __future__ import annotations
-
 from typing import Any, Mapping
 
 from wanekupo.common.texts import shown

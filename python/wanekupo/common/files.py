@@ -4,8 +4,6 @@ write; how one is put whole in another one's place; and the locks that one run a
 On Windows, which has neither modes nor `flock`, nothing of it is watched over.
 """
 
-from __future__ import annotations
-
 import contextlib
 import errno
 import gzip

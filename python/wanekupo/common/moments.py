@@ -1,7 +1,5 @@
 """Moments, as words of the command line and as texts."""
 
-from __future__ import annotations
-
 import re
 from datetime import datetime, timezone
 from typing import Optional

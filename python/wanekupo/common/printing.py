@@ -1,9 +1,7 @@
 """What the command prints. All of it comes through here: no control character of a server reaches a terminal."""
 
-from __future__ import annotations
-
 import sys
-from typing import Any, Iterable, Sequence
+from typing import Any, Iterable, Self, Sequence
 
 from wanekupo.common.texts import compact_json, csv_lines, formulas_in, shown, shown_lines
 
@@ -62,7 +60,7 @@ class Progress:
             print(f"\r{line.ljust(self.width)}", end="", file=sys.stderr, flush=True)
             self.is_shown, self.width = True, len(line)
 
-    def __enter__(self) -> Progress:
+    def __enter__(self) -> Self:
         return self
 
     def __exit__(self, *_: Any) -> None:

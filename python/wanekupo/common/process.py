@@ -1,7 +1,5 @@
 """Processes: how a command is run to its end, where another one of this project is, and how one ends."""
 
-from __future__ import annotations
-
 import subprocess
 import sys
 from collections.abc import Callable, Collection, Mapping, Sequence

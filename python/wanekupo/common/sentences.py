@@ -3,8 +3,6 @@
 No name of a class stands in them, and no control character of a server or a chip.
 """
 
-from __future__ import annotations
-
 import os
 import ssl
 import subprocess
@@ -111,17 +109,12 @@ def sentence_of(error: BaseException) -> str:
         happened, advice = str(error), ""
     else:
         happened, advice = _own_fault(error)
-    return _sentences(shown(happened), shown(advice))
+    return " ".join(it for it in (begun(shown(happened)).rstrip(".") + ".", shown(advice)) if it)
 
 
 def begun(happened: str) -> str:
     """With a capital letter, but where the name of a file or a command begins it."""
     return happened[:1].upper() + happened[1:] if happened.partition(" ")[0] in OPENERS else happened
-
-
-def _sentences(happened: str, advice: str) -> str:
-    """Both with a full stop."""
-    return " ".join(it for it in (begun(happened).rstrip(".") + ".", advice) if it)
 
 
 def _stopped(stop: OutOfStep) -> str:

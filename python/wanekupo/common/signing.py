@@ -5,8 +5,6 @@ signature in DER (RFC 5652). Who verifies names the one key that he trusts: mini
 certificate. No authority's word is taken for either.
 """
 
-from __future__ import annotations
-
 import argparse
 import base64
 import contextlib

@@ -3,8 +3,6 @@
 Whether a text is a site the program alone says (`station check-site`). This reads it as TOML 1.0.
 """
 
-from __future__ import annotations
-
 import hashlib
 import tomllib
 from dataclasses import dataclass, field

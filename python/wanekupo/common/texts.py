@@ -1,7 +1,5 @@
 """Texts as they may be printed or written: what a server says is data, and never a command to a terminal or a sheet."""
 
-from __future__ import annotations
-
 import csv
 import io
 import itertools

@@ -17,9 +17,8 @@ from pathlib import Path
 from typing import Optional
 
 from wanekupo.common.errors import PlantError, UnsafeFile
-from wanekupo.common.files import own_path
 from wanekupo.common.store_user import UserError, opened
-from wanekupo.common.files import hold_lock, replace_file, small_bytes, sync
+from wanekupo.common.files import hold_lock, own_path, replace_file, small_bytes, sync
 
 HEAD = """# The outer tokens, the inner ones behind them, and what nginx makes of both. It has the tokens: root's alone.
 # station-token(8) writes this file, and takes none that was changed by hand.

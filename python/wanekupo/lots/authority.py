@@ -10,8 +10,6 @@ A record gets one certificate, whenever this program is killed. What `openssl ca
 of its own newcerts. Of another command nobody here knows what it issued: a person looks.
 """
 
-from __future__ import annotations
-
 import contextlib
 import os
 import re
@@ -19,7 +17,7 @@ import subprocess
 import tempfile
 from datetime import datetime
 from pathlib import Path
-from typing import Any, Iterator, Mapping, Optional, Sequence
+from typing import Any, Iterator, Mapping, Optional, Self, Sequence
 from urllib.parse import unquote
 
 from wanekupo.common.errors import PAGES, BadKey, BadSettings, StationError
@@ -86,7 +84,7 @@ class Authority:
             raise BadSettings(f"another certify works with {folder}", "Wait until it is done.") from None
         self._numbers: dict[str, tuple[str, str]] = {}
 
-    def __enter__(self) -> Authority:
+    def __enter__(self) -> Self:
         try:
             if not self.command:
                 self._read_index()

@@ -5,8 +5,6 @@ Both run on the CA's side, or wherever somebody has certificates and a token tha
 secret key, and `certify` stops where a spool has one.
 """
 
-from __future__ import annotations
-
 import argparse
 import functools
 import shlex

@@ -4,8 +4,6 @@ Neither cloud was tried. AWS IoT Core takes a line of JSON for each thing, with 
 (`StartThingRegistrationTask`). Azure IoT Hub takes a line of JSON for each device (bulk import of device identities).
 """
 
-from __future__ import annotations
-
 import hashlib
 from collections import Counter
 from pathlib import Path

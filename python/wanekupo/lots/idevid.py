@@ -3,8 +3,6 @@
 `python3-cryptography` reads a certificate, and `openssl verify` builds its chain.
 """
 
-from __future__ import annotations
-
 import contextlib
 import hashlib
 import re

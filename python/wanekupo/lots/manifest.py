@@ -4,8 +4,6 @@ While records are asked for, those that came stand in FILE.part, each a whole li
 cut goes on with them. FILE is written when all are there and counted: whole and signed, or not at all.
 """
 
-from __future__ import annotations
-
 import argparse
 import base64
 import contextlib

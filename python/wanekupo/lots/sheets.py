@@ -5,8 +5,6 @@ part is by its maker's pages: leading zeros, more than 15 digits, digits around 
 be a date are converted, and a number of more than 11 digits is shown, and so saved, with an exponent.
 """
 
-from __future__ import annotations
-
 import importlib
 import io
 import re

@@ -3,8 +3,6 @@
 Both come from other machines, so a file is read through no link, up to a length, and is known by what it holds.
 """
 
-from __future__ import annotations
-
 import base64
 import hashlib
 import os

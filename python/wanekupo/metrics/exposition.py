@@ -3,11 +3,9 @@
 The rules of deploy/prometheus are held to these names by a test.
 """
 
-from __future__ import annotations
-
 import math
 from dataclasses import dataclass, field
-from typing import Mapping, Union
+from typing import Mapping, Self, Union
 
 Value = Union[int, float, bool]
 
@@ -79,7 +77,7 @@ class Samples:
         if math.isfinite(value):
             self.found.setdefault(metric, {})[tuple(sorted(labels.items()))] = value
 
-    def merge(self, others: Samples) -> None:
+    def merge(self, others: Self) -> None:
         for metric, values in others.found.items():
             self.found.setdefault(metric, {}).update(values)
 

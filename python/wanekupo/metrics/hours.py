@@ -1,7 +1,5 @@
 """The plant's hours, as `Mon-Fri 06:00-14:00`: whether a moment is in a shift. They are by this machine's clock."""
 
-from __future__ import annotations
-
 import re
 from dataclasses import dataclass
 from datetime import datetime

@@ -5,8 +5,6 @@ of each file how many bytes were read, of each seat its counts. So the counts ne
 away.
 """
 
-from __future__ import annotations
-
 import re
 from pathlib import Path
 from typing import Any, Iterator, Optional

@@ -2,8 +2,6 @@
 Nothing here asks the server itself, which tells nobody how many connections it has left.
 """
 
-from __future__ import annotations
-
 import http.client
 import json
 import os

@@ -4,8 +4,6 @@ Each part stands alone: one that can't be had is absent from the file, a metric 
 part needs a token that may change anything.
 """
 
-from __future__ import annotations
-
 import argparse
 import json
 import os

@@ -4,8 +4,6 @@ It asks with tokens that look, and for the report alone; for each order once mor
 addresses can be known from outside is in the orders (`mac`, `macs`, `quantity`) and the site file's pools.
 """
 
-from __future__ import annotations
-
 from typing import Any, Mapping, Sequence
 
 from wanekupo.seat import listings as gathering

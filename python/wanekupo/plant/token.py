@@ -38,7 +38,6 @@ from dataclasses import dataclass, replace
 from pathlib import Path
 from typing import Optional
 
-
 from wanekupo.common.printing import table_lines
 from wanekupo.common.process import end_tool, run_command
 from wanekupo.standby import living

@@ -1,7 +1,5 @@
 """A command of the command line, and what several of them share."""
 
-from __future__ import annotations
-
 import argparse
 import re
 import sys
@@ -35,6 +33,14 @@ def required_words(*names: str) -> Callable[[argparse.ArgumentParser], None]:
             parser.add_argument(name, metavar=name.upper(), type=chip_word if name == "chip" else str)
 
     return add_arguments
+
+
+def add_journal_words(parser: argparse.ArgumentParser) -> None:
+    parser.add_argument("journals", nargs="+", metavar="JOURNAL", help="a journal, or a folder with journals")
+
+
+def add_json(parser: argparse.ArgumentParser, other: str = "values and commas") -> None:
+    parser.add_argument("--json", action="store_true", help=f"a line of JSON each, in place of {other}")
 
 
 def chip_word(word: str) -> str:

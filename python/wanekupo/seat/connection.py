@@ -1,7 +1,5 @@
 """A server's replies: asked for until they come, over a connection that is kept between requests."""
 
-from __future__ import annotations
-
 import contextlib
 import http.client
 import ipaddress

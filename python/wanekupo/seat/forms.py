@@ -4,8 +4,6 @@ What a hook gets, a label or a file's name has, and what is burnt comes out of t
 another's page, and is as no reply.
 """
 
-from __future__ import annotations
-
 import re
 from typing import Any, Callable, Mapping
 

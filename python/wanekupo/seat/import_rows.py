@@ -1,7 +1,5 @@
 """Serial numbers that were handed out elsewhere, each with the SHA-256 of its key, as an import has them."""
 
-from __future__ import annotations
-
 import csv
 import io
 import json

@@ -5,8 +5,6 @@ counts what is new in them (`journal_counts`). A journal may be another machine'
 what a reader uses has the form that it relies on. Folders are bounded, and so is what is read of them.
 """
 
-from __future__ import annotations
-
 import argparse
 import json
 import os
@@ -103,16 +101,8 @@ def _is_number(it: Any) -> bool:
     return type(it) is int and abs(it) <= MOST_NUMBER
 
 
-def _is_texts(it: Any) -> bool:
-    return isinstance(it, list) and all(map(_is_text, it))
-
-
 def _is_wish(it: Any) -> bool:
     return isinstance(it, dict) and all(_is_text(part) or _is_number(part) for part in it.values())
-
-
-def _is_wishes(it: Any) -> bool:
-    return isinstance(it, list) and all(map(_is_wish, it))
 
 
 # What members have to be where they are there: those of a line, and those of what is asked and of its reply.
@@ -123,8 +113,8 @@ INNER: Forms = {
     **dict.fromkeys(("text", "csv", "state", "outcome", "error"), _is_text),
     **dict.fromkeys(("serial", "mac", "next", "not_before", "not_after", "reason"), _is_name),
     **dict.fromkeys(("nr", "no", "expected", "width", "first", "quantity", "macs", "added", "present"), _is_number),
-    "blocks": _is_texts,
-    "wishes": _is_wishes,
+    "blocks": lambda it: isinstance(it, list) and all(map(_is_text, it)),
+    "wishes": lambda it: isinstance(it, list) and all(map(_is_wish, it)),
 }
 
 # The members by which the three kinds of lines are told apart: each line has those of one kind, and no other's.

@@ -1,7 +1,5 @@
 """The restore of a store by the logs of its stations (docs/operate/backup-and-restore.md)."""
 
-from __future__ import annotations
-
 import contextlib
 import hashlib
 import itertools
@@ -147,16 +145,12 @@ def _serials_again(station: Station, records: Mapping[tuple[str, str], Record], 
     by_issuer: dict[str, dict[str, Record]] = {}
     for (issuer, serial), record in records.items():
         by_issuer.setdefault(issuer, {})[serial] = record
-    parts = [(own, part) for own in by_issuer.values() for part in import_parts(_rows_of(own))]
-    for own, part in parts:
+    rows_of = ((own, [(serial, it.key_sha256) for serial, it in own.items()]) for own in by_issuer.values())
+    for own, part in [(own, part) for own, rows in rows_of for part in import_parts(rows)]:
         counts = _part_again(station, own, part)
         added, present = added + counts[0], present + counts[1]
         ticked(len(part))
     return {"added": added, "present": present}
-
-
-def _rows_of(own: Mapping[str, Record]) -> Rows:
-    return [(serial, it.key_sha256) for serial, it in own.items()]
 
 
 def _part_again(station: Station, own: Mapping[str, Record], part: Rows) -> tuple[int, int]:

@@ -4,8 +4,6 @@ A key's form and a request's signature are `python3-cryptography`'s to know (Deb
 the kinds of signatures are no work for a client of our own. It is imported where a key is read, and not before.
 """
 
-from __future__ import annotations
-
 import hashlib
 import importlib
 import warnings

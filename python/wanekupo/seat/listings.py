@@ -4,8 +4,6 @@ All of it comes over the kept connection of one `Station`, one request after ano
 came: who was stopped goes on behind the last chip that he has. The rows are the server's replies, member for member.
 """
 
-from __future__ import annotations
-
 from typing import Any, Callable, Iterable, Iterator, TypeVar
 
 from wanekupo.seat.replies import Listed, device_of, entries_of, identity_of, order_of

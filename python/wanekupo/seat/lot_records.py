@@ -4,8 +4,6 @@ A row has what the server says of a device in three places: its place in the lis
 map. Two connections ask for the last two, since by a token nginx lets two requests go on at a time.
 """
 
-from __future__ import annotations
-
 from collections import Counter
 from concurrent.futures import ThreadPoolExecutor
 from dataclasses import dataclass

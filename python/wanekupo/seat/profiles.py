@@ -9,8 +9,6 @@ The standards weren't at hand: their sections are named from memory.
                 (600 bytes) and 6.2.2.3, by a PAI of 6.2.2.4
 """
 
-from __future__ import annotations
-
 import re
 from dataclasses import dataclass, replace
 

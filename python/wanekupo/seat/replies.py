@@ -1,7 +1,5 @@
 """Replies as objects, and which bytes are a reply of the server's."""
 
-from __future__ import annotations
-
 import functools
 import json
 from dataclasses import dataclass, fields

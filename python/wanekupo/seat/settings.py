@@ -5,8 +5,6 @@ The command line wins over the environment, that over `~/.config/wanekupo.toml`,
 the files, so that no parser of our own does.
 """
 
-from __future__ import annotations
-
 import os
 import re
 import ssl
@@ -76,10 +74,6 @@ def _name(given: Any, folder: Path) -> str:
     return name
 
 
-def _profile(given: Any, folder: Path) -> Profile:
-    return profile_of(_text(given, folder))
-
-
 def _truth(given: Any, _: Path) -> bool:
     found = TRUTHS.get(str(given).lower())
     if found is None:
@@ -100,7 +94,7 @@ def _seconds(given: Any, _: Path) -> float:
 READERS: dict[str, Callable[[Any, Path], Any]] = {
     "url": _text, "token": _path, "state": _path, "journal": _path, "ca": _path, "insecure": _truth,
     "patience": _seconds, "seat": _name, "operator": _text, "spool": _path,
-    "profile": _profile,
+    "profile": lambda given, folder: profile_of(_text(given, folder)),
 }  # fmt: skip
 
 

@@ -1,8 +1,6 @@
 """A seat's state file: the number of its next request, the request under way, the last one with its reply, those of
 which a late copy may still be accepted, and why it stopped, if it did."""
 
-from __future__ import annotations
-
 import hashlib
 import json
 import os

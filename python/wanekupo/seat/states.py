@@ -1,7 +1,5 @@
 """The states of a device and the steps between them (docs/integrate/api.md#devices): one machine for all who ask."""
 
-from __future__ import annotations
-
 from typing import Iterable, Mapping
 
 # No device yet, and what a plan may make of one.

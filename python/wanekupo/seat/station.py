@@ -4,8 +4,6 @@ A `Station` is one seat of the site file. Its state file is synced before a requ
 loses its power sends the same request again: `finish` does that, before anything else is asked for.
 """
 
-from __future__ import annotations
-
 import csv
 import functools
 import io

@@ -14,7 +14,6 @@ import sys
 import time
 from collections.abc import Sequence
 
-
 from wanekupo.common.store_words import clean_words
 from wanekupo.standby.half import Half, StandbyError, fenced_by_command, read_settings, run_bounded, take_word
 

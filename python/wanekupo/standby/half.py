@@ -5,8 +5,6 @@ A *half* is the disk of one machine. DRBD keeps both equal while they are connec
 library alone.
 """
 
-from __future__ import annotations
-
 import contextlib
 import os
 import re

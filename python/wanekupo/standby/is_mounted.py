@@ -8,7 +8,6 @@ the unit again behind a status 2.
 import sys
 from collections.abc import Sequence
 
-
 from wanekupo.standby.half import Half, StandbyError, read_settings, print_told
 
 

@@ -5,8 +5,6 @@ A token that was ended on one machine alone would live on behind a takeover of t
 and no token. The store's user writes it: who has that user's rights can hide that a token has ended, and can make none.
 """
 
-from __future__ import annotations
-
 import os
 import re
 from pathlib import Path

@@ -6,8 +6,6 @@ replayed there, the server's program opens the store there, as a start would, an
 Nobody writes the half meanwhile: the other machine is off, or it doesn't have the store.
 """
 
-from __future__ import annotations
-
 import contextlib
 import os
 import re

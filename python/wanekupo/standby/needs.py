@@ -4,8 +4,6 @@ With less a write may be answered that one half lacks, a machine may go on alone
 by itself.
 """
 
-from __future__ import annotations
-
 import re
 import shlex
 from pathlib import Path

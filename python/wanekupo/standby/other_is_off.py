@@ -12,7 +12,6 @@ import shlex
 import time
 from collections.abc import Sequence
 
-
 from wanekupo.standby.half import (
     Half, StandbyError, done, end_script, give_word, read_settings, run_bounded, take_word, print_told, waited_for,
 )  # fmt: skip

@@ -9,7 +9,6 @@ It stops at what it can't do, and says which step that was; begun again it goes 
 import argparse
 from collections.abc import Sequence
 
-
 from wanekupo.standby.half import (
     FROZEN, SERVER_SECONDS, Half, StandbyError, done, end_script, read_settings, print_told,
 )  # fmt: skip

@@ -18,7 +18,6 @@ import argparse
 from collections.abc import Sequence
 from datetime import datetime
 
-
 from wanekupo.common.errors import PAGES
 from wanekupo.standby import living, look, needs, witness
 from wanekupo.standby.half import (

@@ -4,8 +4,6 @@
 that was acknowledged, and would be issued once more.
 """
 
-from __future__ import annotations
-
 import os
 import re
 import shlex

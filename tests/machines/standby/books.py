@@ -2,36 +2,14 @@
 
 import json
 import re
-import sqlite3
 import subprocess
 from collections import Counter
 from pathlib import Path
 
+from common.customers import EVENTS, tables
 from common.served import Caller, Server, station
 
 from machines.standby.load import Asking
-
-# The tables of a store, without the numbers that the keeper draws.
-TABLES = {
-    "seat": "*",
-    "map": "body, digest",
-    "link": "customer, digest",
-    "orders": "*",
-    "order_start": "*",
-    "device": "*",
-    "given": "*",
-    "given_start": "*",
-    "ledger": "customer, chip, n, event, note, seat, bits, keys",
-    "site_text": "*",
-}
-EVENTS = {
-    "/v1/device": "registered",
-    "/v1/plan": "planned",
-    "/v1/readback": "read",
-    "/v1/identity": "identified",
-    "/v1/ship": "shipped",
-    "/v1/scrap": "scrapped",
-}
 
 
 def taken_out(disk: Path, folder: Path) -> Path:
@@ -43,15 +21,6 @@ def taken_out(disk: Path, folder: Path) -> Path:
         if done.returncode or not (folder / name).exists():
             raise SystemExit(f"FAILED: debugfs: {done.stderr.strip()}")
     return folder / "books.db"
-
-
-def tables(path: Path) -> dict[str, list[str]]:
-    """The rows of a store's tables in an order of their own, and what SQLite finds in the file."""
-    base = sqlite3.connect(path)
-    found = base.execute("PRAGMA integrity_check").fetchall() + base.execute("PRAGMA foreign_key_check").fetchall()
-    rows = {name: sorted(map(repr, base.execute(f"SELECT {what} FROM {name}"))) for name, what in TABLES.items()}
-    base.close()
-    return rows | {"test": [repr(row) for row in found]}
 
 
 def undisturbed(program: Path, site: Path, folder: Path, port: int, stations: list[Asking]) -> tuple[Path, list[str]]:
@@ -104,7 +73,7 @@ def compared(stored: Path, calm: Path, stations: list[Asking]) -> tuple[dict[str
     """The counts of both stores, and what they don't have in common."""
     rows, others = tables(stored), tables(calm)
     faults = [f"the table {name} differs" for name in rows if rows[name] != others[name]]
-    faults += [] if rows["test"] == ["('ok',)"] else [f"SQLite finds {rows['test'][0]} in the file"]
+    faults += [] if rows["test"] == [("ok",)] else [f"SQLite finds {rows['test'][0]} in the file"]
     lost, twice = counted(rows, stations)
     faults += [f"{lost} acknowledged steps are lost"] if lost else []
     faults += [f"{twice} steps are there that nobody acknowledged"] if twice else []

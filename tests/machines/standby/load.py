@@ -8,7 +8,8 @@ from collections.abc import Iterable, Iterator
 from pathlib import Path
 from typing import Any
 
-from common.registrations import MAP, blocks_of, key_of
+from common.customers import token_of
+from common.registrations import MAP, blocks_of, planned
 
 from wanekupo.common.errors import Refused
 from wanekupo.seat.journal import Journal
@@ -21,22 +22,6 @@ DIGEST = hashlib.sha256(MAP.encode()).hexdigest()
 PATIENCE, WHOLE = 3600, 20
 # How many seconds at most are between two requests of a station: guests have little of a processor for them.
 WORK = 1.0
-
-
-def token_of(customer: int, seat: int) -> str:
-    return f"token-{customer}-{seat}"
-
-
-def site_text(customers: Iterable[int] = range(CUSTOMERS), seats: int = SEATS) -> str:
-    """Customers with so many seats each, and a pool of addresses each."""
-    lines = []
-    for customer in customers:
-        lines += ["[[customer]]", f'name = "c{customer}"', f'issuer = ["c{customer}-ca"]']
-        lines += ["[[customer.pool]]", f'first = "02{customer:02x}00000000"', "count = 16777216"]
-        for seat in range(seats):
-            token = hashlib.sha256(token_of(customer, seat).encode()).hexdigest()
-            lines += ["[[customer.seat]]", f'name = "s{customer}{seat}"', f'token = "{token}"']
-    return "\n".join(lines) + "\n"
 
 
 class Wanted:
@@ -69,12 +54,7 @@ class Wanted:
         number = self.begin + len(self.chips) + 1
         chip = f"{self.customer:x}{self.seat:x}{number:010x}"
         self.chips.append(chip)
-        key = key_of(number)
-        digest = hashlib.sha256(b"".join(word.to_bytes(4, "little") for word in key)).hexdigest()
-        burnt, locked = blocks_of(number), blocks_of(number)
-        burnt[2] = [f"{word:08x}" for word in key]
-        locked[0][0] = "00020000"
-        wishes = [{"kind": "key", "field": "BLOCK2", "key_sha256": digest}, {"kind": "rlock", "field": "BLOCK2"}]
+        wishes, burnt, locked = planned(number)
         yield "/v1/device", {"chip": chip, "order": order, "map": DIGEST, "blocks": blocks_of(number)}
         yield "/v1/plan", {"chip": chip, "wishes": wishes}
         yield "/v1/readback", {"chip": chip, "blocks": burnt}

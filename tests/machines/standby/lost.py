@@ -5,7 +5,7 @@ import time
 
 from machines.standby.guests import Guest
 from machines.standby.pair import SCRIPTS, SEEN
-from machines.standby.place import ANSWERS, BEHIND, Place, back, is_alone
+from machines.standby.place import ANSWERS, BEHIND, Place, back, first_lost, is_alone
 from machines.standby.scenarios import NO_WORD, OLDER
 
 SETTINGS = "/etc/station/standby.toml"
@@ -38,10 +38,7 @@ def killed(place: Place) -> None:
     """A takeover is killed at random moments, and between `primary` and the server's start, where its machine loses its
     power too. Begun again it goes on."""
     place.work()
-    moment = time.monotonic()
-    place.first.cut()
-    place.pair.address.move(None)
-    seen = is_alone(place, place.second, moment)
+    seen = first_lost(place)
     words = f"takeover --witness /run/witness {place.off()}"
     place.pair.script(place.second, f"takeover {place.off()}")
     place.second.put(place.line.witness(), "/run/witness")

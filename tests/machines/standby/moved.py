@@ -5,10 +5,11 @@ import time
 from collections.abc import Iterator
 from pathlib import Path
 
+from common.customers import site_text, token_of
 from common.served import Server, station
 
 from machines.standby.books import compared, undisturbed
-from machines.standby.load import CUSTOMERS, Line, site_text, token_of
+from machines.standby.load import CUSTOMERS, Line
 from machines.standby.network import Router, free_ports
 from machines.standby.place import ANSWERS, BEHIND, Cut, Place
 

@@ -11,7 +11,8 @@ import threading
 from collections.abc import Iterable
 from pathlib import Path
 
-HOST = "127.0.0.1"
+from common.ports import HOST, accepted
+
 # More than a frame of the cable has, and what a connection hands on at a time.
 FRAME, PART = 1 << 16, 1 << 16
 
@@ -102,11 +103,7 @@ class Address:
             end(each)
 
     def accept(self) -> None:
-        while True:
-            try:
-                near = self.listener.accept()[0]
-            except OSError:
-                return
+        for near in accepted(self.listener):
             threading.Thread(target=self.join, args=(near,), daemon=True).start()
 
     def join(self, near: socket.socket) -> None:

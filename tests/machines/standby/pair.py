@@ -9,11 +9,11 @@ from collections.abc import Callable, Iterable
 from concurrent.futures import ThreadPoolExecutor
 from pathlib import Path
 
+from common.customers import site_text
 from common.goals import tell
 
 from machines.standby.guests import Guest, SilentGuest
 from machines.standby.image import DEPLOYED, Edit, Image, Packages
-from machines.standby.load import site_text
 from machines.standby.network import Address, Cable, free_ports
 
 PLACES = {"alpha": "192.0.2.1", "beta": "192.0.2.2"}

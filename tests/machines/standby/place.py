@@ -169,6 +169,14 @@ def back(place: Place, guest: Guest) -> None:
     place.pair.wait_joined()
 
 
+def first_lost(place: Place) -> float:
+    """Cuts the power of the first. Returns how long it took until the second saw that it is alone."""
+    moment = time.monotonic()
+    place.first.cut()
+    place.pair.address.move(None)
+    return is_alone(place, place.second, moment)
+
+
 def joined_again(place: Place, newer: Guest, older: Guest) -> None:
     """Has the machine with the store look for the other one again where it has given up, as the page says."""
     if place.pair.state(newer).startswith("StandAlone"):

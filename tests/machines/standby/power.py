@@ -4,6 +4,8 @@ import contextlib
 import socket
 import threading
 
+from common.ports import accepted
+
 from machines.standby.guests import Guest
 from machines.standby.pair import Pair
 
@@ -34,11 +36,7 @@ class PowerSwitch:
             guest.ask(f"echo 'fence = \"/sbin/switch-off {self.pair.other(guest).name}\"' >> {SETTINGS}")
 
     def serve(self) -> None:
-        while True:
-            try:
-                caller = self.listener.accept()[0]
-            except OSError:
-                return
+        for caller in accepted(self.listener):
             with caller, contextlib.suppress(OSError, KeyError):
                 caller.settimeout(20)
                 name = caller.makefile().readline().removeprefix("off ").strip()

@@ -6,9 +6,11 @@ import tarfile
 import time
 from pathlib import Path
 
+from common.customers import token_of
+
 from machines.standby.books import given_twice
 from machines.standby.guests import SilentGuest
-from machines.standby.load import CUSTOMERS, WORK, Asking, Line, token_of
+from machines.standby.load import CUSTOMERS, WORK, Asking, Line
 from machines.standby.pair import SEEN
 from machines.standby.place import ANSWERS, BEHIND, Place, is_alone, new_disk
 from machines.standby.scenarios import OLDER

@@ -6,13 +6,14 @@ from collections.abc import Callable
 from dataclasses import dataclass, field, replace
 from pathlib import Path
 
+from common.customers import site_text
 from common.goals import tell
 
 from machines.standby import lost, scenarios, words
 from machines.standby.books import compared, taken_out, undisturbed
 from machines.standby.costs import cost
 from machines.standby.guests import SilentGuest
-from machines.standby.load import WORK, Line, site_text
+from machines.standby.load import WORK, Line
 from machines.standby.moved import moved
 from machines.standby.network import free_ports
 from machines.standby.pair import Pair, copied

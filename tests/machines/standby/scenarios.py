@@ -5,16 +5,8 @@ import time
 
 from machines.standby.pair import JOINED, SEEN, UP
 from machines.standby.place import (
-    ANSWERS,
-    BEHIND,
-    DISK_FAILS,
-    Cut,
-    Place,
-    back,
-    is_alone,
-    joined_again,
-    new_disk,
-)
+    ANSWERS, BEHIND, DISK_FAILS, Cut, Place, back, first_lost, is_alone, joined_again, new_disk,
+)  # fmt: skip
 
 
 # What a refusal says.
@@ -25,10 +17,7 @@ def power_cut(place: Place) -> None:
     """(a), and with the roles exchanged (b): the power of the first is cut, the second takes over, and the first
     follows."""
     place.work()
-    moment = time.monotonic()
-    place.first.cut()
-    place.pair.address.move(None)
-    seen = is_alone(place, place.second, moment)
+    seen = first_lost(place)
     place.refused("without a word", place.second, "", NO_WORD)
     place.taken_over("power of the first", seen, place.off())
     back(place, place.first)
@@ -97,6 +86,11 @@ def both_alone(place: Place) -> None:
     place.expect("Primary" in states[1] and "UpToDate" in states[1], f"(d): the second is {states[1]}")
     found = place.answers(place.first, numbers)
     place.expect(not found, f"(d): the frozen machine answers behind the mended cable {found}")
+    first_follows(place)
+
+
+def first_follows(place: Place) -> None:
+    """The line goes on over the second. The first is switched off and on, and follows; then it has the store again."""
     place.line.wait_for(BEHIND, ANSWERS)
     place.first.cut()
     place.pair.start(place.first)
@@ -193,11 +187,7 @@ def hangs(place: Place) -> None:
     place.pair.wait_address_gone(place.first, SEEN)
     found = place.answers(place.first, numbers)
     place.expect(not found, f"(g): the machine that woke up answers {found}")
-    place.line.wait_for(BEHIND, ANSWERS)
-    place.first.cut()
-    place.pair.start(place.first)
-    joined_again(place, place.second, place.first)
-    place.swap()
+    first_follows(place)
 
 
 def upgrade(place: Place) -> None:

@@ -1,9 +1,8 @@
 """Tokens that are ended on one machine alone, behind which the other one takes the store over."""
 
-import time
 
 from machines.standby.guests import Guest
-from machines.standby.place import Place, back, is_alone
+from machines.standby.place import Place, back, first_lost
 
 FILE = "/etc/station/tokens.conf"
 TOKEN = "/usr/share/wanekupo/token --no-reload"
@@ -36,10 +35,7 @@ def ended_tokens(place: Place) -> None:
     before = copied(place.first, place.second)
     typed(place, place.first, "revoke a1:1")
     place.work()
-    moment = time.monotonic()
-    place.first.cut()
-    place.pair.address.move(None)
-    seen = is_alone(place, place.second, moment)
+    seen = first_lost(place)
     place.refused("a token that lives on", place.second, place.off(), LIVES.format(place.first.name))
     said = typed(place, place.second, "revoke a1:1")
     place.expect("isn't mounted here" in said, f"the machine without the store doesn't say so: {said}")

@@ -5,7 +5,7 @@ import time
 from collections.abc import Iterator
 from datetime import datetime, timedelta, timezone
 
-from machines.standby.place import ANSWERS, BEHIND, Place, back, is_alone
+from machines.standby.place import ANSWERS, BEHIND, Place, back, first_lost, is_alone
 from machines.standby.scenarios import NO_WORD, OLDER
 
 FORM = "at %Y-%m-%dT%H:%M:%SZ"
@@ -34,10 +34,8 @@ def wrong(before: str, now: str) -> Iterator[tuple[str, str, str]]:
 def bad_witnesses(place: Place) -> None:
     """The power of the first is cut. Wrong witnesses are refused, and so is a wrong name; a right witness isn't."""
     place.line.wait_for(40, 600)
-    before, moment = place.line.witness(), time.monotonic()
-    place.first.cut()
-    place.pair.address.move(None)
-    seen = is_alone(place, place.second, moment)
+    before = place.line.witness()
+    seen = first_lost(place)
     place.refused("without a word", place.second, "", NO_WORD)
     own = f"--other-is-off {place.second.name}"
     place.refused("the name of another", place.second, own, "The other machine of this")

@@ -5,7 +5,7 @@ import time
 
 from machines.standby.image import STANDBY
 from machines.standby.pair import SEEN
-from machines.standby.place import Cut, Place, back, is_alone
+from machines.standby.place import Cut, Place, back, first_lost, is_alone
 from machines.standby.power import PowerSwitch
 from machines.standby.scenarios import NO_WORD
 
@@ -37,6 +37,14 @@ def mended(place: Place, cut: Cut) -> None:
     place.cuts.append(cut)
 
 
+def goes_on(place: Place, cut: Cut) -> None:
+    """The first goes on alone. The cable is mended, and the second comes back."""
+    cut.replied = place.next_reply()
+    place.cuts.append(cut)
+    place.pair.cable.mend()
+    back(place, place.second)
+
+
 def fenced(place: Place) -> None:
     """The plant's power switch says that the other machine is off: the first goes on alone without anybody, and so does
     a takeover, which wants the witness still."""
@@ -51,10 +59,7 @@ def fenced(place: Place) -> None:
         back(place, place.second)
         switch.install(place.second)
         place.work()
-        moment = time.monotonic()
-        place.first.cut()
-        place.pair.address.move(None)
-        seen = is_alone(place, place.second, moment)
+        seen = first_lost(place)
         place.taken_over("power of the first, the switch asked", seen, "")
         place.expect(switch.asked[-1] == place.first.name, f"the power switch was asked for {switch.asked}")
         back(place, place.first)
@@ -77,10 +82,7 @@ def fence_fails(place: Place) -> None:
         place.expect(place.second.is_on(), "the power switch cut power that it didn't say")
         place.second.cut()
         place.word()
-        cut.replied = place.next_reply()
-        place.cuts.append(cut)
-        place.pair.cable.mend()
-        back(place, place.second)
+        goes_on(place, cut)
 
 
 def frozen_long(place: Place) -> None:
@@ -94,10 +96,7 @@ def frozen_long(place: Place) -> None:
     place.second.cut()
     place.word()
     place.tell(f"a word behind the handler's end: {place.pair.state(place.first)}")
-    cut.replied = place.next_reply()
-    place.cuts.append(cut)
-    place.pair.cable.mend()
-    back(place, place.second)
+    goes_on(place, cut)
 
 
 def frozen_until_ended(place: Place, seconds: float = 120) -> float:
@@ -116,7 +115,4 @@ def frozen_ten_minutes(place: Place) -> None:
     cut = Cut("cable, a word behind ten minutes", seen=frozen_until_ended(place, 900))
     place.second.cut()
     place.word()
-    cut.replied = place.next_reply()
-    place.cuts.append(cut)
-    place.pair.cable.mend()
-    back(place, place.second)
+    goes_on(place, cut)

@@ -55,7 +55,6 @@ import sys
 from collections.abc import Callable, Iterator
 from pathlib import Path
 
-
 from wanekupo.common.errors import cause_of
 from wanekupo.plant.backup.copies import BackupError, copy_for_trial, copy_store, name_of_user
 from wanekupo.plant.backup.folder import (

@@ -34,10 +34,8 @@ import shutil
 import signal
 import sys
 from collections import Counter
-from collections.abc import Iterable
 from pathlib import Path
 from typing import Any
-
 
 from wanekupo.common.acts import run_noted
 from wanekupo.common.errors import PAGES, cause_of
@@ -182,14 +180,10 @@ def look(args: argparse.Namespace, place: StorePlace, copy: Path | None) -> tupl
         if found is None:
             print_lines(f"{what}: sqlite3 can't read those of the lost store")
             continue
-        keeps += [line for name, own in rows_of_customers(found) if (line := keeping(args, what, name, own))]
+        own_rows = by_customer((str(row["customer"]), shown(" ".join(map(str, row.values())))) for row in found)
+        keeps += [line for name, own in own_rows.items() if (line := keeping(args, what, name, own))]
     shutil.rmtree(copy.parent)
     return keeps, rows
-
-
-def rows_of_customers(rows: list[dict[str, Any]]) -> Iterable[tuple[str, list[str]]]:
-    """Rows in words, by the customer that they are of."""
-    return by_customer((str(row["customer"]), shown(" ".join(map(str, row.values())))) for row in rows).items()
 
 
 def keeping(args: argparse.Namespace, what: str, name: str, rows: list[str]) -> str:

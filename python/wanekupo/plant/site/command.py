@@ -33,7 +33,6 @@ import signal
 from pathlib import Path
 from typing import Any
 
-
 from wanekupo.common.process import end_tool
 from wanekupo.plant.site.apply import Stopped, apply, is_up, say
 from wanekupo.plant.site.closing import close, known_seats
