@@ -2,7 +2,9 @@
 # Builds the container image (deploy/image/build) and runs its pod (deploy/image/pod) by podman, in a mount and a network
 # namespace of its own: the volumes and the store are made, the pod comes up, both containers are healthy, and neither
 # is root or writes its own files. A request to the published port is answered, also behind a kill of the server, and
-# behind a stop and a start of the pod. A base and a `make` that were cut are begun again.
+# behind a stop and a start of the pod. A base and a `make` that were cut are begun again. Then the steps at the head of
+# deploy/kube/wanekupo.yaml, with podman's words for a cluster's, over volumes as a cluster gives them, and the same of
+# the pod that they end with.
 #
 #   image [--program P] [--base FOLDER] [--keep FOLDER] [--prepare]
 #
@@ -33,8 +35,8 @@ room=$(mktemp -d)
 [ -n "$keep" ] || keep=$room/store
 ended() {
     [ -z "$is_prepared" ] || { rm -rf "$room"; return; }
-    podman pod rm --force wanekupo > /dev/null 2>&1 || true
-    podman volume rm --force wanekupo-books wanekupo-etc > /dev/null 2>&1 || true
+    podman pod rm --force --ignore wanekupo wanekupo-0 wanekupo-make > /dev/null 2>&1 || true
+    podman volume prune --force > /dev/null 2>&1 || true
     [ "$INSIDE" = pod ] || rm -rf "$keep.run"
     rm -rf "$room"
 }
@@ -49,6 +51,14 @@ step() { printf '%s\n' "- $1"; }
 same() { if [ "$2" != "$3" ]; then printf 'image: %s: %s, and not %s\n' "$1" "$2" "$3" >&2; exit 1; fi; }
 inside() { podman exec "$@" 2> "$room/said"; }
 healthy() { for _ in $(seq 30); do pod health > "$room/healthy" 2> /dev/null && break; sleep 1; done; same health "$(cat "$room/healthy")" healthy; }
+are_shut() {
+    for name in server nginx; do
+        same "$name as root" "$(inside "$1-$name" id -u)" "$([ $name = server ] && echo 880 || echo 33)"
+        same "$name's capabilities" "$(inside "$1-$name" sed -n 's/^CapEff:[ \t]*//p' /proc/self/status)" 0000000000000000
+        ! inside "$1-$name" touch /usr/bin/x || { echo "image: $name writes its own files" >&2; exit 1; }
+    done
+    ! inside "$1-server" cat /etc/station/key.pem || { echo 'image: the server reads the key' >&2; exit 1; }
+}
 
 if [ "$INSIDE" = build ]; then
     step 'the image'
@@ -98,12 +108,7 @@ healthy
 same 'the bound of the file' "$(inside wanekupo-server awk '/^Max file size/ {print $4}' /proc/1/limits)" 1073741824
 if pod up 2> /dev/null; then echo 'image: a second pod came up' >&2; exit 1; fi
 same 'the server' "$(podman logs wanekupo-server 2> /dev/null)" 'listening on 127.0.0.1:880'
-for name in server nginx; do
-    same "$name as root" "$(inside wanekupo-$name id -u)" "$([ $name = server ] && echo 880 || echo 33)"
-    same "$name's capabilities" "$(inside wanekupo-$name sed -n 's/^CapEff:[ \t]*//p' /proc/self/status)" 0000000000000000
-    ! inside wanekupo-$name touch /usr/bin/x || { echo "image: $name writes its own files" >&2; exit 1; }
-done
-! inside wanekupo-server cat /etc/station/key.pem || { echo 'image: the server reads the key' >&2; exit 1; }
+are_shut wanekupo
 
 step 'a token, and a request through nginx'
 (umask 077 && printf 'header = "Authorization: Bearer %s"\n' "$(pod token add a1 --holder 'line 1')" > "$room/a1.curl")
@@ -132,4 +137,69 @@ pod up
 healthy
 same 'the order behind a stop' "$(asked '/v1/order?name=o1')" 200
 pod down
-echo 'the pod does what its page says'
+
+step 'the steps of deploy/kube, over volumes that have no owner yet'
+# A cluster itself sets the pod's sysctl, makes rooms that anybody may write, and gives a stop its time; podman doesn't.
+sed '1adefault_sysctls = ["net.ipv4.ip_unprivileged_port_start=880"]' "$room/containers.conf" > "$room/cluster.conf"
+export CONTAINERS_CONF=$room/cluster.conf
+played() {
+    /usr/bin/python3 -B "$top/tests/machines/played.py" "$top/deploy/kube/$1" | podman kube play --network podman -
+    podman volume ls --quiet | awk '!/wanekupo/' | xargs -r podman volume inspect --format '{{.Mountpoint}}' | xargs -r chmod 777
+}
+unplayed() { podman pod stop --time "$2" "$1" && podman pod rm "$1"; }
+probed() { podman exec wanekupo-0-server /usr/share/wanekupo/health server && podman exec wanekupo-0-nginx /usr/share/wanekupo/health proxy; }
+until_it() { for _ in $(seq 60); do "$@" > "$room/said" 2>&1 && return; sleep 1; done; cat "$room/said" >&2; return 1; }
+kubectl() {
+    case "$*" in
+        'apply -f '*) played "$3" ;;
+        'scale statefulset wanekupo --replicas=1') played wanekupo.yaml ;;
+        'scale statefulset wanekupo --replicas=0' | 'delete pod wanekupo-0') unplayed wanekupo-0 900 ;;
+        'delete pod wanekupo-make') unplayed wanekupo-make 1 ;;
+        wait*pod/wanekupo-make) until_it podman exec wanekupo-make-books test -O . ;;
+        wait*pod/wanekupo-0) until_it probed ;;
+        'exec -i '*) podman exec -i "$3-$5" "${@:7}" ;;
+        'exec '*) podman exec "$2-$4" "${@:6}" < /dev/null ;;
+        *) echo "image: kubectl $*" >&2; return 1 ;;
+    esac
+}
+# Behind its first container podman changes no owner any more, and into what isn't empty it copies nothing.
+podman run --rm --network none --user root -v books-wanekupo-0:/mnt -v etc-wanekupo-0:/srv localhost/wanekupo true
+read -r books etc < <(podman volume inspect --format '{{.Mountpoint}}' books-wanekupo-0 etc-wanekupo-0 | xargs)
+mkdir "$books/lost+found" "$etc/lost+found"
+same 'whose the volumes are' "$(stat -c %U:%a "$books" "$etc" | xargs)" 'root:755 root:755'
+cp "$site" "$room/site.toml"
+sed -n 's/^#   //p' "$top/deploy/kube/wanekupo.yaml" > "$room/steps"
+(umask 077 && printf 'header = "Authorization: Bearer %s"\n' "$(cd "$room" && eval "$(cat steps)" | tail -n 1)" > "$room/a1.curl")
+are_shut wanekupo-0
+same 'the bound of the file' "$(inside wanekupo-0-server awk '/^Max file size/ {print $4}' /proc/1/limits)" $(((4 << 30) / 3 / 512 * 512))
+from_outside() {
+    infra=$(podman pod inspect --format '{{.InfraContainerID}}' wanekupo-0)
+    address=$(podman inspect --format '{{range .NetworkSettings.Networks}}{{.IPAddress}}{{end}}' "$infra")
+    asked "$@" --connect-to "localhost:8443:$address:8443"
+}
+sleep 1
+same 'an order' "$(from_outside /v1/order -d '{"nr":1,"name":"o1","issuer":"acme-ca","prefix":"A","width":3,"first":1,"quantity":2,"macs":0}')" 200
+
+step 'a kill, a stop and a start of the played pod, and steps that are given again'
+kill -9 "$(pgrep -P "$(podman inspect --format '{{.State.Pid}}' wanekupo-0-server)" station)"
+until_it probed
+same 'the order behind a kill' "$(from_outside '/v1/order?name=o1')" 200
+kubectl delete pod wanekupo-0 > /dev/null
+same 'the log behind a stop' "$(stat -c %s "$books/books.db-wal")" 41
+kubectl apply -f make.yaml > /dev/null
+kubectl wait --for=condition=Ready pod/wanekupo-make
+put_again() { (cd "$room" && eval "$(grep '^put()' steps)" && put 077 tokens.conf) 2>&1 || true; }
+same 'what is put once more' "$(put_again | grep -c 'File exists')" 1
+kubectl delete pod wanekupo-make > /dev/null
+kubectl scale statefulset wanekupo --replicas=1 > /dev/null
+until_it probed
+same 'the order behind a stop' "$(from_outside '/v1/order?name=o1')" 200
+
+step 'a store that is lost'
+kubectl delete pod wanekupo-0 > /dev/null
+rm "$books"/books.db*
+kubectl scale statefulset wanekupo --replicas=1 > /dev/null
+refused() { podman logs wanekupo-0-server 2>&1 | grep 'store fault 2'; }
+until_it refused
+same 'what a start makes' "$(ls "$books")" lost+found
+echo 'the pods do what their files say'

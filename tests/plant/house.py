@@ -29,7 +29,7 @@ SERVICE = r"""#!/bin/bash
 here=$(dirname "$(realpath "$0")")
 . "$here/words"
 if [ -z "$INSIDE" ]; then INSIDE=yes exec setsid -w flock -o "$here/service.lock" "$0" "$@"; fi
-words=(--site "$here/site.toml" --db "$here/store/books.db" --existing)
+words=(--site "$SITE" --db "$here/store/books.db" --existing)
 is_up() { [ -s "$here/pid" ] && kill -0 "$(cat "$here/pid")" 2> /dev/null; }
 case $1 in
     start)
@@ -91,19 +91,22 @@ class Run:
 
 
 class House:
-    """A folder with all that the tool needs; the server may run."""
+    """A folder with all that the tool needs; the server may run. Several have their sites, by the names of their
+    folders, and their tokens in one folder."""
 
-    def __init__(self, program: Path, folder: Path):
+    def __init__(self, program: Path, folder: Path, etc: Path | None = None):
         self.program, self.folder, self.port = program, folder, free_port()
-        self.site, self.tokens, self.rooms = folder / "site.toml", folder / "tokens.conf", folder / "rooms"
+        self.site = etc / f"{folder.name}.toml" if etc else folder / "site.toml"
+        self.tokens, self.rooms = self.site.with_name("tokens.conf"), folder / "rooms"
         self.backups, self.given, self.db = folder / "backups", folder / "given", folder / "store/books.db"
         self.other_words: dict[str, object] = {}
         self.owner, self.project = "", PROJECT
 
     def build(self) -> None:
-        """A store that is made, and a backup of it."""
+        """A store that is made, of the sample's site where there is none, and a backup of it."""
         self.folder.mkdir()
-        self.site.write_bytes(SITE.read_bytes())
+        if not self.site.exists():
+            self.site.write_bytes(SITE.read_bytes())
         self.site.chmod(0o640)
         for made in (self.backups, self.given, self.db.parent, self.rooms):
             made.mkdir()
@@ -130,7 +133,7 @@ class House:
 
     def environment(self) -> dict[str, str]:
         """What a tool is started with. The service has its words in a file, as root's tools pass on none of these."""
-        words = {"PROGRAM": self.program, "PORT": self.port, "AS": " ".join(self.as_owner())}
+        words = {"PROGRAM": self.program, "PORT": self.port, "SITE": self.site, "AS": " ".join(self.as_owner())}
         lines = "".join(f"{name}={shlex.quote(str(it))}\n" for name, it in words.items())
         (self.folder / "words").write_text(lines, encoding="utf-8")
         return dict(os.environ)
@@ -176,10 +179,11 @@ class House:
 
     def proxied(self) -> "subprocess.Popen[bytes]":
         """nginx by deploy/nginx.conf in front, with other ports and paths."""
-        port, certificate = free_port(), self.folder / "cert.pem"
-        certify(self.folder, name="station.example", names="DNS:station.example")
+        port, etc = free_port(), self.tokens.parent
+        certificate = etc / "cert.pem"
+        certify(etc, name="station.example", names="DNS:station.example,IP:127.0.0.1")
         pairs = [("listen 8443", f"listen 127.0.0.1:{port}"), ("127.0.0.1:880;", f"127.0.0.1:{self.port};"),
-                 ("/etc/station/", f"{self.folder}/"), ("/var/lib/nginx/", f"{self.folder}/lib-"),
+                 ("/etc/station/", f"{etc}/"), ("/var/lib/nginx/", f"{self.folder}/lib-"),
                  ("/var/log/nginx/", f"{self.folder}/log-")]  # fmt: skip
         path, pid = self.folder / "nginx.conf", self.folder / "nginx.pid"
         path.write_text(replaced(CONF, pairs))
