@@ -38,7 +38,7 @@ case $1 in
         if [ -e "$here/broken" ]; then echo 5 > "$here/restarts"; exit 0; fi
         $AS "$PROGRAM" serve "${words[@]}" --port "$PORT" --connections 100000 > "$here/served" 2>&1 < /dev/null &
         echo $! > "$here/pid"
-        for _ in $(seq 100); do grep -qs listening "$here/served" && break; sleep 0.02; done ;;
+        for _ in $(seq 3000); do grep -qs listening "$here/served" || ! is_up && break; sleep 0.02; done ;;
     stop)
         echo >> "$here/stops"
         is_up || exit 0
@@ -102,11 +102,11 @@ class House:
         self.other_words: dict[str, object] = {}
         self.owner, self.project = "", PROJECT
 
-    def build(self) -> None:
-        """A store that is made, of the sample's site where there is none, and a backup of it."""
+    def build(self, site: Path = SITE) -> None:
+        """A store that is made, of this site where there is none, and a backup of it."""
         self.folder.mkdir()
         if not self.site.exists():
-            self.site.write_bytes(SITE.read_bytes())
+            self.site.write_bytes(site.read_bytes())
         self.site.chmod(0o640)
         for made in (self.backups, self.given, self.db.parent, self.rooms):
             made.mkdir()
@@ -163,7 +163,7 @@ class House:
         (self.folder / "sitecustomize.py").write_text(COUNTER)
         more = {"KILL_AT": str(kill_at or -1), "KILL_COUNT": str(count), "PYTHONPATH": str(self.folder)}
         done = subprocess.run(
-            [*self.common(), *words], env=self.environment() | more, capture_output=True, text=True, timeout=120,
+            [*self.common(), *words], env=self.environment() | more, capture_output=True, text=True, timeout=600,
             stdin=subprocess.DEVNULL, start_new_session=True, check=False,
         )  # fmt: skip
         return Run(done.returncode, done.stdout + done.stderr, count.stat().st_size)
@@ -177,14 +177,14 @@ class House:
             shutil.chown(path, OWNER, GROUP)
         shutil.chown(self.site, group=GROUP)
 
-    def proxied(self) -> "subprocess.Popen[bytes]":
-        """nginx by deploy/nginx.conf in front, with other ports and paths."""
+    def proxied(self, *more: tuple[str, str]) -> "subprocess.Popen[bytes]":
+        """nginx by deploy/nginx.conf in front, with other ports and paths, and more words in the place of others."""
         port, etc = free_port(), self.tokens.parent
         certificate = etc / "cert.pem"
-        certify(etc, name="station.example", names="DNS:station.example,IP:127.0.0.1")
+        certify(etc, name="station.example", names="DNS:station.example,DNS:localhost,IP:127.0.0.1")
         pairs = [("listen 8443", f"listen 127.0.0.1:{port}"), ("127.0.0.1:880;", f"127.0.0.1:{self.port};"),
                  ("/etc/station/", f"{etc}/"), ("/var/lib/nginx/", f"{self.folder}/lib-"),
-                 ("/var/log/nginx/", f"{self.folder}/log-")]  # fmt: skip
+                 ("/var/log/nginx/", f"{self.folder}/log-"), *more]  # fmt: skip
         path, pid = self.folder / "nginx.conf", self.folder / "nginx.pid"
         path.write_text(replaced(CONF, pairs))
         subprocess.run([TOOL, "--file", self.tokens, "--no-reload", "write"], capture_output=True, check=True)

@@ -380,6 +380,15 @@ class Journals(SeatCase):
             kinds = [it.kind for it in _journal_faults([own], store)]
             self.assertEqual([it for it in kinds if it == "no_seat"], meant)
 
+    def test_a_seat_without_a_row_behind_a_restore(self):
+        """One that has asked for nothing since a restore took all of it away is known: the store expects number 1."""
+        for hour, on, kinds, meant in (("05", 1, [], False), ("07", 1, [], True), ("05", 2, ["no_seat"], True)):
+            store = SimpleNamespace(seats={}, site_seats={"a1": "acme"})
+            own = seated(self.book([*row(1, 3, hour), goes_on(f"{hour}:30:00", on)]), store)
+            self.assertEqual(spans_of([own], store, PERIOD), [])
+            self.assertEqual([it.kind for it in _journal_faults([own], store) if it.kind == "no_seat"], kinds)
+            self.assertEqual({counts(own, it, store, PERIOD) for it in own.book.steps}, {meant})
+
     def test_entries_from_before_a_journal(self):
         """Each seat's own first line counts, and as many entries as it had numbers; those of number 1 have none."""
         pairs = [(5, SimpleNamespace(seat="a1")), (9, SimpleNamespace(seat="a2"))]

@@ -247,7 +247,8 @@ def _journal_faults(journals: Iterable[Seated], store: Books) -> Iterator[Found]
         for step in (step for step in it.book.steps if step.odd):
             told = f"{step.place()} has a reply that isn't as a server writes it: {step.odd}"
             yield Found("journal", step.at, it.customer, it.seat, step.chip, told)
-        is_bare = not any(map(Step.is_done, it.book.steps))  # a seat that was only refused has no row
+        # A seat that was only refused has no row, nor one that asked for nothing since a restore took all of it away.
+        is_bare = not any(step.is_done() and not step.is_lost for step in it.book.steps)
         if it.seat in store.seats or not it.book.times and not any(fault.line for fault in it.book.faults):
             continue
         if not is_bare or it.seat not in store.site_seats:

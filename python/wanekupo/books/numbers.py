@@ -80,11 +80,13 @@ def begun_customers(spans: Iterable[Span], store: Books) -> set[str]:
 
 def spans_of(journals: Iterable[Seated], store: Books, period: Period) -> list[Span]:
     """The numbers of each seat that has a journal. Each line gets its turn, and what is there twice or wasn't done is
-    taken out of the journals."""
+    taken out of the journals. A seat of the site without a row has no numbers, but lines that a restore took away."""
     books: dict[str, list[Book]] = {}
     for it in journals:
-        if it.seat in store.seats:
+        if it.seat in store.seats or it.seat in store.site_seats:
             books.setdefault(it.seat, []).append(it.book)
+    for name in books.keys() - store.seats.keys():
+        _lose_lines(books.pop(name), period)
     return [_span_of(store.seats[name], own, period) for name, own in sorted(books.items())]
 
 
@@ -262,6 +264,17 @@ def _span_of(seat: StoredSeat, books: list[Book], period: Period) -> Span:
     span.lost += _unanswered_faults(steps, books, begun, period)
     _count(span, seat, steps, turns, period)
     return span
+
+
+def _lose_lines(books: list[Book], period: Period) -> None:
+    """Says which lines of a seat without a row the store lost: those in front of where the seat goes on with number 1,
+    as the store expects it of such a one."""
+    read = [(book, list(book.steps)) for book in books]
+    steps, turns = _in_order(StoredSeat("", "", 0, "", ""), read, period)
+    for it in steps:
+        it.is_lost = it.turn < 0 and turns[-1].number == 1
+    for book, own in read:
+        book.steps = book.steps.only(own)
 
 
 def _unanswered_faults(
