@@ -78,7 +78,8 @@ ROWS = {
 def tree(tmp_path: Path) -> Path:
     """A repository with the tools, a crate, its tests, and wrong bodies; and a toolchain beside it."""
     top = tmp_path / "top"
-    for name in ("tools/strength", "tools/edits.py", "tools/switches.py"):
+    tools = ("strength", "edits.py", "prover.py", "switches.py", "verdicts.py", "pages_lib/rattle.py")
+    for name in (f"tools/{it}" for it in tools):
         (top / name).parent.mkdir(parents=True, exist_ok=True)
         shutil.copy2(ROOT / name, top / name)
     texts = {
