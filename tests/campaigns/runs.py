@@ -21,7 +21,7 @@ from common.needs import APART, ROOT, may_be_apart
 # The lines that are kept of a failure, and of a measure; the seconds to clear away; the hours of a smallest run.
 TAIL, KEPT, CLEARING, SMALLEST = 12, 400, 60, 1 / 6
 FAULT, LEFT_OUT = re.compile(r"(?m)^(?:FAILED|ERROR) (\S+ - .*)$"), re.compile(r"(?m)^SKIPPED \[\d+\] \S+: (.*)$")
-COUNT = re.compile(r"\b(\d+) (passed|failed|skipped|xfailed|errors?|refused|not|tests)\b")
+COUNT = re.compile(r"\b(\d+) (passed|failed|skipped|xfailed|errors?|refused|not|equivalent|tests)\b")
 
 
 def ended(words: Sequence[str], folder: Path, hours: float, is_measure: bool) -> int:

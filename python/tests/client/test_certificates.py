@@ -90,7 +90,8 @@ class Certificates(CertificateCase):
         """Of a bench's spool, which has one request, no list is read once the CA has its issuer, unless another chip is
         said to have the number."""
         wire, lists = self.proxy(), []
-        for subject, refused in ((None, 0), (None, 0), ("/CN=chip", 0), ("/CN=240ac4000001", 1)):
+        two = "/CN=240ac4000001/CN=240ac4000002"
+        for subject, refused in ((None, 0), (None, 0), ("/CN=chip", 0), ("/CN=240ac4000001", 1), (two, 1)):
             serial = self.device(subject=subject)
             (alone := self.folder / serial).mkdir()
             shutil.move(self.spool / f"{serial}.csr", alone)
@@ -99,7 +100,7 @@ class Certificates(CertificateCase):
             self.assertEqual((status, json.loads(out)["issued"]), (refused, 1 - refused), err)
             lists.append(sum(b"GET /v1/devices?" in asked for _, asked in wire.seen))
             wire.seen.clear()
-        self.assertEqual(lists, [1, 0, 1, 1])
+        self.assertEqual(lists, [1, 0, 1, 1, 1])
 
     # What is refused.
 

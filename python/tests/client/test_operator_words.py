@@ -6,11 +6,13 @@ The endings are those of the table in docs/line/bench.md.
 import copy
 import re
 import string
+import subprocess
+import unittest
 from unittest import mock
 
 from support import ROOT, FolderCase
 
-from wanekupo.bench import words
+from wanekupo.bench import endings, life, words
 from wanekupo.bench.board import Board, ShiftCounts, Socket, box_of, ended_socket, in_common, state_of
 from wanekupo.bench.endings import ENDINGS, Ended
 from wanekupo.bench.recipe import BadRecipe, recipe_of
@@ -162,3 +164,11 @@ class Words(FolderCase):
             with self.assertRaises(BadRecipe, msg=more) as caught:
                 read(more)
             self.assertIn(told, str(caught.exception), more)
+
+
+class Sentences(unittest.TestCase):
+    def test_a_screen_has_room_for_so_much(self):
+        """Of names the first four, and of what a command said its last line, 120 letters of it."""
+        self.assertEqual([life._shown(list(it)) for it in ("abcd", "abcde")], ["a, b, c, d", "a, b, c, d .."])
+        error = subprocess.CalledProcessError(1, "espefuse", f"first\n{150 * 'y'}\n \n")
+        self.assertEqual(endings._said(error), 120 * "y")

@@ -52,6 +52,7 @@ CHANGES = [
     ("bit = 63, count = 1", "bit = 13, count = 1", [(5, 10, "field.bit")]),
     ("bit = 63, count = 1", "bit = 14, count = 50", []),
     ("bit = 8, count = 4", "bit = 7, count = 4", [(5, 8, "field.bit")]),
+    ("bit = 0, count = 8", "bit = 40, count = 8", []),
     ("bit = 8, count = 4", "bit = 8, count = 5", [(5, 9, "field.bit")]),
     ('wr = "WR"', 'wr = "WRONG"', [(6, 2, "wr")]),
     ('rd = "RD"', 'rd = "rd"', [(6, 3, "rd")]),

@@ -8,7 +8,8 @@ from pathlib import Path
 import pytest
 
 from test_sealed_rows import imported, life, order
-from wanekupo.books.chain import NONE, Chain
+from wanekupo.books.apart import sealed_rows_of
+from wanekupo.books.chain import NONE, Chain, sealed
 from wanekupo.books.lines import line
 from wanekupo.cli.main import main
 
@@ -33,7 +34,7 @@ def _replaced(row):
 
 
 FIRST = [order(), *life("c1", "G009", "0200000000f0", "a"), imported("OLD", "c"), seat("a1"), SITE]
-SECOND = [order("o1", mac="020000000100"), *life("c2", "G010", "020000000102", "b"), seat("a1"), SITE]
+SECOND = [order("o1", mac="0200000000f8"), *life("c2", "G010", "0200000000fa", "b"), seat("a1"), SITE]
 
 
 @pytest.fixture
@@ -56,6 +57,13 @@ def seal_again(folder: Path, rows):
     Chain(folder).add(sorted(rows), LATER, "@all", None, None)
 
 
+def test_stores_come_by_their_names(tmp_path):
+    for name in "fcadbe":
+        (tmp_path / f"{name}.rows").touch()
+        (tmp_path / f"{name}.seal").write_text(f"{sealed(NONE, 1, AT, '@all', 0, NONE).line()}\n")
+    assert [it.file.stem for it in sealed_rows_of(tmp_path)] == [*"abcdef"]
+
+
 def test_disjoint(asked, tmp_path):
     """Also where the second one imported what the first one gave, so that it gives it never. The metrics say when."""
     second = bolts(SECOND)
@@ -70,8 +78,8 @@ def test_disjoint(asked, tmp_path):
 KEY = f"a{63 * '0'}"
 TWICE = {
     "a serial number": (["G010", "G009"], "The serial number G009 stands twice: the record of G009 of acme-ca of acme"),
-    "an address of an order": (["020000000100", "0200000000f7"], "The address 0200000000f7 stands twice: the order o1"),
-    "an address of a record": (["020000000102", "0200000000f0"], "The address 0200000000f0 stands twice: the order o1"),
+    "an address of an order": (["0200000000f8", "0200000000f7"], "The address 0200000000f7 stands twice: the order o1"),
+    "an address of a record": (["0200000000fa", "0200000000f0"], "The address 0200000000f0 stands twice: the order o1"),
     "a key": ([f"b{63 * '0'}", KEY], f"The key {KEY} stands twice: the record of G009 of acme-ca of acme in"),
     "a chip": (["c2", "c1"], "The chip c1 stands twice: the device c1 of acme in"),
 }

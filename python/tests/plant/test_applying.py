@@ -2,9 +2,11 @@
 
 import argparse
 import http.client
+import io
 import os
 import stat
 import subprocess
+import sys
 from types import SimpleNamespace
 
 import pytest
@@ -490,9 +492,11 @@ def test_a_pipe_in_the_place_of_that_copy_ends_no_growth(place, monkeypatch):
     assert (bounds, ["took too long" in it for it in told(place)]) == ([60], [True])
 
 
-def test_say_is_seen_at_once(capsys, monkeypatch):
+def test_say_is_seen_at_once(monkeypatch):
+    """Also where nobody types, as in a pipe, which keeps lines back."""
+    monkeypatch.setattr(sys, "stdout", io.TextIOWrapper(io.BytesIO()))
     applying.say("line")
-    assert capsys.readouterr().out == "line\n"
+    assert sys.stdout.buffer.getvalue() == b"line\n"
 
 
 def test_a_signal_is_a_refusal():

@@ -317,7 +317,8 @@ def test_where_anything_fails_there_is_no_backup(store, tmp_path, machine, progr
         machine.meanwhile = changed(Path(f"{store}-wal"))
     if fault == "no site":
         site.unlink()
-    with pytest.raises((BackupError, OSError)):
+    told = {"store changed": f"^{store} isn't as it was copied", "log changed": f"^{store}-wal isn't as it was copied"}
+    with pytest.raises((BackupError, OSError), match=told.get(fault)):
         copy_store(program, str(site), str(store), tmp_path / "made")
     assert not (tmp_path / "made").exists()
     assert (fault != "served") or machine.calls == []

@@ -5,7 +5,7 @@ import random
 
 import pytest
 
-from wanekupo.books.documents import NotShown, SealBooks, device_text, found_rows
+from wanekupo.books.documents import NotShown, SealBooks, device_text, found_rows, identity_text
 from wanekupo.books.lines import BadRow, device_line, entry_line, order_line, record_line
 from wanekupo.common.errors import Refused
 
@@ -55,7 +55,10 @@ def test_each_key_and_no_other(tmp_path, seed):
 
 
 def test_the_second_address(tmp_path):
-    read = books(tmp_path, [order_line("acme", ORDER), record("S001", "020000000002"), record("S002", "020000000004")])
+    held = device("acme", "0000000000aa").replace('"serial":null', '"serial":"S001"')
+    one, two = record("S001", "020000000002"), record("S002", "020000000004")
+    read = books(tmp_path, [order_line("acme", ORDER), one, two, held])
+    assert f"record acme ca S001 {identity_text(read, 'acme', '0000000000aa')}" == one
     wanted = {"000003": ["S001"], "02:00:00:00:00:05": ["S002"], "0000006": [], "s00": ["S001", "S002"]}
     for part, serials in wanted.items():
         assert [it["serial"] for it in found_rows(read, "acme", part)] == serials, part

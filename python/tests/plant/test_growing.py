@@ -66,7 +66,7 @@ def test_a_customer_more(text):
     new = with_customer(text, COG, "t")
     assert tomllib.loads(new.removeprefix("\ufeff")) == {**before, "customer": [*before["customer"], COG]}
     assert new.startswith("\ufeff") == text.startswith("\ufeff")
-    assert not before["customer"] or kept(text, new)
+    assert kept(text, new) if before["customer"] else "[[customer]]\nname" in new, "no header can add to `[]`"
 
 
 @pytest.mark.parametrize("name, kind, items", [

@@ -296,15 +296,15 @@ def test_a_mount_whose_device_is_gone_is_another_volume(tmp_path, monkeypatch):
         Half(StandbySettings(folder=str(tmp_path), device=str(tmp_path / "none"))).is_mounted()
 
 
-@pytest.mark.parametrize("names, is_refused", [([], False), (["lost+found"], False), (["books.db"], True),
-    (["x", "lost+found"], True)])
-def test_files_below_the_mount(tmp_path, names, is_refused):
+@pytest.mark.parametrize("names, told", [([], ""), (["lost+found"], ""), (["books.db"], "books.db"),
+    (["x", "lost+found"], "x"), (["d", "b", "a", "c"], "a and b and c")])  # fmt: skip
+def test_files_below_the_mount(tmp_path, names, told):
     """A store that was made there before the half was mounted would be hidden by it, or be served in its place."""
     for name in names:
         (tmp_path / name).write_text("")
     own = Half(StandbySettings(folder=str(tmp_path)))
-    if is_refused:
-        with pytest.raises(StandbyError, match=f"has files, {names[0]}"):
+    if told:
+        with pytest.raises(StandbyError, match=f"has files, {told}, and"):
             own.is_mounted()
     else:
         assert own.is_mounted() is False

@@ -8,7 +8,7 @@ import pytest
 
 from wanekupo.common import files
 from wanekupo.common.errors import BadSettings, UnsafeFile
-from wanekupo.common.signing import BadSignature, Signer, verify
+from wanekupo.common.signing import BadSignature, Signer, is_public, verify
 from wanekupo.lots.authority import Authority
 
 
@@ -63,7 +63,10 @@ def test_file_by_which_a_ca_signs(tmp_path: Path, name: str, mode: int, is_taken
         (tmp_path / it).write_text("")
         (tmp_path / it).chmod(mode if it == name else 0o644)
     if is_taken:
+        before = os.umask(0)
         Authority(tmp_path).close()
+        os.umask(before)
+        assert (tmp_path / "issued").stat().st_mode & 0o777 == 0o755
         return
     with pytest.raises(BadSettings, match=f"others can write {tmp_path / name}, by which the CA signs"):
         Authority(tmp_path)
@@ -80,3 +83,11 @@ def test_what_is_signed_is_not_what_another_put_there(tmp_path: Path) -> None:
         verify(file, cms=tmp_path / "cert.pem")
     file.write_bytes(b"serial\nA1\n")
     verify(file, cms=tmp_path / "cert.pem")
+
+
+def test_public_keys_of_minisign(tmp_path: Path) -> None:
+    """The first one is of minisign's own page; the others are longer, a secret one's beginning, and none."""
+    key = "RWQf6LRCGA9i53mlYecO4IzT51TGPpvWucNSCh1CBM0QTaLn73Y7GFO3"
+    for text, is_one in ((f"x\n{key}\n", True), (f"x\n{key}AAAA", False), ("x\nRWRTY0Iy", False), (key, False)):
+        (tmp_path / "key").write_text(text)
+        assert is_public(tmp_path / "key") is is_one

@@ -181,7 +181,7 @@ def test_journals_are_held_against_the_lost_store(monkeypatch, tmp_path, place, 
     copy = place.work / "lost/books.db"
     assert held(monkeypatch, tmp_path, place, []) == copy
     both = [*(9 * ["acme: one"]), "acme: two", "bolt: three"]
-    with pytest.raises(RestoreError, match="acme: one; .*10 such lines. bolt: three; 1 such.*--distrust-lost acme"):
+    with pytest.raises(RestoreError, match="^acme: (one; ){5}10 such lines. bolt: three; 1 such.*--distrust-lost acme"):
         held(monkeypatch, tmp_path, place, both)
     with pytest.raises(RestoreError, match="^bolt: three; 1 such lines. .* --distrust-lost bolt"):
         held(monkeypatch, tmp_path, place, both, distrust_lost=["acme"])
@@ -198,12 +198,12 @@ def test_the_rest_of_what_was_moved_is_moved_first(monkeypatch, tmp_path):
 
 
 def test_listed(tmp_path, place, capsys):
-    left = {"acme": {"c1": ("ready", "blank"), "c2": ("ready", "blank"), "c3": ("shipped", None)}}
+    left = {"acme": {"c3": ("shipped", None), "c1": ("ready", "blank"), "c2": ("ready", "blank")}}
     restore.write_lists(place, left, {"orders": ROWS})
     assert json.loads((place.work / "left.json").read_text()) == json.loads(json.dumps(left))
     assert json.loads((place.work / "missing.json").read_text()) == {"orders": ROWS}
     told = capsys.readouterr().out
-    assert "ready and are blank: 2" in told and "shipped and are not there: 1" in told
+    assert 0 < told.index("ready and are blank: 2") < told.index("shipped and are not there: 1")
 
 
 def ended(monkeypatch, tmp_path, place, keeps, **more):

@@ -11,7 +11,7 @@ from wanekupo.plant.restore.plan import CustomerPlan, JournalRequest, SeatJourna
 GAPS = (
     ([5, 6, 7], 4, ""),
     ([6], 4, "5"),
-    ([5, 8, 9, 12], 4, "6 to 7, 10 to 11"),
+    ([8, 5, 12, 9], 4, "6 to 7, 10 to 11"),
     ([1, 2], 4, ""),
     ([], 4, ""),
     (range(2, 90, 2), 0, ", ".join(map(str, range(1, 40, 2))) + ", and in 24 more places"),  # it fills no screen
@@ -38,6 +38,8 @@ def customer(name="acme", seats=("a1", "restore-acme"), can_order=True, seat="")
 NUMBERS = (
     ("all there", customer(), requests(a1=[1, 2, 3]), {"a1": 2}, "", []),
     ("no journal", customer(), {}, {"a1": 2}, "", ["the seat a1 of acme has no journal here"]),
+    ("no journals, in their order", customer(seats=("b1", "a9", "c1", "a1")), {}, {}, "c1",
+     [f"the seat {it} of acme has no journal here" for it in ("a1", "a9", "b1")]),
     ("no journal, and a word", customer(), {}, {"a1": 2}, "a1", []),
     ("who can order nothing", customer(can_order=False), {}, {"a1": 2}, "", []),
     ("the one that asks, new", customer(seats=["a1"], seat="a1"), {}, {}, "", []),
@@ -96,10 +98,13 @@ LOST = (
      {"a1": {3: [JournalRequest("line 8", "00"), JournalRequest("line 9", "d3", True)]}}, {}, []),
     ("one by a person's hand", {"a1": {3: [JournalRequest("line 9", "", True)]}}, {}, []),
     ("one more that was done", requests(a1=[3, 4]), {}, ["line 4 has number 4 of a1, and the lost store's last is 3"]),
-    ("two more without a reply", requests(a1=[3, -4, -5]), {},
+    ("two more without a reply", requests(a1=[3, -4, -6, -5]), {},
      ["line 5 has number 5 of a1, and the lost store's last is 3"]),
     ("a seat that asked for nothing", requests(a9=[1]), {},
      ["line 1 has number 1 of a9, and the lost store's last is 0"]),
+    ("seats in their order", requests(**{it: [9] for it in ("restore-acme", "a9", "a1")}), {},
+     [f"line 9 has number 9 of {it}, and the lost store's last is {last}"
+      for it, last in (("a1", 3), ("a9", 0), ("restore-acme", 5))]),
     ("a store that was restored since", requests(a1=[3, 4, 5]), RESTORED, []),
     ("another request in such a one", {"a1": {3: [JournalRequest("line 9", "00", True)]}}, RESTORED,
      ["line 9 has number 3 of a1, which is another request in the lost store"]),

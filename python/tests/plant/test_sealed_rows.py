@@ -5,6 +5,7 @@ import json
 
 import pytest
 
+from wanekupo.books.coherence import faults_of
 from wanekupo.books.compare import Text, contradictions
 from wanekupo.books.lines import device_line, entry_line, line, order_line, record_line
 
@@ -77,3 +78,13 @@ def test_honest():
 def test_found(name):
     rows, told = FOUND[name]
     assert any(told in it for it in said(rows)), name
+
+
+def test_a_ledger_is_read_by_its_numbers_and_told_in_order():
+    keys = {"c": "3", "a": "1", "d": "4", "b": "2"}
+    steps = (3, "read", "match", keys), (1, "registered", "", keys), (2, "planned", "", {})
+    entries = [{"n": number, "event": it, "note": note, "bits": [], "keys": more} for number, it, note, more in steps]
+    device = {"state": "settled", "reason": None, "serial": None, "bits": [], "keys": {}}
+    again = [f"its entry 3 adds a key of {it}, which was known" for it in "abcd"]
+    otherwise = [f"the key of {it} is none, and by its ledger {keys[it]}" for it in "abcd"]
+    assert list(faults_of(device, entries, [])) == [*again, *otherwise]

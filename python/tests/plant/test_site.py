@@ -347,6 +347,10 @@ def test_the_disk_has_lost_the_text_before_a_seat_goes(place, monkeypatch):
 def test_apply_of_nothing(place, capsys):
     site.apply_command(words("apply"), place)
     assert place.calls == [] and "nothing is prepared" in capsys.readouterr().out
+    place.closed.write_text("{}")
+    for text in (["apply"], ["add-seat", "acme", "a2"]):
+        with pytest.raises(TokenError, match="is closed .*station-site successor"):
+            site.COMMANDS[text[0]](words(*text), place)
 
 
 def test_apply_looks_again(place, monkeypatch):

@@ -199,8 +199,11 @@ def test_a_function_that_does_not_end_is_ended(monkeypatch, hurry):
 def test_what_a_function_prints_is_bounded(monkeypatch, hurry):
     monkeypatch.setattr(store_user, "RELAYED", 1000)
     assert called_as_another(monkeypatch, lambda: os.write(1, b"x" * 1000) and 0) == 0
+    assert called_as_another(monkeypatch, lambda: os.umask(0)) == 0o077, "what it makes is its user's alone"
     with pytest.raises(UserError, match="printed too much"):
         called_as_another(monkeypatch, lambda: os.write(1, b"x" * 1001) and 0)
+    with pytest.raises(UserError, match="^x{4000}$"):
+        called_as_another(monkeypatch, lambda: (_ for _ in ()).throw(ValueError("x" * 100_000)))
 
 
 def test_where_memory_runs_out_these_are_ended_first(monkeypatch):
@@ -222,6 +225,9 @@ def test_where_memory_runs_out_these_are_ended_first(monkeypatch):
     # keyctl(2): 250 on x86-64, KEYCTL_JOIN_SESSION_KEYRING is 1, and without a name it is a new one.
     # setuid(2) leaves the groups as they are, so root's go first.
     assert steps == ["end_first", (250, 1, None), ["station", 4243], "setresgid", "setresuid"]
+    libc.prctl = lambda what, *_: what == 38  # PR_SET_NO_NEW_PRIVS: who may get rights again does nothing
+    with pytest.raises(UserError, match="^prctl: "):
+        USER._become(os.getppid())
 
 
 @pytest.mark.parametrize("number, is_refused", [(errno.ENOSYS, False), (errno.EPERM, False), (errno.EDQUOT, True)])
@@ -239,6 +245,12 @@ def test_roots_keys_are_left(monkeypatch, number, is_refused):
             FakeChild.more["preexec_fn"]()
     else:
         FakeChild.more["preexec_fn"]()
+
+
+def test_a_kernel_without_keyrings_has_none_to_leave(monkeypatch):
+    monkeypatch.setattr(store_user.os, "geteuid", lambda: 0)
+    monkeypatch.setattr(store_user, "KEYCTL", {os.uname().machine: 99_999})  # syscall(2): it sets ENOSYS
+    store_user.leave_keys()
 
 
 def test_each_run_has_a_bound(monkeypatch):
@@ -399,8 +411,10 @@ def test_a_room_that_is_too_small(tmp_path, monkeypatch):
     assert os.listdir(tmp_path) == []
 
 
-def test_a_room_is_roots_and_goes(tmp_path, monkeypatch):
+def test_a_room_is_roots_and_goes(tmp_path, monkeypatch, hurry):
     owned, removed = [], []
+    os.mkfifo(tmp_path / f"{rooms.ROOM}pipe")  # what others put beside it holds nobody up, and stays
+    (tmp_path / f"{rooms.ROOM}link").symlink_to("/tmp")
     monkeypatch.setattr(store_user, "_held", lambda *_: None)
     monkeypatch.setattr(rooms.os, "chown", lambda path, *ids: owned.append((path.name, ids)))
     monkeypatch.setattr(rooms, "_removed", lambda room: removed.append(room))

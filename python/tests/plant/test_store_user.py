@@ -1,7 +1,10 @@
 """Whose a store is, by folders that are made for it, and what of a process's words reaches a terminal."""
 
+import contextlib
 import os
+import pty
 import stat
+import subprocess
 from pathlib import Path
 from types import SimpleNamespace
 
@@ -167,3 +170,14 @@ def test_read_small(tmp_path: Path) -> None:
         read_small(tmp_path / "pipe")
     with pytest.raises(OSError):
         read_small(tmp_path / "link")
+
+
+def test_what_is_read_gives_no_terminal() -> None:
+    """Who has a session of its own and no terminal would get one by open(2), if a name led to it."""
+    name = os.ttyname(pty.openpty()[1])
+    if not (child := os.fork()):
+        os.setsid()
+        with contextlib.suppress(UserError):
+            read_small(Path(name))
+        os._exit(not subprocess.run(["sh", "-c", ": > /dev/tty"], stderr=subprocess.DEVNULL).returncode)
+    assert os.waitpid(child, 0)[1] == 0

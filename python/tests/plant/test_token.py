@@ -116,9 +116,9 @@ NOT_ROTATED = [
 @pytest.mark.parametrize("outers, name, told", NOT_ROTATED)
 def test_not_rotated(outers, name, told):
     tokens = tokens_with(*outers)
-    with pytest.raises(TokenError, match=told):
+    with pytest.raises(TokenError, match=told) as error:
         token.rotate(args_of("rotate", name), tokens)
-    assert tokens.outers == outers
+    assert tokens.outers == outers and error.value.status == 1, "1 refused, and nothing was changed"
 
 
 def test_the_list_in_json_shows_no_token():

@@ -1,10 +1,13 @@
 """Files that are whole or not there, with a mode that fits, and a lock that one run at a time has."""
 
+import fcntl
 import os
 import stat
 
 import pytest
-from wanekupo.common.files import hold_lock, make_file, opened_shared_lock, replace_file
+from wanekupo.common import files
+from wanekupo.common.files import hold_lock, make_file, opened_shared_lock, removed_folder, replace_file
+from wanekupo.common.signing import digest_file
 
 
 def mode_of(path):
@@ -43,6 +46,24 @@ def test_what_a_cut_run_left_is_no_trap(tmp_path):
     (tmp_path / "file.new").symlink_to(other)
     replace_file(path, "text\n")
     assert (path.read_text(), other.read_text(), path.is_symlink()) == ("text\n", "other\n", False)
+
+
+def test_whoever_gets_a_file_reads_its_digest(tmp_path):
+    before = os.umask(0o022)
+    made = digest_file(tmp_path / "list.csv", b"abc")
+    os.umask(before)
+    abc = "ba7816bf8f01cfea414140de5dae2223b00361a396177a9cb410ff61f20015ad"  # by FIPS 180-4
+    assert (made.read_text(), mode_of(made)) == (f"{abc}  list.csv\n", 0o644)
+
+
+def test_a_link_that_comes_meanwhile_is_not_overwritten(tmp_path, monkeypatch):
+    folder, other = tmp_path / "folder", tmp_path / "other"
+    folder.mkdir()
+    for path in (folder / "file", other):
+        path.write_text("kept\n")
+    monkeypatch.setattr(os, "chmod", lambda path, _: (os.unlink(path), os.symlink(other, path)))
+    removed_folder(folder)
+    assert other.read_text() == "kept\n" and not folder.exists()
 
 
 # Each call of the system that may fail, in its order: the file of before is whole then, and nothing is beside it.
@@ -110,3 +131,13 @@ def test_a_lock_is_a_plain_file(tmp_path):
     os.close(opened_shared_lock(tmp_path / "lock"))
     os.close(opened_shared_lock(tmp_path / "lock", is_made=False))
     assert {it.name for it in tmp_path.iterdir()} == {"pipe", "folder", "link", "lock"}
+
+
+def test_a_lock_that_another_has_is_not_waited_for(monkeypatch):
+    """By flock(2) between these programs, and by fcntl(2) with SQLite."""
+    found = []
+    for name in ("flock", "lockf"):
+        monkeypatch.setattr(files.fcntl, name, lambda opened, what, name=name: found.append((opened, name, what)))
+    files.locked(7)
+    files.tested_unlocked(8)
+    assert found == [(7, "flock", fcntl.LOCK_EX | fcntl.LOCK_NB), (8, "lockf", fcntl.LOCK_SH | fcntl.LOCK_NB)]

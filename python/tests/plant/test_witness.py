@@ -43,6 +43,9 @@ REFUSED = [
     ({"a1": 17}, {}, UNSEEN, "`seat a1 17`"),
     ({"a1": 19}, {"a1": 17}, LACKS, "a1 has 19 here, and a reply to 17"),
     ({"a1": 2}, {"a1": 0}, LACKS, "`seat a1 2`"),
+    ({"b1": 2, "a1": 1}, {"b1": 3, "a1": 4}, OLDER, "a1 has 1 here, and a reply to 4 (f, line 4), b1 has 2 here"),
+    ({"b1": 2, "a1": 1}, {}, UNSEEN, "the seats a1, b1, so"),
+    ({"b1": 9, "a1": 8}, {"b1": 3, "a1": 4}, LACKS, "a1 has 8 here, and a reply to 4 (f, line 4), b1 has 9 here"),
     # The older half is told first: it is what must not be served.
     ({"a1": 16, "a5": 0, "b1": 9}, {"a1": 17, "b1": 3}, OLDER, "a1 has 16 here"),
 ]

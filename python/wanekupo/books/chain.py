@@ -170,7 +170,7 @@ class Chain:
             raise BadChain(f"the time stamp is of {moment}, and the one in front of it of {last}", told)
 
     def _files_of(self, number: int) -> list[Path]:
-        return sorted(self.folder.glob(f"{number:06}.*"))
+        return list(self.folder.glob(f"{number:06}.*"))
 
     def _set_aside(self, number: int) -> None:
         """Keeps files of a seal that the chain doesn't have, in a folder of their own. A seal that was killed leaves

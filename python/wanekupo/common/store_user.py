@@ -324,7 +324,7 @@ class StoreUser:
                 signal.pthread_sigmask(signal.SIG_SETMASK, mask)
                 status = function() or 0
             except BaseException as error:
-                os.write(said, (told(error) or type(error).__name__).encode(errors="replace")[:SAID])
+                os.write(said, (told(error) or type(error).__name__).encode(errors="replace"))
             sys.stdout.flush()
             sys.stderr.flush()
         finally:

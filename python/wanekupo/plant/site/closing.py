@@ -60,7 +60,7 @@ def write_numbers(copy: Path, file: Path) -> None:
     """Writes the numbers of a store as JSON: those of each customer, and a line for each device that is under way."""
     with StoreCopy(copy) as store:
         books = Books(store)
-        names = sorted({*books.pools, *books.customers()})
+        names = {*books.pools, *books.customers()}
         found: dict[str, dict[str, Any]] = {name: {**dict.fromkeys(COUNTS, 0), "devices": {}} for name in names}
         for what, sql in COUNTS.items():
             for customer, count in store.rows(sql):
