@@ -5,4 +5,4 @@ over `seat`, over `chips`, over `common` (tests/test_layers.py). Python 3.11, th
 `python3-cryptography` for the keys of identities.
 """
 
-__version__ = "1.0.0"
+__version__ = "2.0.0"

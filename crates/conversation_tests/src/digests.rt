@@ -1,14 +1,15 @@
 //! A digest that another map's text has, in tables that no server makes.
-use office_core::{Keep, NewMap, OfCustomer, Write};
+use office_core::{NewMap, OfCustomer, Write};
 use std::alloc::Global;
 use std::test::Fail;
 use test_fixtures::samples::MAP;
 use test_support::conversation::first_difference;
 use text_core::{Digest, Name, Text};
+use yield_counts::Count;
 
 /// Makes tables in which `acme` has the digest of the sample for another map's text, and says how
 /// what `acme` and `bolt` get for the sample differs from a refusal and the usual reply.
-pub fn difference_with_taken_digest<K: Keep>(alloc: Global, keep: &mut K) -> Result<String, Fail> {
+pub fn difference_with_taken_digest<K: Count>(alloc: Global, keep: &mut K) -> Result<String, Fail> {
     let other = format!(in alloc; "{MAP}# another\n")?;
     let map = OfCustomer {
         customer: Name::parse("acme").ok_or("no name")?,

@@ -15,6 +15,7 @@ use test_support::conversation::{first_difference_for, serve, streams_of};
 use test_support::keepers::{Fresh, KeeperCase, over_each};
 use test_support::lists::first_difference_in_list;
 use text_core::{Chip, Name, Serial};
+use yield_counts::Count;
 
 /// A site in which acme has one pool, as large as a pool may be.
 pub const SITE_WITH_ROOM: &str = r#"[[customer]]
@@ -431,7 +432,7 @@ fn add_behind<K: Keep>(alloc: Global, keep: &mut K, first: u64, end: u64) -> Res
 }
 
 /// Has 16,390 read-backs in one stream for the sample site.
-fn add_entries<K: Keep>(alloc: Global, keep: &mut K) -> Result<(), Fail> {
+fn add_entries<K: Count>(alloc: Global, keep: &mut K) -> Result<(), Fail> {
     let conversation = numbered(alloc, SHORT, "#", 5, 16_395)?;
     let exchanges = exchanges(alloc, conversation.as_str())?;
     let (asked, wanted) = streams_of(alloc, exchanges.as_slice())?;
@@ -479,7 +480,7 @@ fn add_records<K: Keep>(alloc: Global, keep: &mut K) -> Result<(), Fail> {
 
 impl Rows {
     /// Puts the rows into the tables.
-    fn add<K: Keep>(self, alloc: Global, keep: &mut K) -> Result<(), Fail> {
+    fn add<K: Count>(self, alloc: Global, keep: &mut K) -> Result<(), Fail> {
         match self {
             Rows::None => Ok(()),
             Rows::Orders => add_orders(alloc, keep),
@@ -494,7 +495,7 @@ impl Rows {
 
 impl Limit<'_> {
     /// Holds a part of the conversation: what differs first.
-    fn first_in_part<K: Keep>(
+    fn first_in_part<K: Count>(
         &self,
         alloc: Global,
         keep: &mut K,

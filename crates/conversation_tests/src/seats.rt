@@ -1,13 +1,14 @@
 //! What stands in the rows of seats: numbers up to the greatest that a request may have, and the
 //! digests by which repeats are known.
 use crate::digests::difference_with_taken_digest;
-use office_core::{Keep, OfCustomer, SeatState, Write};
+use office_core::{OfCustomer, SeatState, Write};
 use std::alloc::Global;
 use std::test::Fail;
 use test_fixtures::conversations::devices::ACME;
 use test_support::conversation::first_difference;
 use test_support::keepers::{Fresh, KeeperCase, over_each};
 use text_core::{Digest, Name, Text};
+use yield_counts::Count;
 
 /// Conversations of the seat `a1`, each with the digest of the last request in it that writes: the
 /// SHA-256, by Python's hashlib, of the path, a line feed and the compact JSON of the named members,
@@ -100,7 +101,7 @@ a1 POST /v1/order {"nr":9007199254740991,"name":"o1","issuer":"acme-ca","prefix"
 "#;
 
 /// Holds a conversation: what differs first, or the digest in the row of the seat `a1` at its end.
-fn digest_after<K: Keep>(alloc: Global, keep: &mut K, conversation: &str) -> Result<String, Fail> {
+fn digest_after<K: Count>(alloc: Global, keep: &mut K, conversation: &str) -> Result<String, Fail> {
     let found = first_difference(alloc, keep, conversation)?;
     if !found.is_empty() {
         return Ok(found);
@@ -111,7 +112,7 @@ fn digest_after<K: Keep>(alloc: Global, keep: &mut K, conversation: &str) -> Res
 }
 
 /// Holds a conversation over tables in which a seat's last number is another one: what differs first.
-fn first_after<K: Keep>(
+fn first_after<K: Count>(
     alloc: Global,
     keep: &mut K,
     last: u64,

@@ -7,6 +7,7 @@ use std::test::Fail;
 use test_fixtures::conversations::{exchanges, is_unanswered};
 use test_support::conversation::{difference_over, first_difference};
 use text_core::{Chip, Name, Serial};
+use yield_counts::Counted;
 
 /// The parts, each under its name, with the visits and the commits.
 const VISITS: &[(&str, &str, u64, u64)] = &[
@@ -16,21 +17,38 @@ const VISITS: &[(&str, &str, u64, u64)] = &[
         2,
         2,
     ),
-    ("devices are found by their chips", BY_KEYS, 2, 9),
-    ("a ledger is walked over", LEDGER, 3, 9),
-    ("a page of devices is one walk", PAGE, 5, 9),
-    ("what isn't accepted commits nothing", REFUSED, 5, 9),
+    (
+        "a customer's devices are counted once, and found by their chips",
+        BY_KEYS,
+        3,
+        9,
+    ),
+    ("a ledger is walked over", LEDGER, 4, 9),
+    ("a page of devices is one walk", PAGE, 6, 9),
+    ("what isn't accepted commits nothing", REFUSED, 6, 9),
     (
         "an order with addresses walks over orders once",
         WITH_ADDRESSES,
-        6,
+        7,
         10,
     ),
     (
         "an order is shown behind imported numbers after one walk over them",
         IMPORTED,
-        7,
+        8,
         11,
+    ),
+    (
+        "a first report walks over orders, and over the serial numbers of each",
+        FIRST_REPORT,
+        11,
+        11,
+    ),
+    (
+        "a later report walks over orders alone",
+        LATER_REPORT,
+        12,
+        12,
     ),
 ];
 
@@ -125,18 +143,37 @@ a1 GET /v1/order?name=o2
   "not_before":null,"prefix":"B","quantity":2,"width":3}
 "#;
 
+/// A report of two orders.
+const FIRST_REPORT: &str = r#"
+a1 GET /v1/report
+csv order,quantity,registered,planned,settled,identified,shipped,quarantined,scrapped,serials_left|
+  o1,2,0,0,0,0,1,0,1,1|
+  o2,2,0,0,0,0,0,0,0,1|
+"#;
+
+/// A report behind another device.
+const LATER_REPORT: &str = r#"
+a1 POST /v1/device {"nr":12,"chip":"00000000000c","order":"o2","map":"$DIGEST","blocks":<>}
+200 {"bits":[],"chip":"00000000000c","keys":{},"map":"$DIGEST","order":"o2",
+  "pending":{"batch1":$NONE,"batch2":$NONE},"reason":null,"serial":null,"state":"registered"}
+a1 GET /v1/report
+csv order,quantity,registered,planned,settled,identified,shipped,quarantined,scrapped,serials_left|
+  o1,2,0,0,0,0,1,0,1,1|
+  o2,2,1,0,0,0,0,0,0,1|
+"#;
+
 /// Holds a conversation in which an allocation may be refused: the first request that is answered
 /// with 503, or by the stream's end, though something was committed, or that doesn't get its reply
 /// when it is sent again.
 fn first_unanswered_commit(
     alloc: Global,
-    keep: &mut CountingKeep,
+    keep: &mut Counted<CountingKeep>,
     conversation: &str,
 ) -> Result<String, Fail> {
     for exchange in exchanges(alloc, conversation)? {
-        let commits = keep.commits();
+        let commits = keep.keeper().commits();
         let mut found = difference_over(alloc, keep, exchange)?;
-        if is_unanswered(found.as_str()) && keep.commits() == commits {
+        if is_unanswered(found.as_str()) && keep.keeper().commits() == commits {
             found = difference_over(alloc, keep, exchange)?;
         }
         if !found.is_empty() {
@@ -182,13 +219,13 @@ fn visits_of_each_kind(alloc: Global) -> Result<u64, Fail> {
 }
 
 /// Holds the parts over one keeper: the first with another reply, or with other visits or commits.
-fn first_other_count(alloc: Global, keep: &mut CountingKeep) -> Result<String, Fail> {
+fn first_other_count(alloc: Global, keep: &mut Counted<CountingKeep>) -> Result<String, Fail> {
     for row in VISITS {
         let found = first_difference(alloc, keep, row.1)?;
         if !found.is_empty() {
             return Ok(found);
         }
-        let (visits, commits) = (keep.visits(), keep.commits());
+        let (visits, commits) = (keep.keeper().visits(), keep.keeper().commits());
         if visits != row.2 || commits != row.3 {
             return Ok(format!(in alloc; "{}: {visits} visits, {commits} commits", row.0)?);
         }
@@ -196,12 +233,12 @@ fn first_other_count(alloc: Global, keep: &mut CountingKeep) -> Result<String, F
     Ok(String::new(alloc))
 }
 
-/// One request after another over one keeper: an order, a map, a ledger, a page of devices and a
-/// number behind imported ones are walked for, and nothing else is. What is accepted commits once, and
+/// One request after another over one keeper that counts: an order, a map, a ledger, a page of devices,
+/// a number behind imported ones and a first report are walked for, and nothing else is. What is accepted commits once, and
 /// nothing else commits.
 #[test]
 fn only_what_is_listed_is_walked_for(rt: HostRuntime) -> Result<(), Fail> {
-    let mut keep = CountingKeep::new(rt.alloc());
+    let mut keep = Counted::over(rt.alloc(), CountingKeep::new(rt.alloc()));
     let found = first_other_count(rt.alloc(), &mut keep)?;
     assert_eq!(rt; found.as_str(), "");
     Ok(())
@@ -218,7 +255,7 @@ fn each_kind_of_visit_counts(rt: HostRuntime) -> Result<(), Fail> {
 /// committed nothing.
 #[test]
 fn what_is_committed_is_answered(rt: HostRuntime) -> Result<(), Fail> {
-    let mut keep = CountingKeep::new(rt.alloc());
+    let mut keep = Counted::over(rt.alloc(), CountingKeep::new(rt.alloc()));
     for row in VISITS {
         let found = first_unanswered_commit(rt.alloc(), &mut keep, row.1)?;
         assert_eq!(rt; found.as_str(), "", "{}", row.0);

@@ -1,7 +1,6 @@
 //! Stores in files that are in memory, and what a stop leaves of them.
 ghost use Rattle.std.specs.Prelude.{IsTrue, IfOk};
 
-use office_core::Keep;
 use office_store::{Handed, OpenFault, SqlKeep, adopt};
 use site_core::read_site_text;
 use sqlite::{Alter, Connection, FileStore, Files, Options};
@@ -13,6 +12,7 @@ use test_fixtures::conversations::{Exchange, exchanges};
 use test_fixtures::samples::SITE;
 use test_support::conversation::first_difference_for;
 use test_support::stores::{rows_of, tell_of};
+use yield_counts::{Count, Counted};
 
 /// The keeper over a database in files in memory. [`over_files`] alone names it beside the methods that
 /// have one: each call that names it costs the prover half a minute.
@@ -134,7 +134,7 @@ impl Ending {
 
 /// A keeper over the files of a store. It has no drop, so that nothing proves again how each part of a
 /// database in files is dropped.
-pub trait InFiles: Keep {
+pub trait InFiles: Count {
     /// The keeper over files of these bytes for the site of a text, with a stop to come, or the fault
     /// and what the opening left.
     fn opened(
@@ -160,7 +160,7 @@ pub trait FilesCase {
 
 /// What differs first in a case, over files in memory.
 pub fn over_files<C: FilesCase>(alloc: Global) -> Result<String, Fail> {
-    C::first_difference::<SqlFiles>(alloc)
+    C::first_difference::<Counted<SqlFiles>>(alloc)
 }
 
 /// All that stands in a database once it is changed by SQL.
@@ -219,20 +219,20 @@ fn not_opened(fault: OpenFault, left: Option<Store>) -> Result<Unopened, Fail> {
     })
 }
 
-impl InFiles for SqlFiles {
+impl InFiles for Counted<SqlFiles> {
     fn opened(
         alloc: Global,
         store: &Store,
         site: &str,
         stop: Stop,
-    ) -> Result<Result<SqlFiles, Unopened>, Fail> {
+    ) -> Result<Result<Counted<SqlFiles>, Unopened>, Fail> {
         let site = read_site_text(alloc, site)?;
         let conn = match connected(alloc, store, stop)? {
             Ok(conn) => conn,
             Err(left) => return Ok(Err(not_opened(OpenFault::Failed, left)?)),
         };
         match adopt(alloc, conn, &site) {
-            Ok(keep) => Ok(Ok(keep)),
+            Ok(keep) => Ok(Ok(Counted::over(alloc, keep))),
             Err((fault, handed)) => {
                 let files = store_of(handed).close();
                 let left = Store::left_of(alloc, files, stop.loses_unsynced);
@@ -252,7 +252,7 @@ impl InFiles for SqlFiles {
     }
 
     fn ended(self, alloc: Global, ending: Ending) -> Option<Store> {
-        let (files, is_well) = files_of(self.into_connection(), ending.is_closed());
+        let (files, is_well) = files_of(self.into_keep().into_connection(), ending.is_closed());
         if !is_well {
             return None;
         }

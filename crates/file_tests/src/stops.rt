@@ -2,13 +2,13 @@
 use crate::disks::{
     FilesCase, InFiles, NO_STOP, Stop, Store, held_over, over_files, rows_in, undisturbed,
 };
-use office_core::Keep;
 use std::alloc::Global;
 use std::test::Fail;
 use test_fixtures::conversations::runs::{BOOKS, RUN};
 use test_fixtures::conversations::{Exchange, exchanges, is_unanswered};
 use test_fixtures::samples::SITE;
 use test_support::conversation::difference_for;
+use yield_counts::Count;
 
 /// More calls than a run makes.
 const CALL_LIMIT: u64 = 20_000;
@@ -71,7 +71,7 @@ struct Stopped {
 
 /// Makes exchanges for the site of a text until a request isn't answered: how many got their replies,
 /// and what the last got where it was answered with another one.
-fn answered<K: Keep>(
+fn answered<K: Count>(
     alloc: Global,
     keep: &mut K,
     site: &str,

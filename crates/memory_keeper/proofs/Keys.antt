@@ -10,7 +10,7 @@ use Rattle.office_tables.specs.declared.rows.MapRow.{MapRow}
 use Rattle.office_tables.specs.declared.rows.Link.{Link}
 use Rattle.office_tables.specs.declared.rows.Device.{Device}
 use Rattle.office_tables.specs.Prelude.{is_seat, is_order, is_link, is_device, is_device_behind, is_of, has_id, text_cmp}
-use Rattle.memory_keeper.specs.Prelude.{with_other, without}
+use Rattle.memory_keeper.specs.Prelude.{without}
 use Rattle.office_tables.proofs.Places.{same_device}
 pub use Rattle.office_tables.proofs.Places.{both_equal, find_device}
 
@@ -36,11 +36,6 @@ find_link customer digest rows =
 pub without_device : (customer chip : List ℕ) (rows : List (OfCustomer Device)) → without (λ d.
     is_eq (ordering_then (text_cmp customer d.customer) (text_cmp chip d.row.chip))) rows ≡ without (is_device customer chip) rows
 without_device customer chip rows = ap (λ (test : OfCustomer Device → Bool). without test rows) (same_device customer chip)
-
--- the rows with another in place of the one that has a device's key
-pub with_other_device : (customer chip : List ℕ) (d : OfCustomer Device) (rows : List (OfCustomer Device)) → with_other (λ d.
-    is_eq (ordering_then (text_cmp customer d.customer) (text_cmp chip d.row.chip))) d rows ≡ with_other (is_device customer chip) d rows
-with_other_device customer chip d rows = ap (λ (test : OfCustomer Device → Bool). with_other test d rows) (same_device customer chip)
 
 -- a number is a map's where it compares equal
 same_id : (id : ℕ) → (λ (m : MapRow). is_eq (nat_cmp id m.id)) ≡ has_id id

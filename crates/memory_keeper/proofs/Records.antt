@@ -4,16 +4,16 @@ use Rattle.std.proofs.Common.{◌≡◌, ◌∷◌, ◌&&◌, ◌||◌, ◌==◌
 use Rattle.text_core.proofs.Kit.{◌∙◌, ℕ, Bool, true, false, cond, List, [], Option, Some, None, Less, Greater, refl, sym, ap, not, bytes_eq, filter, find}
 use Rattle.text_core.proofs.Kit.{is_some, option_map, AllByRecursion, get, is_at, BTreeSet, contains, unsigned_tied, nat_cmp, is_eq, is_le, is_lt}
 use Rattle.text_core.proofs.Kit.{ordering_then, nat_list_cmp_total, texts_ties, tied_itself, eqb-true, eq-eqb, bytes_eq-Decides, and_parts, find-passes}
-use Rattle.memory_keeper.specs.Prelude.{text_pair_cmp, has_mac, serial_of, AreIndexed, without}
+use Rattle.memory_keeper.specs.Prelude.{has_mac, serial_of, AreIndexed, without}
 use Rattle.text_core.specs.Prelude.{is_serial, serial_of_text}
 use Rattle.office_tables.specs.declared.rows.OfCustomer.{OfCustomer}
 use Rattle.office_tables.specs.declared.rows.Given.{Given}
 use Rattle.office_tables.specs.Prelude.{given_cmp, has_address, is_address, is_bound, is_given_behind, is_serial_of, is_of_issuer, with_row, text_cmp}
-use Rattle.office_tables.specs.Prelude.{IsAddressFree}
+use Rattle.office_tables.specs.Prelude.{text_pair_cmp, IsAddressFree}
 use Rattle.office_tables.proofs.Placing.{all_placed}
 use Rattle.memory_keeper.specs.declared.given.GivenIndex.{GivenIndex}
 use Rattle.memory_keeper.proofs.Alone.{find-placed, find-without, found_also, still_alone, alone_without}
-use Rattle.memory_keeper.proofs.Counted.{same_both_ways}
+use Rattle.office_tables.proofs.Places.{same_both_ways}
 use Rattle.memory_keeper.proofs.Entries.{all_without}
 use Rattle.memory_keeper.proofs.Keys.{behind, between, both_equal}
 use Rattle.memory_keeper.proofs.MapNumbers.{without-placed_new}

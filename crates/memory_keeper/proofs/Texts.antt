@@ -6,7 +6,7 @@ use Rattle.office_tables.specs.declared.rows.MapRow.{MapRow}
 use Rattle.office_tables.specs.Prelude.{has_body, has_id, map_cmp, with_row}
 use Rattle.memory_keeper.specs.Prelude.{AreFoundByText, without}
 use Rattle.memory_keeper.proofs.Alone.{find-placed, find-without, still_alone, alone_without}
-use Rattle.memory_keeper.proofs.Counted.{same_both_ways}
+use Rattle.office_tables.proofs.Places.{same_both_ways}
 use Rattle.memory_keeper.proofs.Keys.{find_map}
 
 -- what a lookup by text finds after the number at a map's text was put there, or taken

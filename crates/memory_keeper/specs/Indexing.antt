@@ -9,8 +9,7 @@ use Rattle.text_core.specs.Prelude.{is_serial}
 use Rattle.office_tables.specs.declared.rows.OfCustomer.{OfCustomer}
 use Rattle.office_tables.specs.declared.rows.Given.{Given}
 use Rattle.office_tables.specs.declared.rows.MapRow.{MapRow}
-use Rattle.office_tables.specs.Prelude.{has_address, has_body, is_bound, is_serial_of}
-use Rattle.memory_keeper.specs.Counting.{text_pair_cmp}
+use Rattle.office_tables.specs.Prelude.{has_address, has_body, is_bound, is_serial_of, text_pair_cmp}
 use Rattle.memory_keeper.specs.declared.given.GivenIndex.{GivenIndex}
 
 -- the serial number that stands for a key of an issuer

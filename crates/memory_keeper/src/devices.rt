@@ -1,101 +1,48 @@
 // The devices of all customers.
-ghost use Rattle.std.specs.Prelude.{◌≡◌, ◌+◌, ◌-◌, ◌<◌, ◌^◌, ℕ, List, [], true, filter, find, OnOk, OnErr, OnSome, IfSome, IfNone, option_copied};
+ghost use Rattle.std.specs.Prelude.{◌≡◌, [], filter, find, OnOk, OnErr, OnSome, IfSome, IfNone, Some, option_copied};
 ghost use Rattle.office_tables.specs.Prelude.{Visits, places_taken, device_cmp, is_device, is_device_behind, is_of, rows_of, with_row, IsAscending};
-ghost use Rattle.memory_keeper.specs.Counting.{count_of_order, is_counted, place_of_device, KeepsCounts};
-ghost use Rattle.memory_keeper.specs.Unplaced.{with_device_row, without};
+ghost use Rattle.memory_keeper.specs.Counting.{CountsPlace};
+ghost use Rattle.memory_keeper.specs.Unplaced.{unplaced, without};
 
 use crate::rows::DeviceKey;
 use crate::table::Table;
 use office_tables::{DeviceRow, Sink, Unkept};
 use std::alloc::Global;
-use std::collections::BTreeMap;
 use std::marker::Model;
 use text_core::{Chip, Name};
 
-/// How many devices take a place of each order, by customer and order. Where there is no number,
-/// none does. A number stays, also where it is 0, so that it rises again without memory.
+/// How many devices of an order a walk has met that take a place of it, as far as 64 bits count.
 #[derive(Drop)]
-struct TakenPlaces {
-    counts: BTreeMap<(Name, Name), u64>,
+struct PlaceScan {
+    order: Name,
+    taken: u64,
 }
 
-impl TakenPlaces {
-    /// How many devices take a place of a customer's order.
-    fn count(&self, customer: &Name, order: &Name) -> u64
-        ensures { result ≡ count_of_order customer.now order.now self.now }
-    {
-        self.counts.get(&(*customer, *order)).copied().unwrap_or(0)
-    }
+impl Sink<DeviceRow> for PlaceScan {
+    ghost takes = { CountsPlace };
 
-    /// Counts one more device. Its order has a number from then on, also where the device takes no
-    /// place.
-    fn add(&mut self, row: &DeviceRow) -> Result<(), Unkept>
-        ensures ok { OnOk result ((customer order : List ℕ) → count_of_order customer order self.new
-            ≡ count_of_order customer order self.old + place_of_device customer order row.now) }
-        ensures there { OnOk result (is_counted row.now.customer row.now.row.order self.new
-            ≡ true) }
-        ensures err { OnErr result ((customer order : List ℕ)
-            → count_of_order customer order self.new ≡ count_of_order customer order self.old) }
-        ensures counted { KeepsCounts self.old self.new }
-    {
-        let count = self.count(&row.customer, &row.row.order);
-        let place = u64::from(!row.row.state.is_given_up());
-        let Some(more) = count.checked_add(place) else {
-            return Err(Unkept::without_error());
-        };
-        self.counts.insert((row.customer, row.row.order), more)?;
-        Ok(())
-    }
-
-    /// Counts one more device of an order that has a number. This takes no memory.
-    fn add_again(&mut self, row: &DeviceRow)
-        requires there { is_counted row.now.customer row.now.row.order self.old ≡ true }
-        requires room { count_of_order row.now.customer row.now.row.order self.old < 2 ^ 63 }
-        ensures more { (customer order : List ℕ) → count_of_order customer order self.new
-            ≡ count_of_order customer order self.old + place_of_device customer order row.now }
-        ensures counted { KeepsCounts self.old self.new }
-    {
-        if row.row.state.is_given_up() {
-            return;
+    fn take(&mut self, row: &DeviceRow) -> bool {
+        if row.row.order == self.order && !row.row.state.is_given_up() {
+            self.taken = self.taken.saturating_add(1);
         }
-        if let Some(count) = self.counts.get_mut(&(row.customer, row.row.order)) {
-            *count += 1;
-        }
-    }
-
-    /// Counts one device less. This takes no memory.
-    fn remove(&mut self, row: &DeviceRow)
-        ensures less { (customer order : List ℕ) → count_of_order customer order self.new
-            ≡ count_of_order customer order self.old - place_of_device customer order row.now }
-        ensures counted { KeepsCounts self.old self.new }
-    {
-        if row.row.state.is_given_up() {
-            return;
-        }
-        if let Some(count) = self.counts.get_mut(&(row.customer, row.row.order)) {
-            *count = count.saturating_sub(1);
-        }
+        true
     }
 }
 
-/// The devices, and for each order how many of them take a place of it.
+/// The devices.
 #[derive(Drop)]
 pub(crate) struct Devices {
     rows: Table<DeviceRow>,
-    places: TakenPlaces,
 }
 
 impl Model for Devices {
     ghost use Rattle.std.specs.Prelude.{ℕ, List};
     ghost use Rattle.office_tables.specs.declared.rows.OfCustomer.{OfCustomer};
     ghost use Rattle.office_tables.specs.declared.rows.Device.{Device};
-    ghost use Rattle.memory_keeper.specs.Counting.{AreCounted};
 
     ghost Value = { List (OfCustomer Device) };
 
     ghost view = { λ d. d.rows };
-
-    ghost invariant = { λ d. AreCounted d.rows d.places };
 }
 
 impl Devices {
@@ -105,9 +52,6 @@ impl Devices {
     {
         Devices {
             rows: Table::new(alloc),
-            places: TakenPlaces {
-                counts: BTreeMap::new(alloc),
-            },
         }
     }
 
@@ -125,11 +69,18 @@ impl Devices {
         self.rows.get(&DeviceKey::of_row(*customer, *chip))
     }
 
-    /// How many of a customer's devices take a place of an order.
+    /// How many of a customer's devices take a place of an order, by a walk over them.
     pub(crate) fn places_taken(&self, customer: &Name, order: &Name) -> u64
         ensures { result ≡ places_taken order.now (rows_of customer.now self.now) }
     {
-        self.places.count(customer, order)
+        // The walk meets no more devices than there are rows, so 64 bits count them.
+        let _count = self.rows.len();
+        let mut scan = PlaceScan {
+            order: *order,
+            taken: 0,
+        };
+        self.visit(customer, &mut scan);
+        scan.taken
     }
 
     /// Adds a device. One that is there stays as it is.
@@ -142,43 +93,28 @@ impl Devices {
         if self.get(&row.customer, &row.row.chip).is_some() {
             return Err(Unkept::without_error());
         }
-        self.places.add(row)?;
-        match self.rows.insert(*row) {
-            Ok(_) => Ok(()),
-            Err(refused) => {
-                self.places.remove(row);
-                Err(Unkept::from(refused))
-            }
-        }
+        self.rows.insert(*row)?;
+        Ok(())
     }
 
-    /// Puts a device in place of the one that has its chip, if that is of the same order, and gives
-    /// that one. Where there is none, nothing changes. This takes no memory.
+    /// Puts a device in place of the one that has its chip, and gives that one. Where there is none,
+    /// nothing changes. This takes no memory.
     pub(crate) fn replace(&mut self, row: &DeviceRow) -> Option<DeviceRow>
         ensures placed { OnSome result (self.new ≡ with_row device_cmp row.now self.old) }
-        ensures undone { IfSome result (λ old. with_device_row old self.new ≡ self.old) }
-        ensures other_rows { self.new ≡ with_device_row row.now self.old }
+        ensures undone { IfSome result (λ old. unplaced device_cmp old (Some old) self.new
+            ≡ self.old) }
+        ensures other_rows { self.new ≡ unplaced device_cmp row.now (Some row.now) self.old }
         ensures none { IfNone result (self.new ≡ self.old) }
     {
-        let old = *self.get(&row.customer, &row.row.chip)?;
-        if old.row.order != row.row.order {
-            return None;
-        }
-        // No order has more devices than there are rows, so its number has room.
-        let _count = self.rows.len();
-        self.places.remove(&old);
-        self.places.add_again(row);
-        self.rows.replace(*row)
+        let old = self.rows.replace(*row)?;
+        Some(old)
     }
 
     /// Takes a device out again. This takes no memory.
     pub(crate) fn remove(&mut self, customer: &Name, chip: &Chip)
         ensures { self.new ≡ without (is_device customer.now chip.now) self.old }
     {
-        let removed = self.rows.remove(&DeviceKey::of_row(*customer, *chip));
-        if let Some(row) = removed {
-            self.places.remove(&row);
-        }
+        self.rows.remove(&DeviceKey::of_row(*customer, *chip));
     }
 
     /// Hands a customer's devices to the sink, in the order of their chips, while it goes on.

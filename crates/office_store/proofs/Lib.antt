@@ -30,9 +30,8 @@ mod Remakes
 mod Types
 pub mod ReadAnswers
 pub mod Committed
-pub mod DevicesPut
 pub mod KeysAscending
 pub mod MadeAnswers
 pub mod MapsStay
-pub mod Numbers
+pub mod Taken
 mod KeepTypes

@@ -6,8 +6,10 @@ use Rattle.sqlite.specs.Store.{Ghosts}
 use Rattle.office_tables.specs.Prelude.{Tables, LooksUp}
 use Rattle.office_sql.specs.Prelude.{SqlReads, Rests, IsReady, IsOffice, tables_in}
 use Rattle.office_sql.proofs.Resting.{same_now}
-use Rattle.office_store.specs.Prelude.{Kept, Agrees, RemembersRight, tables_of, is_open_at, is_honest_at, may_leave_at, tells_text_at, commits_at, LooksUpBySql}
-use Rattle.office_store.specs.declared.remembered.Remembered.{Remembered}
+use Rattle.office_store.specs.Prelude.{fuse_map_at, Kept, RemembersRight, tables_of, is_open_at, is_honest_at, may_leave_at, tells_text_at, commits_at}
+use Rattle.office_store.specs.Prelude.{LooksUpBySql}
+use Rattle.fusemap_core.specs.Numbers.{AreMapsOfNumbers}
+use Rattle.fusemap_core.specs.declared.numbered.NumberCache.{NumberCache}
 
 -- a connection that was ready is ready after a read
 pub rested : (old new : State) → IsReady old → (IsTrue new.is_open → Rests old new) → new.in_transaction ≡ false → IsReady new
@@ -17,7 +19,8 @@ rested old new rest rests mode = record {
   shows_committed = λ up. same_now old new rest (rests up) up ∙ rest.shows_committed ((rests up).was_open up) ∙ sym ((rests up).committed up);
 }
 
-if_ok : {A E F : Type 0} (P : A → Type 0) (r : Result A E) (q : Result A F) → result_ok q ≡ result_ok r → IfOk r P → IfOk q P
+-- what an answer says is said of one with the same value
+pub if_ok : {A E F : Type 0} (P : A → Type 0) (r : Result A E) (q : Result A F) → result_ok q ≡ result_ok r → IfOk r P → IfOk q P
 if_ok P (Ok x) (Ok y) e h = subst P (let f = e in cc) h
 if_ok P (Err x) (Ok y) e h = absurd (let f = e in cc)
 if_ok P r (Err y) e h = tt
@@ -90,8 +93,8 @@ told g old new site self view q Says it = subst (λ k. LooksUpBySql g k (record 
 })
 
 -- what is read by a keeper, of whose value the connection is a part
-module _ {S : Type 0} (g : Ghosts S) (shuts : ShutsIfDirty g) (old new : Held S) {remembered : Remembered} {owner : List ℕ}
-    (is_kept : RemembersRight g old owner remembered) where
+module _ {S : Type 0} (g : Ghosts S) (shuts : ShutsIfDirty g) (old new : Held S) {maps : NumberCache} {owner : List ℕ}
+    (is_kept : RemembersRight g old owner maps) where
   pub answered : {A F : Type 0} {site : List ℕ} (self : Kept S)
       → record { conn = old; site = site } ≡ self
       → (r : Result A Error) (q : Result A F) (Says : Tables → A → Type 0)
@@ -99,12 +102,12 @@ module _ {S : Type 0} (g : Ghosts S) (shuts : ShutsIfDirty g) (old new : Held S)
       → LooksUpBySql g self (record { conn = new; site = site }) q Says
   answered {site = site} self view r q Says is asks = told g old new site self view q Says (answers g shuts old new is_kept.ready r q Says is asks)
 
-  -- the keeper is as good as before, and so is what it remembers
-  pub ready_after : {A : Type 0} (r : Result A Error) (Says : Tables → A → Type 0) → SqlReads g old new r Says → RemembersRight g new owner remembered
+  -- the keeper is as good as before, and so are its maps
+  pub ready_after : {A : Type 0} (r : Result A Error) (Says : Tables → A → Type 0) → SqlReads g old new r Says → RemembersRight g new owner maps
   ready_after r Says asks = record {
     ready = still_ready g shuts old new is_kept.ready r Says asks;
     right = λ up. let rests = asks.rests (clean_at g shuts new up) in
-        subst (λ (d : Database). Agrees remembered (tables_in d.trees)) (sym (rests.committed up)) (is_kept.right (rests.was_open up));
+        subst (λ (d : Database). AreMapsOfNumbers (fuse_map_at (tables_in d.trees)) maps) (sym (rests.committed up)) (is_kept.right (rests.was_open up));
     left = λ honest db may.
         elim (asks.crash.crash honest db may) [
           | inl m ↦ is_kept.left (omega (arith, asks.crash.clean, honest))

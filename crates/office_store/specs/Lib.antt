@@ -16,5 +16,4 @@ pub mod Keeping
 pub mod Calls
 pub mod Counting
 pub mod Remembering
-pub mod Written
 pub mod Prelude

@@ -19,8 +19,7 @@ pub use Rattle.office_store.specs.Stores.{HasSchema, IsNoStore, IsStore, IsStore
 pub use Rattle.office_store.specs.Growing.{IsGrown, IsGrownFrom}
 pub use Rattle.office_store.specs.Upgrading.{IsUpgrade, TellsItself}
 pub use Rattle.office_store.specs.Calls.{LooksUpBySql, StaysAsSet}
-pub use Rattle.office_store.specs.Counting.{AgreeBut, AgreeOff, AreCounts, AreRight, count_if_counted, number_at, takes}
+pub use Rattle.office_store.specs.Counting.{takes}
 pub use Rattle.office_store.specs.Keeping.{commits_at, is_honest_at, is_open_at, may_leave_at, tables_of, tells_text_at}
 pub use Rattle.office_store.specs.Kept.{Kept, kept_code}
-pub use Rattle.office_store.specs.Remembering.{Agrees, fuse_map_at, IsAnswer, RemembersRight, StayMapped}
-pub use Rattle.office_store.specs.Written.{ArePut, AreTold, device_written, IsReplaced}
+pub use Rattle.office_store.specs.Remembering.{fuse_map_at, RemembersRight, StayMapped}

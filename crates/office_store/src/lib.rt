@@ -107,11 +107,9 @@ mod maps;
 mod opening;
 mod places;
 mod remake;
-mod remembered;
 mod reread;
 mod starts;
 mod steps;
-mod written;
 
 pub use adopting::{Handed, adopt};
 pub use closing::{Closed, close};

@@ -13,9 +13,10 @@ use http_frames::buffer::Buffer;
 use http_frames::frame::Frame;
 use http_replies::{Body, Reply, Status};
 use office_core::site::{Caller, Site};
-use office_core::{Keep, Refusal, Unkept, answer, refused, unavailable, unknown_token};
+use office_core::{Refusal, Unkept, answer, refused, unavailable, unknown_token};
 use station_requests::{Parsed, parse_command};
 use std::alloc::Global;
+use yield_counts::Count;
 use yield_report::{order_report, site_report};
 
 /// Answers the requests of the site's callers over a keeper that it is lent.
@@ -50,7 +51,7 @@ fn report_reply(report: Result<Vec<u8>, Unkept>) -> Reply
 }
 
 /// Answers what a caller asks for.
-fn answer_parsed<K: Keep>(
+fn answer_parsed<K: Count>(
     handler: &Handler<'_>,
     keep: &mut K,
     caller: Caller,
@@ -80,7 +81,7 @@ fn answer_parsed<K: Keep>(
 }
 
 /// Answers a request of a known caller.
-fn answer_caller<K: Keep>(
+fn answer_caller<K: Count>(
     handler: &Handler<'_>,
     keep: &mut K,
     caller: Caller,
@@ -102,7 +103,7 @@ fn answer_caller<K: Keep>(
     }
 }
 
-impl<K: Keep> Service<K> for Handler<'_> {
+impl<K: Count> Service<K> for Handler<'_> {
     ghost use Rattle.station_api.specs.HttpAnswers.{AnswersHttp, HandlerSteps, Says};
     ghost use Rattle.station_api.specs.SectionExchanges.{exchange_in};
 

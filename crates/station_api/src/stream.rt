@@ -6,9 +6,9 @@ ghost use Rattle.station_api.specs.Prelude.{ServesOver};
 use crate::handler::Handler;
 use http_frames::Served;
 use http_frames::transfer::{Drain, Source};
-use office_core::Keep;
 use office_core::site::Site;
 use std::alloc::Global;
+use yield_counts::Count;
 
 /// Serves a stream until it ends, and answers how it did. It takes memory once for its buffer,
 /// before the first read, and none from a commit until that reply is written.
@@ -31,7 +31,7 @@ use std::alloc::Global;
 /// - Nothing that was burnt is forgotten, and what is given stays.
 /// - No identity gives what another gave.
 /// - A request that comes again acts once.
-pub fn serve_stream<K: Keep, R: Source, W: Drain>(
+pub fn serve_stream<K: Count, R: Source, W: Drain>(
     alloc: Global,
     keep: &mut K,
     site: &Site,

@@ -1,5 +1,5 @@
 -- How the tables that stand are led on by one stream after another.
-use Rattle.std.proofs.Common.{◌≡◌, ℕ, Option, List, [], ◌∷◌, ◌++◌, refl, sym, subst}
+use Rattle.std.proofs.Common.{◌≡◌, ℕ, Option, List, [], ◌∷◌, ◌++◌, ◌∙◌, refl, sym, subst}
 use Rattle.std.proofs.lemmas.Grind.{flat_map-append}
 use Rattle.http_frames.specs.Prelude.{Request}
 use Rattle.http_replies.specs.Prelude.{Answer}
@@ -8,6 +8,7 @@ use Rattle.text_core.proofs.MachineLemmas.{runs_both}
 use Rattle.office_laws.specs.Prelude.{Exchange, LeavesAfter}
 use Rattle.office_laws.proofs.Leaving.{leaves_joined, leaves_none}
 use Rattle.office_tables.specs.declared.keep.Keep.{Ghosts}
+use Rattle.office_tables.specs.Keeping.{Reads}
 use Rattle.site_core.specs.Prelude.{SiteValue, IsSite}
 use Rattle.station_api.specs.Prelude.{AreSaid, AnswersHttp, exchange_in, exchanges_with_seats, ServesOver}
 use Rattle.station_api.proofs.KeptRuns.{led}
@@ -17,13 +18,29 @@ said_both : (site : SiteValue) (first second : List (Request × Answer)) → Are
 said_both site [] second one other = other
 said_both site (exchange ∷ exchanges) second one other = (one.0, said_both site exchanges second one.1 other)
 
--- no stream leads to the tables that stood
-pub leads_itself : {K : Type 0} (k : Ghosts K) (site : SiteValue) → IsSite site → (keep : K) → LeadsOn k site keep keep
-leads_itself k site w keep = (
+-- a read leads to the tables that stood
+pub leads_by_read : {K : Type 0} (k : Ghosts K) (site : SiteValue) → IsSite site → (old new : K)
+    → Reads k.is_open k.is_honest k.may_leave k.tells_text k.tables k.commits old new → LeadsOn k site old new
+leads_by_read k site w old new read = (
   [],
   tt,
-  (λ honest t stands. (t, led k site keep keep w [] t t refl (leaves_none (k.may_leave keep) t) (λ _ _ told. told) stands)),
+  (λ honest t stands. (
+    t,
+    led k site old new w [] t t refl (λ front starts left leaves. leaves_none (k.may_leave old) t front starts left (read.crash honest left leaves))
+        read.text (λ is. read.same is ∙ stands (read.was_open is)),
+  )),
 )
+
+-- no stream leads to the tables that stood
+pub leads_itself : {K : Type 0} (k : Ghosts K) (site : SiteValue) → IsSite site → (keep : K) → LeadsOn k site keep keep
+leads_itself k site w keep = leads_by_read k site w keep keep (record {
+  was_open = λ is. is;
+  same = λ _. refl;
+  was_honest = λ is. is;
+  crash = λ _ _ leaves. leaves;
+  text = λ _ _ told. told;
+  uncommitted = refl;
+})
 
 -- for the same site under another name
 pub leads_for : {K : Type 0} {k : Ghosts K} {site other : SiteValue} {old new : K} → site ≡ other → LeadsOn k site old new → LeadsOn k other old new

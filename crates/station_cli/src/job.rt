@@ -18,7 +18,7 @@ use text_core::Text;
 
 /// The number of the program's version, which `--version` tells. It stands here alone: the package is
 /// made of it, and `tools/version` finds the files that repeat it.
-pub const VERSION: &str = "1.0.0";
+pub const VERSION: &str = "2.0.0";
 
 /// Why a word that the system passed the program is refused.
 const NOT_UTF8: &str = "error: a word of the command line is not UTF-8\n";

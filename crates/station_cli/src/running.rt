@@ -246,7 +246,7 @@ fn replay<'a, R: Source, W: Drain>(
         (λ _. (reader.new ≡ reader.old) × (writer.new ≡ writer.old)) }
 {
     let site = site_of_file(alloc, name, file)?;
-    let mut keep = MemKeep::new(alloc);
+    let mut keep = yield_counts::Counted::over(alloc, MemKeep::new(alloc));
     Ok(serve_stream(alloc, &mut keep, site.site(), reader, writer))
 }
 

@@ -16,7 +16,7 @@ use crate::site_file::site_of_file;
 use crate::stored::{Done, LeftFiles, Limited, StoreFile, open_limited, store_failure};
 use office_core::Keep;
 use office_store::{SqlKeep, close};
-use site_core::Site;
+use site_core::{Site, SiteText};
 use sqlite::{FileFrom, FileStore};
 use sqlite_disk::Start;
 use station_api::{Served, serve_stream};
@@ -25,6 +25,8 @@ use std::io;
 use std::io::Write;
 use std::net::{Ipv4Addr, OpenListener, OpenStream, SocketAddrV4, TcpListener};
 use std::time::Clock;
+use yield_counts::{Count, Counted};
+use yield_report::site_report;
 
 /// Where connections come in, and how many are served.
 #[derive(Clone, Copy)]
@@ -94,7 +96,31 @@ pub fn serve_site<'a, S: Start, W: Write>(
             };
         }
     };
-    let mut keep = match open_limited(rt, alloc, store, &site) {
+    serve_store(rt, alloc, &site, store, door, output)
+}
+
+/// Serves the connections of the door's port over the store in a file, which is closed at the end.
+fn serve_store<'a, S: Start, W: Write>(
+    rt: &HostRuntime,
+    alloc: Global,
+    site: &SiteText,
+    store: StoreFile<'_, S>,
+    door: Door,
+    output: &mut W,
+) -> Done<'a, ConnectionCount, S, FileFrom<S>>
+    ensures failed { IfErr result.result (λ failure. (failure ≡ Failure.NoMemory)
+        ⊎ IsOfStore failure ⊎ IsOfPort failure) }
+    ensures counted { IfOk result.result (λ count. count.number ≡ door.connections) }
+    ensures books { Leaves site.now (image_at S.Start) store.entry.name.now store.entry.absent
+        (LeadsOn ⟦<SqlKeep<FileStore<FileFrom<S>>> as Keep>⟧ site.now.site)
+        result.result result.files }
+    ensures printed { OnOk result.result (Appends (W.contents output.old) (W.contents output.new)
+        (listening_line door.port ++ 10 ∷ [])) }
+    ensures prints_nothing { IfErr result.result (λ failure. failure ≢ Failure.WriteFailed
+        → failure ≢ Failure.AcceptFailed
+        → Keeps (W.contents output.old) (W.contents output.new)) }
+{
+    let keep = match open_limited(rt, alloc, store, site) {
         Ok(keep) => keep,
         Err(refused) => {
             return Done {
@@ -104,16 +130,45 @@ pub fn serve_site<'a, S: Start, W: Write>(
         }
     };
     let bounds = Bounds::of_program();
-    let served = serve_port(rt, alloc, &mut keep, site.site(), door, bounds, output);
+    let (served, keep) = serve_counted(rt, alloc, keep, site.site(), door, bounds, output);
     Done {
         result: served,
         files: LeftFiles::Ended(close(keep)),
     }
 }
 
-/// Listens on the port of the door, tells so, and serves its connections over a store, whose statements
-/// have the limit of steps, at the bounds of the program. Answers how many were given to be served.
-fn serve_port<K: Keep + Limited, W: Write>(
+/// Serves the connections of the door's port over a store that counts meanwhile, and gives the store
+/// back.
+fn serve_counted<K: Keep + Limited, W: Write>(
+    rt: &HostRuntime,
+    alloc: Global,
+    keep: K,
+    site: &Site,
+    door: Door,
+    bounds: Bounds,
+    output: &mut W,
+) -> (Result<ConnectionCount, Failure<'static>>, K)
+    requires limit { K.is_limited keep }
+    requires bounds { AreOfProgram bounds }
+    ensures was_honest { K.is_honest result.1 → K.is_honest keep }
+    ensures reaches { LeadsOn K.Keep site.now keep result.1 }
+    ensures counted { IfOk result.0 (λ count. count.number ≡ door.connections) }
+    ensures failed { IfErr result.0 IsOfPort }
+    ensures printed { OnOk result.0 (Appends (W.contents output.old) (W.contents output.new)
+        (listening_line door.port ++ 10 ∷ [])) }
+    ensures prints_nothing { IfErr result.0 (λ failure. failure ≢ Failure.WriteFailed
+        → failure ≢ Failure.AcceptFailed
+        → Keeps (W.contents output.old) (W.contents output.new)) }
+{
+    let mut counted = Counted::over(alloc, keep);
+    let served = serve_port(rt, alloc, &mut counted, site, door, bounds, output);
+    (served, counted.into_keep())
+}
+
+/// Counts what is in a store, whose statements have the limit of steps, listens on the port of the door,
+/// tells so, and serves its connections, at the bounds of the program. Answers how many were given to be
+/// served.
+fn serve_port<K: Count + Limited, W: Write>(
     rt: &HostRuntime,
     alloc: Global,
     keep: &mut K,
@@ -135,6 +190,8 @@ fn serve_port<K: Keep + Limited, W: Write>(
         → Keeps (W.contents output.old) (W.contents output.new)) }
 {
     site.fact_rules();
+    // The first report walks over all devices and given numbers: it is made before anybody waits.
+    let _counted = site_report(alloc, keep, site);
     let listener = listen(rt, door.port)?;
     if write_listening_line(door.port, output).is_err() {
         return Err(Failure::WriteFailed);
@@ -181,7 +238,7 @@ fn write_listening_line<W: Write>(port: u16, output: &mut W) -> io::Result<()>
 /// # Errors
 ///
 /// `AcceptFailed` where waiting for a connection fails. The connections before it were served.
-pub fn serve_connections<K: Keep, R: Clock, S, L>(
+pub fn serve_connections<K: Count, R: Clock, S, L>(
     clock: &R,
     alloc: Global,
     keep: &mut K,
@@ -221,7 +278,7 @@ struct Parted<C: Duplex> {
 }
 
 /// Serves the client of a connection over a keeper, or answers why the connection can't be set up.
-fn serve_client<K: Keep, R: Clock, C: Duplex, L>(
+fn serve_client<K: Count, R: Clock, C: Duplex, L>(
     clock: &R,
     alloc: Global,
     keep: &mut K,

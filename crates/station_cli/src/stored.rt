@@ -17,6 +17,7 @@ use sqlite_disk::{Disk, Start};
 use station_api::{Drain, Served, Source, serve_stream};
 use std::alloc::Global;
 use std::io;
+use yield_counts::Counted;
 
 /// A keeper whose statements may have a limit of steps. Code over any such keeper can't set another one.
 pub trait Limited {
@@ -26,6 +27,10 @@ pub trait Limited {
 
 impl<S: Alter> Limited for SqlKeep<S> {
     ghost is_limited = { λ keep. keep.conn.step_limit ≡ Some 1000000000 };
+}
+
+impl<K: Keep + Limited> Limited for Counted<K> {
+    ghost is_limited = { K.is_limited };
 }
 
 /// What a job over a store leaves of its files.
@@ -111,7 +116,38 @@ pub fn replay_stored<'a, S: Start, R: Source, W: Drain>(
             };
         }
     };
-    let mut keep = match open_limited(rt, alloc, store, &site) {
+    replay_store(rt, alloc, &site, store, reader, writer)
+}
+
+/// Serves one stream over the store in a file, which is closed at the end.
+fn replay_store<'a, S: Start, R: Source, W: Drain>(
+    rt: &HostRuntime,
+    alloc: Global,
+    site: &SiteText,
+    store: StoreFile<'_, S>,
+    reader: &mut R,
+    writer: &mut W,
+) -> Done<'a, Served, S, FileFrom<S>>
+    requires reader { HasCallsLeft (R.calls reader.old) 0 }
+    requires writer { HasCallsLeft (W.calls writer.old) 0 }
+    ensures failed { IfErr result.result (λ failure. (failure ≡ Failure.NoMemory)
+        ⊎ IsOfStore failure) }
+    ensures books { Leaves site.now (image_at S.Start) store.entry.name.now store.entry.absent
+        (λ opened last. IsOkAnd result.result (λ served.
+        ServesOver ⟦<SqlKeep<FileStore<FileFrom<S>>> as Keep>⟧ site.now.site (R.left reader.old)
+        (R.left reader.new) (W.written writer.old) (W.written writer.new) served opened last))
+        result.result result.files }
+    ensures ended { IfOk result.result (IsAnswered (record {
+      input_old = R.left reader.old;
+      input_new = R.left reader.new;
+      output_old = W.written writer.old;
+      output_new = W.written writer.new;
+    })) }
+    ensures within { MatchResult result.result
+        (StaysWithinCalls R.Source W.Drain reader.old reader.new writer.old writer.new)
+        (λ _. (reader.new ≡ reader.old) × (writer.new ≡ writer.old)) }
+{
+    let keep = match open_limited(rt, alloc, store, site) {
         Ok(keep) => keep,
         Err(refused) => {
             return Done {
@@ -120,31 +156,34 @@ pub fn replay_stored<'a, S: Start, R: Source, W: Drain>(
             };
         }
     };
-    let served = replay_over(alloc, &mut keep, site.site(), reader, writer);
+    let (served, keep) = replay_over(alloc, keep, site.site(), reader, writer);
     Done {
         result: Ok(served),
         files: LeftFiles::Ended(close(keep)),
     }
 }
 
-/// Serves one stream over a store, whose statements have the limit of steps. Answers how it ended.
+/// Serves one stream over a store, whose statements have the limit of steps, and which counts
+/// meanwhile. Answers how it ended, and gives the store back.
 fn replay_over<K: Keep + Limited, R: Source, W: Drain>(
     alloc: Global,
-    keep: &mut K,
+    keep: K,
     site: &Site,
     reader: &mut R,
     writer: &mut W,
-) -> Served
-    requires limit { K.is_limited keep.old }
+) -> (Served, K)
+    requires limit { K.is_limited keep }
     requires reader { HasCallsLeft (R.calls reader.old) 0 }
     requires writer { HasCallsLeft (W.calls writer.old) 0 }
-    ensures was_honest { K.is_honest keep.new → K.is_honest keep.old }
+    ensures was_honest { K.is_honest result.1 → K.is_honest keep }
     ensures run { ServesOver K.Keep site.now (R.left reader.old) (R.left reader.new)
-        (W.written writer.old) (W.written writer.new) result keep.old keep.new }
+        (W.written writer.old) (W.written writer.new) result.0 keep result.1 }
     ensures within { StaysWithinCalls R.Source W.Drain reader.old reader.new writer.old writer.new
-        result }
+        result.0 }
 {
-    serve_stream(alloc, keep, site, reader, writer)
+    let mut counted = Counted::over(alloc, keep);
+    let served = serve_stream(alloc, &mut counted, site, reader, writer);
+    (served, counted.into_keep())
 }
 
 /// Closes what a job left of a store's files.

@@ -11,6 +11,7 @@ use std::test::Fail;
 use std::time::{Clock, Duration};
 use test_fixtures::samples::SITE;
 use test_fixtures::streams::{BAD_HEAD, LONG_HEAD, ORDER};
+use yield_counts::Counted;
 
 /// The reply to the order on a connection that ends with it.
 const ORDERED_LAST: &str =
@@ -47,7 +48,7 @@ where
     L: OpenListener<Stream = S>,
 {
     let site = read_site(alloc, site)?;
-    let mut keep = MemKeep::new(alloc);
+    let mut keep = Counted::over(alloc, MemKeep::new(alloc));
     let done = serve_connections(clock, alloc, &mut keep, &site, listener, bounds, count);
     Ok(done.map(|given| given.number()))
 }

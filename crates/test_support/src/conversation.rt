@@ -3,7 +3,6 @@ ghost use Rattle.std.specs.Prelude.{◌<◌};
 ghost use Rattle.http_frames.specs.Prelude.{HasCallsLeft};
 
 use http_frames::memory::{Pieces, Written};
-use office_core::Keep;
 use site_core::read_site;
 use station_api::{Drain, Served, Source, serve_stream};
 use std::alloc::Global;
@@ -12,10 +11,11 @@ use test_fixtures::conversations::{
     Exchange, difference, exchanges, is_unanswered, reply, request,
 };
 use test_fixtures::samples::SITE;
+use yield_counts::Count;
 
 /// Serves a stream for the site of a text: how it ended. It alone names the server, since each call of it
 /// costs the prover half a minute.
-pub fn served_by<K: Keep, R: Source, W: Drain>(
+pub fn served_by<K: Count, R: Source, W: Drain>(
     alloc: Global,
     keep: &mut K,
     site: &str,
@@ -31,7 +31,7 @@ pub fn served_by<K: Keep, R: Source, W: Drain>(
 
 /// Serves a stream that comes in pieces of `step` bytes for the site of a text: how it ended, and what
 /// was written.
-pub fn serve_for<K: Keep>(
+pub fn serve_for<K: Count>(
     alloc: Global,
     keep: &mut K,
     site: &str,
@@ -48,7 +48,7 @@ pub fn serve_for<K: Keep>(
 
 /// Serves a stream that comes in pieces of `step` bytes for the sample site: how it ended, and what was
 /// written.
-pub fn serve<K: Keep>(
+pub fn serve<K: Count>(
     alloc: Global,
     keep: &mut K,
     stream: &[u8],
@@ -61,7 +61,7 @@ pub fn serve<K: Keep>(
 
 /// What the request of an exchange gets for the site of a text where it isn't the reply that it
 /// must get: nothing where it is, and the stream ends with it.
-pub fn difference_for<K: Keep>(
+pub fn difference_for<K: Count>(
     alloc: Global,
     keep: &mut K,
     site: &str,
@@ -81,7 +81,7 @@ pub fn difference_for<K: Keep>(
 
 /// What the request of an exchange gets for the sample site where it isn't the reply that it must get:
 /// nothing where it is, and the stream ends with it.
-pub fn difference_over<K: Keep>(
+pub fn difference_over<K: Count>(
     alloc: Global,
     keep: &mut K,
     exchange: Exchange<'_>,
@@ -91,7 +91,7 @@ pub fn difference_over<K: Keep>(
 
 /// Makes exchanges for the site of a text, a stream for each: the first request that doesn't get its
 /// reply, and what it got.
-pub fn first_difference_for<K: Keep>(
+pub fn first_difference_for<K: Count>(
     alloc: Global,
     keep: &mut K,
     site: &str,
@@ -108,7 +108,7 @@ pub fn first_difference_for<K: Keep>(
 
 /// Makes exchanges for the sample site, a stream for each: the first request that doesn't get its reply,
 /// and what it got.
-pub fn first_difference_of<K: Keep>(
+pub fn first_difference_of<K: Count>(
     alloc: Global,
     keep: &mut K,
     exchanges: &[Exchange<'_>],
@@ -117,7 +117,7 @@ pub fn first_difference_of<K: Keep>(
 }
 
 /// Holds a conversation: the first request that doesn't get its reply, and what it got.
-pub fn first_difference<K: Keep>(
+pub fn first_difference<K: Count>(
     alloc: Global,
     keep: &mut K,
     conversation: &str,
@@ -128,7 +128,7 @@ pub fn first_difference<K: Keep>(
 
 /// Holds a conversation in which an allocation may be refused: a request that is answered with 503,
 /// or by the stream's end, is sent again and gets its reply then.
-pub fn first_difference_after_want<K: Keep>(
+pub fn first_difference_after_want<K: Count>(
     alloc: Global,
     keep: &mut K,
     conversation: &str,

@@ -1,17 +1,18 @@
 //! The keepers over which tests are run, and cases that are held over each.
-use office_core::{Keep, MemKeep};
+use office_core::MemKeep;
 use office_store::{SqlKeep, adopt};
 use site_core::read_site_text;
 use sqlite::{Alter, Connection, MemStore};
 use std::alloc::Global;
 use std::test::Fail;
 use test_fixtures::samples::SITE;
+use yield_counts::{Count, Counted};
 
 /// The keeper over a database in memory.
 pub type SqlMemory = SqlKeep<MemStore>;
 
 /// A keeper that a test can begin with.
-pub trait Fresh: Keep + Drop {
+pub trait Fresh: Count + Drop {
     /// A keeper of no rows for the site of a text.
     fn of_site(alloc: Global, site: &str) -> Result<Self, Fail>;
 
@@ -24,24 +25,25 @@ pub trait Fresh: Keep + Drop {
     fn reopened(self, alloc: Global, site: &str) -> Result<Self, Fail>;
 }
 
-impl Fresh for MemKeep {
-    fn of_site(alloc: Global, _site: &str) -> Result<MemKeep, Fail> {
-        Ok(MemKeep::new(alloc))
+impl Fresh for Counted<MemKeep> {
+    fn of_site(alloc: Global, _site: &str) -> Result<Counted<MemKeep>, Fail> {
+        Ok(Counted::over(alloc, MemKeep::new(alloc)))
     }
 
-    fn reopened(self, _alloc: Global, _site: &str) -> Result<MemKeep, Fail> {
+    fn reopened(self, _alloc: Global, _site: &str) -> Result<Counted<MemKeep>, Fail> {
         Ok(self)
     }
 }
 
-impl Fresh for SqlMemory {
-    fn of_site(alloc: Global, site: &str) -> Result<SqlMemory, Fail> {
+impl Fresh for Counted<SqlMemory> {
+    fn of_site(alloc: Global, site: &str) -> Result<Counted<SqlMemory>, Fail> {
         let conn = Connection::open_in_memory(alloc)?;
-        adopted(alloc, conn, site)
+        Ok(Counted::over(alloc, adopted(alloc, conn, site)?))
     }
 
-    fn reopened(self, alloc: Global, site: &str) -> Result<SqlMemory, Fail> {
-        adopted(alloc, self.into_connection(), site)
+    fn reopened(self, alloc: Global, site: &str) -> Result<Counted<SqlMemory>, Fail> {
+        let conn = self.into_keep().into_connection();
+        Ok(Counted::over(alloc, adopted(alloc, conn, site)?))
     }
 }
 
@@ -53,13 +55,13 @@ pub trait KeeperCase {
 
 /// What differs first in a case, over the keeper in memory.
 pub fn over_memory<C: KeeperCase>(alloc: Global, case: &C) -> Result<String, Fail> {
-    case.first_difference::<MemKeep>(alloc)
+    case.first_difference::<Counted<MemKeep>>(alloc)
 }
 
 /// What differs first in a case, over a database in memory. It alone names that keeper for a case: each
 /// call that does costs the prover a quarter of a minute.
 pub fn over_database<C: KeeperCase>(alloc: Global, case: &C) -> Result<String, Fail> {
-    let found = case.first_difference::<SqlMemory>(alloc)?;
+    let found = case.first_difference::<Counted<SqlMemory>>(alloc)?;
     if found.is_empty() {
         return Ok(found);
     }

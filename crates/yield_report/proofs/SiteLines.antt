@@ -7,8 +7,7 @@ use Rattle.office_tables.specs.Prelude.{Tables, rows_of}
 use Rattle.yield_report.specs.Prelude.{Yield, total, whole_line, customer_line_in, sorted_customers, has_issued_in, IsSiteReport, named_numbers, numbers_in}
 use Rattle.yield_report.specs.Prelude.{with_report_row, AreWhole, FitsCustomer, customer_total, report_text, site_header, AreStorable}
 use Rattle.yield_report.specs.declared.lines.OrderLine.{OrderLine}
-use Rattle.yield_report.proofs.Ascending.{map_both}
-use Rattle.yield_report.proofs.WholeLines.{report_more}
+use Rattle.yield_report.proofs.WholeLines.{map_both, report_more}
 
 -- the line of a customer, and that the tables have room for its numbers
 pub customer_is : (customer : List ℕ) (t : Tables) (lines : List OrderLine) (sums : Yield) (count : ℕ) (before after : List ℕ)

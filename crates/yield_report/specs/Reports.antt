@@ -1,14 +1,10 @@
 -- The reports of the tables of all customers.
-use Rattle.std.specs.Prelude.{◌≡◌, ℕ, List, [], ◌∷◌, is_some, length, map}
+use Rattle.std.specs.Prelude.{◌≡◌, ℕ, List, [], ◌∷◌, length, map}
 use Rattle.std.specs.List.{AllByRecursion}
 use Rattle.site_core.specs.Prelude.{SiteValue}
-use Rattle.office_tables.specs.Prelude.{Tables, given_at, rows_of, with_row, text_cmp}
-use Rattle.yield_report.specs.Counts.{HasIssued, yield_of}
+use Rattle.office_tables.specs.Prelude.{Tables, rows_of, with_row, text_cmp}
+use Rattle.yield_report.specs.Counts.{has_issued_in, yield_of}
 use Rattle.yield_report.specs.Texts.{AreStorable, customer_line, customer_total, order_report_text, report_text, site_header}
-
--- whether a serial number is given, by any customer
-abbrev pub has_issued_in : Tables → HasIssued
-has_issued_in t issuer serial = is_some (given_at issuer serial t)
 
 -- a customer's report, its orders in the order of their names
 abbrev pub order_report_in : List ℕ → Tables → List ℕ

@@ -1,9 +1,9 @@
 -- Rows of a report, as the program makes them.
-use Rattle.std.specs.Prelude.{◌≡◌, ℕ, ◌++◌, List, ◌∷◌, decimal, length, map}
+use Rattle.std.specs.Prelude.{◌≡◌, ℕ, ◌++◌, List, ◌∷◌, All, decimal, length, map}
 use Rattle.csv.specs.Writing.{default_writer, row_text}
 use Rattle.office_tables.specs.Prelude.{Tables, rows_of}
-use Rattle.yield_report.specs.Lines.{whole_line, AreLines}
-use Rattle.yield_report.specs.Reports.{has_issued_in}
+use Rattle.yield_report.specs.Lines.{whole_line}
+use Rattle.yield_report.specs.Counts.{has_issued_in}
 use Rattle.yield_report.specs.Texts.{customer_total, order_header, report_text, AreStorable}
 use Rattle.yield_report.specs.declared.lines.OrderLine.{OrderLine}
 use Rattle.yield_report.specs.Counts.{Yield}
@@ -28,10 +28,11 @@ lines_text lines = report_text (order_header ∷ map line_fields lines)
 abbrev pub numbers_in : List OrderLine → List Yield
 numbers_in lines = map (λ line. line.numbers) lines
 
--- these are the whole lines of a customer's orders
+-- these are the whole lines of a customer's orders, with numbers that the tables have room for
 abbrev pub AreWhole : List ℕ → Tables → List OrderLine → Type 0
 AreWhole customer t lines =
-    (lines ≡ map (whole_line (has_issued_in t) (rows_of customer t.devices)) (rows_of customer t.orders)) × AreLines lines
+    (lines ≡ map (whole_line (has_issued_in t) (rows_of customer t.devices)) (rows_of customer t.orders))
+    × All (λ line. AreStorable line.numbers) lines
 
 -- the tables have room for the numbers of a customer's line
 abbrev pub FitsCustomer : Tables → List ℕ → Type 0

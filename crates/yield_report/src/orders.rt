@@ -1,29 +1,14 @@
 // The report of a customer.
 ghost use Rattle.std.specs.Prelude.{◌≡◌, IfOk};
 ghost use Rattle.office_tables.specs.Prelude.{ReadsOnly};
-ghost use Rattle.yield_report.specs.Prelude.{IsOrderReport, lines_text, AreWhole};
+ghost use Rattle.yield_report.specs.Prelude.{IsOrderReport, lines_text};
 
-use crate::devices::count_devices;
-use crate::left::take_given;
-use crate::lines::{OrderLine, order_lines};
+use crate::lines::{OrderLine, whole_lines};
 use crate::rows::{append_named, append_order_header};
-use office_tables::{Keep, Unkept};
+use office_tables::Unkept;
 use std::alloc::{AllocError, Global};
 use text_core::Name;
-
-/// A line for each of a customer's orders, in the order of their names, with all its numbers.
-pub(crate) fn whole_lines<K: Keep>(
-    alloc: Global,
-    keep: &mut K,
-    customer: &Name,
-) -> Result<Vec<OrderLine>, Unkept>
-    ensures { ReadsOnly K.Keep keep.old keep.new result (λ t lines.
-        AreWhole customer.now t lines.items) }
-{
-    let orders = order_lines(alloc, keep, customer)?;
-    let counted = count_devices(keep, customer, orders)?;
-    take_given(keep, counted)
-}
+use yield_counts::Count;
 
 /// The text of a customer's report.
 fn order_text(alloc: Global, lines: &[OrderLine]) -> Result<Vec<u8>, AllocError>
@@ -39,12 +24,11 @@ fn order_text(alloc: Global, lines: &[OrderLine]) -> Result<Vec<u8>, AllocError>
 
 /// The yield report of a customer as comma-separated text (RFC 4180): a header, and a line for each
 /// of its orders, in the order of their names. A line says how many devices of the order are in each
-/// state, and how many of its serial numbers are left. The keeper is read one row at a time; what is
-/// held are the lines, about 300 bytes an order, and the text.
+/// state, and how many of its serial numbers are left. What is held are the orders and their lines,
+/// about 300 bytes an order, and the text.
 ///
-/// `Err` is want of memory, a keeper's fault, two orders of one issuer that have a serial number in
-/// common, written in one prefix and width, or a number past 9223372036854775807, and nothing else.
-pub fn order_report<K: Keep>(
+/// `Err` is want of memory, a keeper's fault, or a number past 9223372036854775807, and nothing else.
+pub fn order_report<K: Count>(
     alloc: Global,
     keep: &mut K,
     customer: &Name,

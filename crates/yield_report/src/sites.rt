@@ -4,15 +4,15 @@ ghost use Rattle.office_tables.specs.Prelude.{ReadsOnly};
 ghost use Rattle.yield_report.specs.Prelude.{number_count, sum_at, total, customer_line_in, IsSiteReport, numbers_in, with_report_row, FitsCustomer, storable};
 ghost use Rattle.yield_report.specs.Prelude.{AreStorable};
 
-use crate::lines::OrderLine;
+use crate::lines::{OrderLine, whole_lines};
 use crate::names::customer_names;
-use crate::orders::whole_lines;
 use crate::rows::{append_customer, append_site_header};
 use crate::yields::{NUMBERS, Yield};
 use office_tables::{Keep, LARGEST_NUMBER, Unkept};
 use site_core::Site;
 use std::alloc::Global;
 use text_core::Name;
+use yield_counts::Count;
 
 /// The sum of the numbers of all lines at a place. `None` where the tables have no room for it.
 fn sum_at(lines: &[OrderLine], place: usize) -> Option<u64>
@@ -52,7 +52,7 @@ fn ask_open<K: Keep>(keep: &mut K) -> Result<(), Unkept>
 }
 
 /// Appends the line of a customer.
-fn append_line<K: Keep>(
+fn append_line<K: Count>(
     alloc: Global,
     keep: &mut K,
     text: &mut Vec<u8>,
@@ -76,13 +76,11 @@ fn append_line<K: Keep>(
 
 /// The manager's yield report of a site as comma-separated text (RFC 4180): a header, and a line
 /// for each of its customers, in the order of their names. A line says how many orders the customer
-/// has, and the sums of the numbers of its orders. The keeper is read one row at a time; what is held
-/// are the lines of one customer, about 300 bytes an order, and the text.
+/// has, and the sums of the numbers of its orders. What is held are the orders and lines of one
+/// customer, about 300 bytes an order, and the text.
 ///
-/// `Err` is want of memory, a keeper's fault, two orders of a customer in one issuer that have a
-/// serial number in common, written in one prefix and width, or a number past 9223372036854775807,
-/// and nothing else.
-pub fn site_report<K: Keep>(alloc: Global, keep: &mut K, site: &Site) -> Result<Vec<u8>, Unkept>
+/// `Err` is want of memory, a keeper's fault, or a number past 9223372036854775807, and nothing else.
+pub fn site_report<K: Count>(alloc: Global, keep: &mut K, site: &Site) -> Result<Vec<u8>, Unkept>
     ensures { ReadsOnly K.Keep keep.old keep.new result (λ t text.
         IsSiteReport site.now t text.items) }
 {

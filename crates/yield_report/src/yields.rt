@@ -1,19 +1,12 @@
 // The numbers of a line of a report.
-ghost use Rattle.std.specs.Prelude.{◌≡◌, ◌<◌};
-ghost use Rattle.yield_report.specs.Prelude.{left_place, state_place, with_device_counted};
+ghost use Rattle.std.specs.Prelude.{◌≡◌, ◌↔◌, true};
+ghost use Rattle.yield_report.specs.Prelude.{AreStorable};
 
-use office_tables::{DeviceState, one_more};
+use office_tables::LARGEST_NUMBER;
+use yield_counts::COLUMNS;
 
-/// How many columns of states a report has.
-const COLUMNS: usize = 7;
-
-/// Where the quantity stands among the numbers of a line.
-pub(crate) const QUANTITY: usize = 0;
-
-/// Where the serial numbers that are left stand: behind the columns of states.
-pub(crate) const SERIALS_LEFT: usize = COLUMNS + 1;
-
-/// How many numbers a line has.
+/// How many numbers a line has: the quantity, one a column of states, and how many serial numbers are
+/// left.
 pub(crate) const NUMBERS: usize = COLUMNS + 2;
 
 /// The numbers of a line of a report, in the order of their names: those of one order, or the sums
@@ -42,22 +35,14 @@ pub(crate) const NAMES: [&str; NUMBERS] = [
     "serials_left",
 ];
 
-/// Where the devices in a state are counted among the numbers: the columns of states stand behind
-/// the quantity.
-fn state_place(state: DeviceState) -> usize
-    ensures place { result ≡ state_place state }
-    ensures bound { result < left_place }
+/// Whether the tables have room for all numbers of a line.
+pub(crate) fn are_storable(numbers: &Yield) -> bool
+    ensures { (result ≡ true) ↔ AreStorable numbers.now }
 {
-    1 + state.row().column
-}
-
-/// The numbers with one more device in a state. `None` where the tables have no room for its
-/// number.
-pub(crate) fn with_device_counted(numbers: &Yield, state: DeviceState) -> Option<Yield>
-    ensures { result ≡ with_device_counted state numbers.now }
-{
-    let place = state_place(state);
-    let mut counted = *numbers;
-    counted[place] = one_more(numbers[place])?;
-    Some(counted)
+    for number in numbers {
+        if *number > LARGEST_NUMBER {
+            return false;
+        }
+    }
+    true
 }

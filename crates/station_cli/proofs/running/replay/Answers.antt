@@ -26,7 +26,7 @@ returns-clause-served g c =
     let ended = c.serve_stream.result in
     let run = c.serve_stream.ensures.run in
     let owners = ownership_of c.site-2.result.now in
-    let led = run.3 tt no_rows (λ _. c.new-keep.ensures) in
+    let led = run.3 tt no_rows (λ _. rw c.over-keep.ensures c.new.ensures) in
     let replayed : Replays c.site-2.result.now no_rows left_old left_new written_old written_new ended =
     (run.0, run.1, run.2, led.0, led.1.run, λ sound. led.1.books owners (growth_itself owners) sound) in
     books_read c.args.name (λ b. b.items) c.args.file c.in_ok-site.site

@@ -9,6 +9,6 @@ returns g c = record {
   stays_open = search rules;
   answer = λ is.
       let lines = c.in_ok-lines.ensures.answer is in
-      report_of_lines c.args.customer.now (g.K.Keep.tables c.args.keep.now) c.in_ok-lines.lines.items _ lines.0 lines.1
+      report_of_lines c.args.customer.now (g.K.Keep.tables c.args.keep.now) c.in_ok-lines.lines.items _ lines
       (c.in_ok-order_text.ensures ∙ ap lines_text c.as_slice.ensures.value);
 }

@@ -1,5 +1,5 @@
 use Rattle.std.proofs.Common.{◌∙◌, sym}
-use Rattle.memory_keeper.proofs.Counted.{without_none}
+use Rattle.memory_keeper.proofs.Absent.{without_none}
 use Rattle.memory_keeper.proofs.Records.{find_given, indexed-without, without_given}
 use Rattle.memory_keeper.proofs.given.GivenRows.remove.Goals as goal
 

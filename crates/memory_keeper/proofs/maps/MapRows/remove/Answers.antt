@@ -1,5 +1,5 @@
 use Rattle.text_core.proofs.Kit.{◌∙◌, None, sym, btree_map_updates_text}
-use Rattle.memory_keeper.proofs.Counted.{without_none}
+use Rattle.memory_keeper.proofs.Absent.{without_none}
 use Rattle.memory_keeper.proofs.Keys.{find_map, without_map}
 use Rattle.memory_keeper.proofs.Texts.{found-without}
 use Rattle.memory_keeper.proofs.maps.MapRows.remove.Goals as goal
