@@ -35,6 +35,9 @@ MAP_BYTES, SITE_BYTES = 32_768, 1_048_576
 ROWS = 500
 BOUND = 6 << 20
 
+# The number of the version, as the description of the API tells it to integrators.
+(NUMBER,) = re.findall(r'^  version: "([0-9.]+)"$', (ROOT / "docs/openapi.yaml").read_text(encoding="utf-8"), re.M)
+
 # Words that have something shown on standard output, and all that is shown.
 SHOWN = {
     "--help": rb"Serves programming stations\n.*Usage: station .*\n",
@@ -42,8 +45,8 @@ SHOWN = {
     "replay --help": rb"Serves one stream .*Usage: station replay .*\n",
     "check-map --help": rb"Reads a fuse map.*Usage: station check-map .*\n",
     "check-site --help": rb"Reads a site.*Usage: station check-site .*\n",
-    "--version": rb"station 1\.0\.0\n",
-    "-V": rb"station 1\.0\.0\n",
+    "--version": re.escape(f"station {NUMBER}\n".encode()),
+    "-V": re.escape(f"station {NUMBER}\n".encode()),
 }
 
 # Words that are refused: none, others, too few, and numbers out of their range.
