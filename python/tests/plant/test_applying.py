@@ -11,6 +11,7 @@ from types import SimpleNamespace
 
 import pytest
 from conftest import TOP
+from wanekupo.plant.restart import tell_restart
 from wanekupo.plant.site import apply as applying
 from wanekupo.plant.site.apply import Stopped, apply
 from wanekupo.plant.site.plan import PLACED, PREPARED, STOPPING, GrowthPlan, SeatWish, keep_plan, read_plan
@@ -492,11 +493,12 @@ def test_a_pipe_in_the_place_of_that_copy_ends_no_growth(place, monkeypatch):
     assert (bounds, ["took too long" in it for it in told(place)]) == ([60], [True])
 
 
-def test_say_is_seen_at_once(monkeypatch):
+@pytest.mark.parametrize("say, said", [(applying.say, b"line\n"), (tell_restart, b"restart: line\n")])
+def test_what_is_said_is_seen_at_once(monkeypatch, say, said):
     """Also where nobody types, as in a pipe, which keeps lines back."""
     monkeypatch.setattr(sys, "stdout", io.TextIOWrapper(io.BytesIO()))
-    applying.say("line")
-    assert sys.stdout.buffer.getvalue() == b"line\n"
+    say("line")
+    assert sys.stdout.buffer.getvalue() == said
 
 
 def test_a_signal_is_a_refusal():
