@@ -290,12 +290,12 @@ def test_what_is_given_up_leaves_no_seat(place, monkeypatch, capsys):
     """Also where it was prepared in two runs; the seats that were there stay, as another store may have them."""
     monkeypatch.setattr(site, "is_up", lambda it: True)
     put(place.tokens, tokens_text(Tokens({it: TokenSeat(it, "acme", it) for it in ("a1", "a7")})))
-    for seat in ("a2", "a2", "a7", "health"):
+    for seat in ("a2", "a2", "a7", "health", "e", "d", "c"):
         site.prepare(words("add-seat", "acme", seat), place)
-    assert known(place) == {"a1", "a2", "a7", "health"}
+    assert known(place) == {"a1", "a2", "a7", "health", *"cde"}
     site.drop(words("drop"), place)
     assert known(place) == {"a1", "a7"} and not place.next.exists() and not place.plan.exists()
-    assert "tokens.conf: a2, health\n" in capsys.readouterr().out and place.site.read_text() == TEXT
+    assert "tokens.conf: a2, c, d, e, health\n" in capsys.readouterr().out and place.site.read_text() == TEXT
     site.drop(words("drop"), place)
     assert known(place) == {"a1", "a7"}
 
