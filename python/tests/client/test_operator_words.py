@@ -16,6 +16,7 @@ from wanekupo.bench import endings, life, words
 from wanekupo.bench.board import Board, ShiftCounts, Socket, box_of, ended_socket, in_common, state_of
 from wanekupo.bench.endings import ENDINGS, Ended
 from wanekupo.bench.recipe import BadRecipe, recipe_of
+from wanekupo.chips.families import BadDump
 
 PAGE = ROOT / "docs" / "line" / "bench.md"
 LANGUAGES = [it.stem for it in words.FOLDER.glob("*.toml") if it.stem != "en"]
@@ -53,6 +54,18 @@ class Words(FolderCase):
         file = self.folder / "our.toml"
         file.write_text(text, encoding="utf-8")
         return file
+
+    def test_which_ending_each_error_has(self):
+        rows = re.findall(r"^\| `(\w+)` \| refusals? ([\d, ]+)", PAGE.read_text("utf-8"), re.MULTILINE)
+        page = {int(it): name for name, numbers in rows for it in numbers.replace(",", " ").split()}
+        self.assertEqual(page, {**endings.REFUSALS, **dict.fromkeys((11, 12), "older_store")})
+        for error, step, name in (
+            (OSError(28, "full"), "look", "disk_full"), (OSError(122, "full"), "look", "disk_full"),
+            (OSError(5, "fault"), "look", "disk"), (BadDump("x"), "read", "no_dump"), (BadDump("x"), "look", "no_read"),
+        ):  # fmt: skip
+            self.assertEqual(endings.ended_by(error, step).ending.name, name)
+        told = subprocess.CalledProcessError(1, "espefuse", f"{200 * 'x'}\n", "")
+        self.assertEqual(endings.ended_by(told, "look").facts["detail"], 120 * "x")
 
     def test_each_language(self):
         english = {table: words.ENGLISH[table] for table in words.TABLES if table != "reasons"}

@@ -9,7 +9,7 @@ import pytest
 
 from test_sealed_rows import imported, life, order
 from wanekupo.books.apart import sealed_rows_of
-from wanekupo.books.chain import NONE, Chain, sealed
+from wanekupo.books.chain import NONE, BadChain, Chain, sealed
 from wanekupo.books.lines import line
 from wanekupo.cli.main import main
 
@@ -55,6 +55,16 @@ def asked(tmp_path, capsys):
 
 def seal_again(folder: Path, rows):
     Chain(folder).add(sorted(rows), LATER, "@all", None, None)
+
+
+def test_what_a_chain_does_not_have_is_set_aside(tmp_path):
+    for _ in range(3):
+        (tmp_path / "chain").unlink(missing_ok=True)
+        Chain(tmp_path).add([SITE], AT, "@all", None, None)
+    aside = {it.name: it.stat().st_mode & 0o777 for it in tmp_path.glob("*-aside-*")}
+    assert aside == {"000001-aside-1": 0o700, "000001-aside-2": 0o700}
+    with pytest.raises(BadChain, match="has seals of @all, and this one is of acme"):
+        Chain(tmp_path).add([SITE], LATER, "acme", None, None)
 
 
 def test_stores_come_by_their_names(tmp_path):

@@ -7,13 +7,16 @@ import os
 import stat
 import subprocess
 import sys
+from pathlib import Path
 from types import SimpleNamespace
 
 import pytest
 from conftest import TOP
+from wanekupo.plant.restart import tell_restart
 from wanekupo.plant.site import apply as applying
 from wanekupo.plant.site.apply import Stopped, apply
 from wanekupo.plant.site.plan import PLACED, PREPARED, STOPPING, GrowthPlan, SeatWish, keep_plan, read_plan
+from wanekupo.plant.trial_copy import Backup
 from wanekupo.common.store_user import UserError
 from wanekupo.common.token_file import Outer, TokenSeat, TokenError, Tokens, put, tokens_text
 
@@ -76,7 +79,7 @@ def place(tmp_path, monkeypatch):
     monkeypatch.setattr(applying, "keep_plan", lambda path, plan: (
         made.calls.append(("PLAN", plan.stage)), keep_plan(path, plan)))  # fmt: skip
     monkeypatch.setattr(applying, "tried_over_backup", lambda it, backup, old, new: made.calls.append(
-        ("TRIED", str(backup.path), old, new)))  # fmt: skip
+        ("TRIED", backup, old, new)))  # fmt: skip
     monkeypatch.setattr(applying, "is_up", lambda it: ("SERVICE", "START") in it.calls)
     monkeypatch.setattr(applying.time, "sleep", lambda _: None)
     monkeypatch.setattr(applying, "say", lambda text: made.calls.append(("SAY", text)))
@@ -127,7 +130,7 @@ def test_an_untried_text_is_tried_over_that_backup(place, is_tried):
     plan = GrowthPlan(is_tried=is_tried)
     applying.stop_and_back_up(place, plan)
     tried = [it[1:] for it in place.calls if it[0] == "TRIED"]
-    assert tried == ([] if is_tried else [(plan.backup, OLD, NEW)])
+    assert tried == ([] if is_tried else [(Backup(Path(plan.backup), 1, is_encrypted=False), OLD, NEW)])
 
 
 def refuse_trial(*_):
@@ -492,11 +495,12 @@ def test_a_pipe_in_the_place_of_that_copy_ends_no_growth(place, monkeypatch):
     assert (bounds, ["took too long" in it for it in told(place)]) == ([60], [True])
 
 
-def test_say_is_seen_at_once(monkeypatch):
+@pytest.mark.parametrize("say, said", [(applying.say, b"line\n"), (tell_restart, b"restart: line\n")])
+def test_what_is_said_is_seen_at_once(monkeypatch, say, said):
     """Also where nobody types, as in a pipe, which keeps lines back."""
     monkeypatch.setattr(sys, "stdout", io.TextIOWrapper(io.BytesIO()))
-    applying.say("line")
-    assert sys.stdout.buffer.getvalue() == b"line\n"
+    say("line")
+    assert sys.stdout.buffer.getvalue() == said
 
 
 def test_a_signal_is_a_refusal():

@@ -52,11 +52,13 @@ def test_paths_are_whole_ones(tmp_path, monkeypatch):
     monkeypatch.chdir(tmp_path)
     for name in ("keys", "age1abc"):
         (tmp_path / name).write_text("")
-    args = args_of(Path("all"), site="s.toml", db="d/books.db", recipient=["keys", "age1abc"], folder=Path("f"))
-    backup.make_whole(args, "bin/P")
-    assert (args.program, args.site, args.db) == tuple(str(tmp_path / it) for it in ("bin/P", "s.toml", "d/books.db"))
-    assert (args.into, args.folder) == (tmp_path / "all",
-        tmp_path / "f") and args.recipient == [str(tmp_path / "keys"), "age1abc"]
+    for user, where in ((0, tmp_path), (7, Path())):
+        monkeypatch.setattr(backup.os, "geteuid", lambda: user)
+        args = args_of(Path("all"), site="s.toml", db="d/books.db", recipient=["keys", "age1abc"], folder=Path("f"))
+        backup.make_whole(args, "bin/P")
+        assert [args.program, args.site, args.db] == [str(tmp_path / it) for it in ("bin/P", "s.toml", "d/books.db")]
+        assert (args.into, args.folder) == (where / "all", where / "f")
+        assert args.recipient == [str(tmp_path / "keys"), "age1abc"]
     args = args_of(None, site=None)
     backup.make_whole(args, "/bin/P")
     assert (args.into, args.folder, args.site) == (None, None, None)

@@ -72,6 +72,8 @@ def test_the_folder_of_a_closed_site(place, tmp_path):
     told = json.loads(data)
     assert data == (made / "closed.json").read_text() and told["seal"] == (made / "seals/chain").read_text().strip()
     assert told["site_sha256"] == hashlib.sha256(b"customer = []\n").hexdigest() and told["seats"] == []
+    with pytest.raises(FileExistsError):
+        closing.copy_out(folder_of(place.db), made)
     Path(f"{place.db}-wal").write_bytes(bytes(568))  # a page is in it: the file alone is older than the store
     with pytest.raises(TokenError, match="isn't joined"):
         closing.copy_out(folder_of(place.db), tmp_path)
@@ -89,6 +91,11 @@ SEATS += [TokenSeat("@manager", "@manager", "z"), TokenSeat("@other", "@other", 
 
 def tokens(*outers):
     return Tokens({it.seat: it for it in SEATS}, list(outers))
+
+
+def test_the_seats_of_a_site():
+    site = Site({"acme": SiteCustomer("acme", seats={"a1": "", "b1": ""})}, hashlib.sha256(b"z").hexdigest())
+    assert closing.own_seats(site, tokens()) == {"a1", "@manager"}
 
 
 def test_which_tokens_end(place, tmp_path, capsys):

@@ -62,7 +62,12 @@ def test_under_way(monkeypatch, tmp_path):
         told(monkeypatch, tmp_path, lambda it: it.write_text(text(one, ["the device c1"])))
 
 
-@pytest.mark.parametrize("data, rows", [(b"a\nb\n", ["a", "b"]), (b"", []), (b"a\nb", None), (b"\xff\n", None)])
+LONG = (1 << 20) - 1
+ROWS = [(b"a\nb\n", ["a", "b"]), (b"", []), (b"a\nb", None), (b"\xff\n", None), (LONG * b"x" + b"\n", [LONG * "x"]),
+        (LONG * b"x" + b"x\n", None)]  # fmt: skip
+
+
+@pytest.mark.parametrize("data, rows", ROWS, ids=range(len(ROWS)))
 def test_rows(tmp_path, data, rows):
     (tmp_path / "rows").write_bytes(data)
     folder = SimpleNamespace(file=lambda: os.open(tmp_path / "rows", os.O_RDONLY), db="rows",

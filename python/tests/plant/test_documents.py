@@ -5,8 +5,8 @@ import random
 
 import pytest
 
-from wanekupo.books.documents import NotShown, SealBooks, device_text, found_rows, identity_text
-from wanekupo.books.lines import BadRow, device_line, entry_line, order_line, record_line
+from wanekupo.books.documents import NotShown, SealBooks, device_text, found_rows, identity_text, report_text
+from wanekupo.books.lines import BadRow, device_line, entry_line, line, order_line, record_line
 from wanekupo.common.errors import Refused
 
 NOTHING = {"bits": [], "keys": {}}
@@ -57,9 +57,14 @@ def test_each_key_and_no_other(tmp_path, seed):
 def test_the_second_address(tmp_path):
     held = device("acme", "0000000000aa").replace('"serial":null', '"serial":"S001"')
     one, two = record("S001", "020000000002"), record("S002", "020000000004")
-    read = books(tmp_path, [order_line("acme", ORDER), one, two, held])
+    other = order_line("acme", {**ORDER, "name": "o0", "prefix": "T", "macs": 3, "mac": "030000000000"})
+    plant = line("site", ("site",), {"schema": 3, "sha256": 64 * "0"})
+    rows = [other, order_line("acme", ORDER), one, two, record("T000", "030000000000"), held, plant]
+    read = books(tmp_path, rows)
     assert f"record acme ca S001 {identity_text(read, 'acme', '0000000000aa')}" == one
-    wanted = {"000003": ["S001"], "02:00:00:00:00:05": ["S002"], "0000006": [], "s00": ["S001", "S002"]}
+    assert [it.rpartition(",")[2] for it in report_text(read, "acme").splitlines()] == ["serials_left", "98", "97"]
+    wanted = {"000003": ["S001"], "02:00:00:00:00:05": ["S002"], "0000006": [], "s00": ["S001", "S002"],
+              "030000000002": ["T000"]}  # fmt: skip
     for part, serials in wanted.items():
         assert [it["serial"] for it in found_rows(read, "acme", part)] == serials, part
 

@@ -87,7 +87,7 @@ def test_member_of_a_fault_is_named_without_places():
     ("[[a]]\n[a]\n", 2), ('a = "x\n', 1), ("a = 01\n", 1),
     ("n = 9223372036854775808", 1), ("x = 1\nn = -9223372036854775809", 2),
     ("x = 1\n\nn = [1, 99999999999999999999]", 3),
-    ("x = 1\nn = 1e400", 2), ("n = -1e999\n", 1), ("n = " + "1" * 5000, 1), ("x = 1\na = " + "[" * 81 + "]" * 81, 2),
+    ("x = inf\nn = 1e400", 2), ("n = -1e999\n", 1), ("n = " + "1" * 5000, 1), ("x = 1\na = " + "[" * 81 + "]" * 81, 2),
     ("a = " + "[" * 3000 + "]" * 3000, 1),
 ])  # fmt: skip
 def test_no_toml(text, line):
@@ -114,7 +114,7 @@ def test_largest_whole():
 
 
 @pytest.mark.parametrize("text, told, line, parts", [
-    ("x\ny\n", "Bad thing (at line 2, column 7)", 2, ["column 7", "bad thing"]),
+    ("x\ny\n", "Bad Thing (at line 2, column 7)", 2, ["column 7", "bad Thing"]),
     ("x\ny\n", "Bad thing (at end of document)", 2, ["bad thing"]),
     ("x\ny", "Bad thing (at end of document)", 2, ["bad thing"]),
     ("", "Odd", 1, ["odd"]),

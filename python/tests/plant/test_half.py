@@ -4,13 +4,16 @@ is as the user's guide of DRBD 8.4 has it."""
 import contextlib
 import os
 import pty
+import re
 import signal
 import subprocess
+import tomllib
 from datetime import datetime, timedelta, timezone
 from types import SimpleNamespace
 
-from wanekupo.standby import half
 import pytest
+from conftest import TOP
+from wanekupo.standby import half
 from wanekupo.standby.half import Half, StandbyError, StandbySettings, DrbdState, read_settings
 
 TABLE = """version: 8.4.11 (api:1/proto:86-101)
@@ -69,10 +72,9 @@ def settings(tmp_path, text, mode=0o644):
 
 
 def test_without_a_file_the_settings_are_the_pages(tmp_path):
-    found = read_settings(tmp_path / "none")
-    assert found == StandbySettings() and (found.resource, found.device, found.folder) == ("station", "/dev/drbd0",
-        "/var/lib/station")
-    assert (found.stop, found.fence, found.witnesses) == ("systemctl stop station", "", ())
+    """Each stands behind a # in the file that is deployed."""
+    there = tomllib.loads(re.sub(r"(?m)^# (?=\w+ = )", "", (TOP / "deploy/standby/standby.toml").read_text()))
+    assert {**there, "witnesses": tuple(there["witnesses"])} == vars(read_settings(tmp_path / "none"))
     assert half.SETTINGS == half.Path("/etc/station/standby.toml")
 
 
@@ -263,6 +265,7 @@ def test_commands_of_the_half(asked):
                      ["mount", "-t", "xfs", "-o", "nodev,nosuid,noexec", "/dev/x", "/where"], ["umount", "/f"],
                      ["drbdadm", "sh-ll-dev", "r"], ["start", "a b"]]  # fmt: skip
     assert asked.more["timeout"] == 900
+    assert f"\nTimeoutStopSec={half.SERVER_SECONDS / 60:g}min\n" in (TOP / "deploy/station.service").read_text()
     asked.status = 1
     for call in (own.mount, own.unmount, own.disk, lambda: own.command("start")):
         with pytest.raises(StandbyError):

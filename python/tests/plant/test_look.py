@@ -95,8 +95,9 @@ def test_mounted_in_a_folder_that_goes(machine, own, monkeypatch):
     assert os.listdir(own.settings.scratch) == []
 
 
-def test_what_a_killed_look_left_goes(machine, own, tmp_path):
-    scratch = Path(own.settings.scratch)
+def test_what_a_killed_look_left_goes(machine, own, tmp_path, monkeypatch):
+    scratch, real = Path(own.settings.scratch), Path.lstat
+    monkeypatch.setattr(Path, "lstat", lambda it: SimpleNamespace(st_uid=0, st_mode=real(it).st_mode))
     (scratch / "station-look-1/shown").mkdir(parents=True)
     (scratch / "other").mkdir()
     (tmp_path / "mine/shown").mkdir(parents=True)

@@ -72,6 +72,15 @@ def test_file_by_which_a_ca_signs(tmp_path: Path, name: str, mode: int, is_taken
         Authority(tmp_path)
 
 
+@pytest.mark.parametrize("mode", [0o640, 0o604])
+def test_key_of_a_ca_that_others_read(tmp_path: Path, mode: int) -> None:
+    for it in ("ca.cnf", "ca.pem", "ca.key"):
+        (tmp_path / it).touch(mode=0o644)
+    (tmp_path / "ca.key").chmod(mode)
+    with pytest.raises(BadSettings, match=f"others can read {tmp_path / 'ca.key'}, which has a secret of the CA"):
+        Authority(tmp_path)
+
+
 def test_what_is_signed_is_not_what_another_put_there(tmp_path: Path) -> None:
     words = "req -x509 -newkey ec -pkeyopt ec_paramgen_curve:prime256v1 -nodes -subj /CN=plant -days 1"
     words = f"openssl {words} -keyout key.pem -out cert.pem"

@@ -239,11 +239,13 @@ def test_main(monkeypatch, capsys, error, status):
         if error:
             raise error
 
+    masks = []
     monkeypatch.setattr(restart, "run_restart", run)
-    monkeypatch.setattr(restart.os, "umask", lambda mask: None)
+    monkeypatch.setattr(restart.os, "umask", masks.append)
     monkeypatch.setattr(restart.signal, "signal", lambda *_: None)
     monkeypatch.setattr(sys, "argv", ["restart", "--check"])
     assert restart.main() == status and ("why" in capsys.readouterr().err) == bool(error)
+    assert masks == [0o077], "what it writes is root's alone"
 
 
 @pytest.mark.parametrize("text", ["--check --now", "--log x", "--chec", "x"])

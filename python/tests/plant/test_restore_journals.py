@@ -156,6 +156,13 @@ def test_what_is_no_folder_of_a_station(tmp_path):
         taken([tmp_path])
 
 
+def test_the_first_folder_by_name_is_told(tmp_path):
+    for number in range(100, 130):
+        (tmp_path / f"pc{number}").mkdir()
+    with pytest.raises(RestoreError, match="which seats the folder .*pc100 has"):
+        taken([tmp_path])
+
+
 def test_links_and_pipes_are_not_opened(tmp_path):
     other = put(tmp_path / "elsewhere/a1.journal", asked(1))
     own = tmp_path / "all/pc7/a1.journal"

@@ -57,8 +57,8 @@ def test_what_is_not_known_of_seats(name, one, found, before, without, told):
 
 
 def test_which_stations_stop_by_themselves():
-    found = requests(a1=[1, 2, 3], a2=[1, 2, 3], a3=[1, 2, 3], a4=[])
-    assert seats_out_of_step(found, {"a1": 1, "a2": 2, "a3": 3}) == (["a1"], ["a2", "a3", "a4"])
+    found = requests(a1=[1, 2, 3], a2=[1, 2, 3], a3=[1, 2, 3], a4=[], a5=[])
+    assert seats_out_of_step(found, {"a1": 1, "a2": 2, "a3": 3, "a5": 1}) == (["a1", "a5"], ["a2", "a3", "a4"])
 
 
 def test_the_last_numbers_of_a_backup():

@@ -230,6 +230,8 @@ def test_who_is_left_out_is_known_and_the_tokens_too(tmp_path):
         with pytest.raises(RestoreError, match="needs the file of station-token"):
             check_left_out(["acme"], {"acme": customer()}, [], place)
     check_left_out([], {"acme": customer()}, [outer("a1")], tmp_path)
+    with pytest.raises(RestoreError, match="the tokens of a, b, c, d, e, f: station-token revoke a$"):
+        check_left_out(["acme"], {"acme": customer(seats="fedcba")}, map(outer, "fedcba"), at)
 
 
 # The seats with tokens, those with a journal, those that are named; who is chosen, and whether that is warned of.

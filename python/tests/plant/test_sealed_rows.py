@@ -6,7 +6,7 @@ import json
 import pytest
 
 from wanekupo.books.coherence import faults_of
-from wanekupo.books.compare import Text, contradictions
+from wanekupo.books.compare import Text, contradictions, differences
 from wanekupo.books.lines import device_line, entry_line, line, order_line, record_line
 
 ORDER = {"issuer": "acme-ca", "prefix": "G", "width": 3, "first": 9, "quantity": 4, "macs": 2, "mac": "0200000000f0"}
@@ -80,11 +80,20 @@ def test_found(name):
     assert any(told in it for it in said(rows)), name
 
 
+def test_what_changed_since_the_seal_before():
+    after = [order(quantity=5), ONE[0], renamed(ONE[1], "seat", "a2"), *ONE[2:]]
+    told = [it.sentence() for it in differences(Text.of([order(), *ONE]), Text.of(after))]
+    assert told == ["The entry 1 of c1 of acme: seat was a1, and is a2.",
+                    "The order o1 of acme: quantity was 4, and is 5."]  # fmt: skip
+
+
 def test_a_ledger_is_read_by_its_numbers_and_told_in_order():
-    keys = {"c": "3", "a": "1", "d": "4", "b": "2"}
+    keys, bits = {"c": "3", "a": "1", "d": "4", "b": "2"}, [{"block": 2, "word": 5, "mask": "00000003"}]
     steps = (3, "read", "match", keys), (1, "registered", "", keys), (2, "planned", "", {})
-    entries = [{"n": number, "event": it, "note": note, "bits": [], "keys": more} for number, it, note, more in steps]
-    device = {"state": "settled", "reason": None, "serial": None, "bits": [], "keys": {}}
+    entries = [{"n": number, "event": it, "note": note, "bits": bits * bool(more), "keys": more}
+               for number, it, note, more in steps]  # fmt: skip
+    device = {"state": "settled", "reason": None, "serial": None, "bits": bits, "keys": {}}
     again = [f"its entry 3 adds a key of {it}, which was known" for it in "abcd"]
     otherwise = [f"the key of {it} is none, and by its ledger {keys[it]}" for it in "abcd"]
-    assert list(faults_of(device, entries, [])) == [*again, *otherwise]
+    burnt = "its entry 3 adds 00000003 in word 5 of block 2, which was burnt"
+    assert list(faults_of(device, entries, [])) == [burnt, *again, *otherwise]

@@ -206,10 +206,12 @@ def test_no_such_customer_and_no_names(place, line):
 
 
 def test_prepare(place, tmp_path, capsys):
-    site.prepare(words("add-seat", "acme", "a2", "--other-site", "two.toml"), place)
+    others = [word for it in "zyxwvu" for word in ("--other-site", it)]
+    site.prepare(words("add-seat", "acme", "a2", "--other-site", "two.toml", *others), place)
     assert given(place.next.read_text())["acme"].seats == {"a1": ONE, "a2": HELLO} and place.site.read_text() == TEXT
     plan = read_plan(place.plan)
-    assert (plan.stage, plan.is_tried, plan.others) == (PREPARED, True, [str(tmp_path / "two.toml")])
+    there = [str(tmp_path / it) for it in ("two.toml", *"uvwxyz")]
+    assert (plan.stage, plan.is_tried, plan.others) == (PREPARED, True, there)
     assert plan.wishes == [SeatWish("a2", "acme", str(tmp_path / "a2.token"), "", True)]
     told = capsys.readouterr().out
     assert "gain" in told and "a copy took it" in told and "two.toml" in told and "nothing is taken away" in told
@@ -217,7 +219,7 @@ def test_prepare(place, tmp_path, capsys):
     found = given(place.next.read_text())["acme"]
     assert found.issuers == ["acme-ca", "n"] and set(found.seats) == {"a1", "a2"}, "the next one adds to the same text"
     plan = read_plan(place.plan)
-    assert plan.others == [str(tmp_path / "two.toml")] and [it.seat for it in plan.wishes] == ["a2"]
+    assert plan.others == there and [it.seat for it in plan.wishes] == ["a2"]
 
 
 def test_the_text_is_tested_before_a_token_is_made_and_again_with_it(place):
@@ -251,9 +253,9 @@ def test_what_is_only_prepared_is_not_in_the_site(place, capsys):
 
 def test_under_way_nothing_is_prepared(place):
     keep_plan(place.plan, GrowthPlan(PLACED))
-    with pytest.raises(TokenError, match="under way"):
+    with pytest.raises(TokenError, match="under way") as error:
         site.prepare(words("add-seat", "acme", "a2"), place)
-    assert not place.next.exists()
+    assert error.value.status == 1 and not place.next.exists()
 
 
 @pytest.mark.parametrize("more, stage, is_applied", [([], "", False), (["--apply"], PREPARED, True)])
@@ -288,12 +290,12 @@ def test_what_is_given_up_leaves_no_seat(place, monkeypatch, capsys):
     """Also where it was prepared in two runs; the seats that were there stay, as another store may have them."""
     monkeypatch.setattr(site, "is_up", lambda it: True)
     put(place.tokens, tokens_text(Tokens({it: TokenSeat(it, "acme", it) for it in ("a1", "a7")})))
-    for seat in ("a2", "a2", "a7", "health"):
+    for seat in ("a2", "a2", "a7", "health", "e", "d", "c"):
         site.prepare(words("add-seat", "acme", seat), place)
-    assert known(place) == {"a1", "a2", "a7", "health"}
+    assert known(place) == {"a1", "a2", "a7", "health", *"cde"}
     site.drop(words("drop"), place)
     assert known(place) == {"a1", "a7"} and not place.next.exists() and not place.plan.exists()
-    assert "tokens.conf: a2, health\n" in capsys.readouterr().out and place.site.read_text() == TEXT
+    assert "tokens.conf: a2, c, d, e, health\n" in capsys.readouterr().out and place.site.read_text() == TEXT
     site.drop(words("drop"), place)
     assert known(place) == {"a1", "a7"}
 

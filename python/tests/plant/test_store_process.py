@@ -216,15 +216,16 @@ def test_where_memory_runs_out_these_are_ended_first(monkeypatch):
     monkeypatch.setattr(store_user.os, "getgrouplist", lambda name, group: [name, group])
     for name in ("setresgid", "setresuid"):
         monkeypatch.setattr(store_user.os, name, lambda *_, name=name: steps.append(name))
-    libc = SimpleNamespace(prctl=lambda *_: 0, syscall=lambda *words: steps.append(words) or 1)
+    libc = SimpleNamespace(prctl=lambda *words: steps.append(words), syscall=lambda *words: steps.append(words) or 1)
     monkeypatch.setattr(store_user.ctypes, "CDLL", lambda *_, **__: libc)
     monkeypatch.setattr(store_user.os, "environ", {})
     monkeypatch.setattr(store_user.os, "geteuid", lambda: 0)
     monkeypatch.setattr(store_user.os, "uname", lambda: SimpleNamespace(machine="x86_64"))
     USER._become(os.getppid())
     # keyctl(2): 250 on x86-64, KEYCTL_JOIN_SESSION_KEYRING is 1, and without a name it is a new one.
-    # setuid(2) leaves the groups as they are, so root's go first.
-    assert steps == ["end_first", (250, 1, None), ["station", 4243], "setresgid", "setresuid"]
+    # setuid(2) leaves the groups as they are, so root's go first. It clears PR_SET_PDEATHSIG of prctl(2), which is 1.
+    last = [(38, 1, 0, 0, 0), (4, 0, 0, 0, 0), (1, 9, 0, 0, 0)]
+    assert steps == ["end_first", (250, 1, None), ["station", 4243], "setresgid", "setresuid", *last]
     libc.prctl = lambda what, *_: what == 38  # PR_SET_NO_NEW_PRIVS: who may get rights again does nothing
     with pytest.raises(UserError, match="^prctl: "):
         USER._become(os.getppid())

@@ -76,8 +76,9 @@ def test_a_span_of_nothing_ends_now(span):
 
 @pytest.mark.parametrize("span", ["", "30", "m", "-1h", "1.5h", "8 h", "8H", "10000m", "1w", "8h\n"])
 def test_no_span(span):
-    with pytest.raises(TokenError, match="is no span"):
+    with pytest.raises(TokenError, match="is no span") as error:
         token.minute_after(span)
+    assert error.value.status == 1
 
 
 def state_of(tokens):

@@ -213,8 +213,17 @@ def test_a_known_seat(file, tmp_path, capsys, seat, inner, is_known):
     with pytest.raises(TokenError, match="is there already"):
         done(file, *text)
     for more in ([], ["--server", "127.0.0.1:882"]):
-        with pytest.raises(TokenError, match=f"is {customer}'s, and not zeta's"):
+        with pytest.raises(TokenError, match=f"is {customer}'s, and not zeta's") as error:
             done(file, "seat", seat, "--customer", "zeta", *more)
+        assert error.value.status == 1
+
+
+def test_what_could_not_be_printed(file, monkeypatch):
+    with contextlib.suppress(OSError), open("/dev/full", "w") as full:
+        monkeypatch.setattr(sys, "stdout", full)
+        with pytest.raises(TokenError, match="is changed, and what it came to wasn't printed") as error:
+            done(file, "seat", "a1", "--customer", "acme")
+    assert error.value.status == 7 and "a1" in read(file)
 
 
 @pytest.mark.parametrize("text", ["", "a b", 'a"b', "a$b", "a\\b", "é", "a\nb"])

@@ -56,12 +56,14 @@ def test_whoever_gets_a_file_reads_its_digest(tmp_path):
     assert (made.read_text(), mode_of(made)) == (f"{abc}  list.csv\n", 0o644)
 
 
-def test_a_link_that_comes_meanwhile_is_not_overwritten(tmp_path, monkeypatch):
+def test_what_comes_meanwhile_is_not_overwritten(tmp_path, monkeypatch):
+    """A link isn't followed, and nobody waits for who reads a pipe."""
     folder, other = tmp_path / "folder", tmp_path / "other"
     folder.mkdir()
-    for path in (folder / "file", other):
+    for path in (folder / "link", folder / "pipe", other):
         path.write_text("kept\n")
-    monkeypatch.setattr(os, "chmod", lambda path, _: (os.unlink(path), os.symlink(other, path)))
+    came = {"link": lambda path: os.symlink(other, path), "pipe": os.mkfifo}
+    monkeypatch.setattr(os, "chmod", lambda path, _: (os.unlink(path), came[os.path.basename(path)](path)))
     removed_folder(folder)
     assert other.read_text() == "kept\n" and not folder.exists()
 

@@ -272,7 +272,7 @@ def replaced(file: Path, mode: int, is_exact: bool = False, like: os.stat_result
 @contextlib.contextmanager
 def _made(file: str | os.PathLike[str], mode: int) -> Iterator[IO[bytes]]:
     """A file that wasn't there, which is synced once all is written."""
-    with open(os.open(file, os.O_WRONLY | os.O_CREAT | os.O_EXCL | NOFOLLOW, mode), "wb") as out:
+    with open(os.open(file, os.O_WRONLY | os.O_CREAT | os.O_EXCL, mode), "wb") as out:
         yield out
         out.flush()
         os.fsync(out.fileno())

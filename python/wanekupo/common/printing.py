@@ -18,7 +18,7 @@ def say_json(data: Any) -> None:
 def warn(*sentences: str) -> None:
     """Tells sentences on standard error."""
     for sentence in sentences:
-        print(shown(sentence), file=sys.stderr, flush=True)
+        print(shown(sentence), file=sys.stderr)
 
 
 def table_lines(names: Sequence[str], rows: Iterable[Sequence[Any]], as_json: bool) -> str:

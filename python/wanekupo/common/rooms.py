@@ -16,7 +16,7 @@ ROOMS, ROOM, BESIDE = Path("/var/tmp"), "wanekupo-room.", 1 << 20
 
 def _left_rooms(rooms: Path) -> Iterator[Path]:
     """Rooms that this user made and no run holds. Each is held meanwhile."""
-    for path in sorted(rooms.glob(f"{ROOM}*")):
+    for path in rooms.glob(f"{ROOM}*"):
         with contextlib.suppress(OSError):
             handle = os.open(path, os.O_RDONLY | os.O_DIRECTORY | os.O_NOFOLLOW)
             try:

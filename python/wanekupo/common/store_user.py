@@ -425,8 +425,7 @@ def _parts(pipes: Sequence[int], child: int, end: float = math.inf) -> Iterator[
 
 def _gathered(child: "subprocess.Popen[bytes]", most: int, end: float) -> list[bytes]:
     """What a process prints on its two pipes."""
-    assert child.stdout and child.stderr
-    pipes = [child.stdout.fileno(), child.stderr.fileno()]
+    pipes = [it.fileno() for it in (child.stdout, child.stderr) if it]
     found = {it: bytearray() for it in pipes}
     for pipe, data in _parts(pipes, child.pid, end):
         found[pipe] += data

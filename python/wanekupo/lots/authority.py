@@ -272,7 +272,7 @@ class Authority:
         if not index.exists() and (self.folder / "index.txt.old").exists():
             replace_bytes(index, (self.folder / "index.txt.old").read_bytes(), READABLE)
         known = {row[NUMBER] for row in self._rows()}
-        for file in sorted((self.folder / "newcerts").glob("*.pem")):
+        for file in (self.folder / "newcerts").glob("*.pem"):
             if file.stem not in known:
                 self._add(file)
         for row in self._rows():

@@ -142,7 +142,7 @@ def trial(args: argparse.Namespace, store: StoreFolder, backup: Backup | None, n
         begun = time.monotonic()
         done = store.user.run(*words)
         if done.returncode:
-            print(shown(done.stderr).strip(), file=sys.stderr, flush=True)
+            print(shown(done.stderr).strip(), file=sys.stderr)
             told = "Look at that first: the store may not start either"
             raise NoRestartError(f"no restart: {what} doesn't start. {told}")
         return time.monotonic() - begun
@@ -159,7 +159,7 @@ def seconds_away(args: argparse.Namespace, store: StoreFolder, metrics: Metrics)
             took = trial(args, store, backup, needed)
             by = f"by a start of {f'the copy in {backup.path}' if backup else 'a copy of the store as it is now'}"
         except UserError as error:
-            print(f"restart: no start is tried: {error}", file=sys.stderr, flush=True)
+            print(f"restart: no start is tried: {error}", file=sys.stderr)
     return 2 * min(round(took), LONGEST) + 3, by
 
 

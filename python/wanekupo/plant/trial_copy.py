@@ -81,5 +81,5 @@ def copy_running(db: Path, backups: Path, snapshot: str, made: Path) -> Path:
     if done.returncode:
         raise NoCopyError((said or ["it said nothing"])[-1])
     for line in said:
-        print(f"backup: {line}", file=sys.stderr, flush=True)
+        print(f"backup: {line}", file=sys.stderr)
     return made / FILES[0]

@@ -69,7 +69,7 @@ from wanekupo.common.files import opened_shared_lock
 
 def warn_backup(*lines: str) -> None:
     for line in lines:
-        print(shown(f"backup: {line}"), file=sys.stderr, flush=True)
+        print(shown(f"backup: {line}"), file=sys.stderr)
 
 
 def out(*lines: str) -> None:
