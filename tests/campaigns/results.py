@@ -15,8 +15,8 @@ from common.needs import ROOT
 FILE = ROOT / "docs/proof/tried.json"
 PAGE, SHOWN = FILE.with_suffix(".md"), "docs/proof/tried.md"
 PASSED, FAILED, NOT_RUN = "passed", "failed", "not run"
-LONGEST = 400  # characters of what was said, in a row
-GOAL, NUMBER = re.compile(r".*, (?:met|missed)$"), re.compile(r"(?<![\w.,:-])\d{4,}(?![\w:-])")
+LONGEST = 400  # characters of what was said, in a row; a measure's ratios are told whole
+GOAL, NUMBER = re.compile(r".*, (?:met|missed|no goal)$"), re.compile(r"(?<![\w.,:-])\d{4,}(?![\w:-])")
 HEAD = """# What was tried, and when
 
 `tests/campaign` writes this page of [tried.json](tried.json), and
@@ -63,13 +63,15 @@ def why_old(result: Result, group: Group | None, files: Mapping[str, str]) -> st
 
 
 def told(result: Result) -> str:
-    """What failed, a measure's goals, or what was said; of much, the counts and its end."""
+    """What failed, a measure's goals and other ratios, or what was said; of much, the counts and its end."""
     is_failed, counts = result.status == FAILED, ", ".join(f"{it} {name}" for name, it in result.counts.items())
     goals = dict.fromkeys(line.strip() for line in result.said if GOAL.fullmatch(line))
-    said = [*goals] if goals and (not is_failed or GOAL.fullmatch(result.said[0])) else result.said
+    is_measure = bool(goals) and (not is_failed or bool(GOAL.fullmatch(result.said[0])))
+    said, longest = ([*goals], None) if is_measure else (result.said, LONGEST)
     text = f"{'FAILED: ' * is_failed}{'; '.join(said) or counts}"
-    text = f"{counts or f'{len(said)} lines'}; the last: {said[-1]}" if len(text) > LONGEST and not is_failed else text
-    return NUMBER.sub(lambda number: f"{int(number[0]):,}", text[:LONGEST])
+    if longest and len(text) > longest and not is_failed:
+        text = f"{counts or f'{len(said)} lines'}; the last: {said[-1]}"
+    return NUMBER.sub(lambda number: f"{int(number[0]):,}", text[:longest])
 
 
 def row_of(result: Result) -> str:

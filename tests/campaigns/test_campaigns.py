@@ -141,6 +141,16 @@ def test_a_failure(tree: Tree) -> None:
     assert re.search(failures, tree.page.read_text("utf-8"))
 
 
+def test_ratios(tree: Tree) -> None:
+    """A measure's row has its goals and its ratios without one, whole, with their spread, and nothing else it said."""
+    ends = ("at least 1.1: 1.207 (0.910-1.420 of 9), met", "4.004 (3.997-4.012 of 9), no goal")
+    lines = [f"the program to peer {it}, requests a second, {ends[it % 2]}" for it in range(12)]
+    said = "".join(f"echo '{it}'; " for it in ["a table", *lines, "12000 requests"])
+    tree.put("tests/first", f"#!/bin/sh\n{said}\n")
+    assert tree.ran("--only", "first")[0] == 0
+    assert f"| {'; '.join(lines)} |" in tree.page.read_text("utf-8")
+
+
 def is_gone(name: str) -> bool:
     """Whether no process runs this file any more."""
     done = subprocess.run(["grep", "-slF", name, *Path("/proc").glob("[0-9]*/cmdline")], capture_output=True, text=True)

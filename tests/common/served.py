@@ -61,13 +61,22 @@ class Server:
         return self
 
     def used(self):
-        """The seconds of a processor that its processes took until now."""
-        ticks = 0
+        """The seconds of a processor that its processes took until now, with those that they have outside the group."""
+        found = {}
         for path in glob.glob("/proc/[0-9]*/stat"):
             with contextlib.suppress(OSError):
                 fields = Path(path).read_text(encoding="utf-8", errors="replace").rpartition(")")[2].split()
-                ticks += int(fields[11]) + int(fields[12]) if int(fields[2]) == self.process.pid else 0
-        return ticks / TICKS
+                found[path.split("/")[2]] = fields
+        own = {it for it, fields in found.items() if fields[2] == str(self.process.pid)}
+        ticks = (int(it[11]) + int(it[12]) for pid, it in found.items() if pid in own or it[1] in own)
+        return sum(ticks) / TICKS
+
+    def end(self, seconds=60):
+        """Asks it to end, and kills what is there behind so many seconds."""
+        self.process.terminate()
+        with contextlib.suppress(subprocess.TimeoutExpired):
+            self.process.wait(seconds)
+        self.kill()
 
     def kill(self):
         try:
