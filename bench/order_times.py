@@ -9,6 +9,7 @@ from common.registrations import MAP, request
 
 ADDRESSES = {"without": 0, "with": 1}
 TIMES = 5
+REPORT = b"GET /v1/report HTTP/1.1\r\nAuthorization: Bearer abc\r\n\r\n"
 SHOWN = b"GET /v1/order?name=o000 HTTP/1.1\r\nAuthorization: Bearer abc\r\n\r\n"
 
 
@@ -26,6 +27,13 @@ def beside(count, macs):
     seat = Beside()
     before = [seat.small(number, macs) for number in range(1, count + 1)]
     return before, [seat.small(number, macs) for number in range(count + 1, count + 1 + TIMES)]
+
+
+def imports(count):
+    """The requests that make so many orders and have them counted, and some imports whose numbers look like theirs."""
+    seat = Beside()
+    before = [*(seat.small(number, 0) for number in range(1, count + 1)), REPORT]
+    return before, [seat.import_of(first).replace(b"L0", b"S0") for first in range(100001, 100001 + ROWS * TIMES, ROWS)]
 
 
 def behind():

@@ -5,6 +5,7 @@ import resource
 import sqlite3
 import subprocess
 import time
+from collections import Counter
 
 from common.lives import LARGEST_ORDER, STEPS, name_of, requests
 from common.program import Failed, Program
@@ -26,6 +27,11 @@ def rows_of(base, table, order):
     return [list(row) for row in base.execute(f"SELECT * FROM {table} ORDER BY {order}")]
 
 
+def note_of(entry, serial):
+    """What an entry of another device notes where it has this serial number."""
+    return serial if entry[4] == "identified" else entry[5]
+
+
 def copies(base, size):
     """The rows of the lives from the pattern's end to this one, a tuple of a device's rows for each."""
     macs = dict(base.execute("SELECT name, mac FROM orders"))
@@ -39,7 +45,7 @@ def copies(base, size):
         issuer, _, owner, _, _, _, end = given[place]
         record = (issuer, serial, owner, key, chip, address_after(macs[order], (number - 1) % LARGEST_ORDER), end)
         entries = [
-            (STEPS * (number - 1) + step, row[1], chip, *row[3:])
+            (STEPS * (number - 1) + step, row[1], chip, *row[3:5], note_of(row, serial), *row[6:])
             for step, row in enumerate(ledger[STEPS * place : STEPS * (place + 1)], 1)
         ]
         yield device, record, (issuer, serial, starts[place][2]), entries
@@ -47,19 +53,22 @@ def copies(base, size):
 
 def copy_lives(path, size):
     """Adds the lives behind the pattern, in parts of an order's length."""
-    base, count = sqlite3.connect(path, isolation_level=None), 0
+    base, count, asked = sqlite3.connect(path, isolation_level=None), 0, Counter()
+    base.execute("PRAGMA synchronous = OFF")
+    base.execute("PRAGMA cache_size = -400000")
     base.execute("BEGIN IMMEDIATE")
     for device, record, start, entries in copies(base, size):
         base.execute("INSERT INTO device VALUES (?,?,?,?,?,?,?,?,?,?)", device)
         base.executemany("INSERT INTO ledger VALUES (?,?,?,?,?,?,?,?,?)", entries)
         base.execute("INSERT INTO given VALUES (?,?,?,?,?,?,?)", record)
         base.execute("INSERT INTO given_start VALUES (?,?,?)", start)
+        asked.update(entry[6] for entry in entries)
         count += 1
         if count % LARGEST_ORDER == 0:
             base.execute("COMMIT")
             base.execute("BEGIN IMMEDIATE")
     base.execute("UPDATE orders SET cursor = min(first + quantity, ?)", (size + 1,))
-    base.execute("UPDATE seat SET last = last + ?", (STEPS * (size - PATTERN),))
+    base.executemany("UPDATE seat SET last = last + ? WHERE name = ?", [(more, seat) for seat, more in asked.items()])
     base.execute("COMMIT")
     base.close()
 

@@ -6,21 +6,21 @@ some seconds with each line. So all that is known of a shift is in the journals,
 
 import contextlib
 import hashlib
-import json
 import shutil
 import time
 from dataclasses import dataclass, field
 from pathlib import Path
 
+from common.journals import lines_of, text_of
 from common.lives import SITE, Orders
 from common.needs import ROOT
 from common.program import Program, send
 from common.registrations import MAP as LARGE_MAP
 from common.served import HOST, Server, station
 from common.stores import parts_of
-from wanekupo.chips.chip import bit, key, redacted, rlock, wlock
+from wanekupo.chips.chip import bit, key, rlock, wlock
 from wanekupo.seat import journal as journals
-from wanekupo.seat.journal import Journal, request_digest
+from wanekupo.seat.journal import Journal
 from wanekupo.seat.import_rows import csv_of
 from wanekupo.seat.station import Station
 
@@ -54,9 +54,12 @@ class Clock:
     def __init__(self, start, step):
         self.now, self.step = start, step
 
-    def gmtime(self):
+    def passed(self):
         self.now += self.step
-        return time.gmtime(self.now)
+        return self.now
+
+    def gmtime(self):
+        return time.gmtime(self.passed())
 
     strftime = staticmethod(time.strftime)
 
@@ -221,12 +224,5 @@ def large(program, folder, devices, seconds=1200):
 
 def _send(running, asked, out, clock):
     """Has requests served, and writes the lines of a journal for them."""
-    _, bodies = send(running, asked)
-    for request, body in zip(asked, bodies):
-        head, _, members = request.partition(b"\r\n\r\n")
-        path, told = head.split(b" ")[1].decode(), redacted(json.loads(members))
-        own = {"seat": "a1", "at": time.strftime("%Y-%m-%dT%H:%M:%SZ", clock.gmtime())}
-        lines = [{**own, "asked": told, "path": path, "digest": request_digest(path, told)}]
-        lines.append({**own, "nr": told["nr"], "status": 200, "reply": json.loads(body)})
-        for line in lines:
-            out.write(json.dumps(line, sort_keys=True, separators=(",", ":")) + "\n")
+    for request, body in zip(asked, send(running, asked)[1]):
+        out.write(text_of(lines_of("a1", clock.passed(), request, body)))

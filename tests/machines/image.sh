@@ -153,7 +153,7 @@ kubectl() {
     case "$*" in
         'apply -f '*) played "$3" ;;
         'scale statefulset wanekupo --replicas=1') played wanekupo.yaml ;;
-        'scale statefulset wanekupo --replicas=0' | 'delete pod wanekupo-0') unplayed wanekupo-0 900 ;;
+        'scale statefulset wanekupo --replicas=0' | 'delete pod wanekupo-0') unplayed wanekupo-0 3600 ;;
         'delete pod wanekupo-make') unplayed wanekupo-make 1 ;;
         wait*pod/wanekupo-make) until_it podman exec wanekupo-make-books test -O . ;;
         wait*pod/wanekupo-0) until_it probed ;;

@@ -260,12 +260,11 @@ def test_commands_of_the_half(asked):
     own.mount("/dev/x", "/where")
     own.unmount()
     own.disk()
-    own.command("start", 900)
+    own.command("start", half.SERVER_SECONDS)
     assert asked == [["mount", "-t", "xfs", "-o", "nodev,nosuid,noexec", "/dev/drbd9", "/f"],
                      ["mount", "-t", "xfs", "-o", "nodev,nosuid,noexec", "/dev/x", "/where"], ["umount", "/f"],
                      ["drbdadm", "sh-ll-dev", "r"], ["start", "a b"]]  # fmt: skip
-    assert asked.more["timeout"] == 900
-    assert f"\nTimeoutStopSec={half.SERVER_SECONDS / 60:g}min\n" in (TOP / "deploy/station.service").read_text()
+    assert asked.more["timeout"] == half.SERVER_SECONDS == 3600
     asked.status = 1
     for call in (own.mount, own.unmount, own.disk, lambda: own.command("start")):
         with pytest.raises(StandbyError):

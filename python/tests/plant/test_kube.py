@@ -10,6 +10,7 @@ from typing import Any
 
 import pytest
 from conftest import DEPLOY
+from wanekupo.common.store_user import LONGEST
 
 yaml = pytest.importorskip("yaml", reason="there is no yaml (Debian: python3-yaml)")
 
@@ -76,7 +77,7 @@ def test_stops_and_probes() -> None:
     """A stop has the time that script and unit give it; a probe waits longer than `health`, and ends nothing."""
     seconds = POD["terminationGracePeriodSeconds"]
     assert re.findall(r"--stop-timeout (\d+)", SCRIPT) == [str(seconds)]
-    assert f"TimeoutStopSec={seconds // 60}min\n" in (DEPLOY / "station.service").read_text("utf-8")
+    assert "TimeoutStopSec=infinity\n" in (DEPLOY / "station.service").read_text("utf-8") and seconds == LONGEST
     (patience,) = re.findall(r"^PATIENCE = (.*)$", (DEPLOY / "image/health").read_text("utf-8"), re.MULTILINE)
     for it in POD["containers"]:
         assert it["readinessProbe"]["timeoutSeconds"] > float(patience)

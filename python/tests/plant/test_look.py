@@ -180,7 +180,7 @@ def test_a_command_of_the_stores_user(monkeypatch, own, status):
     user = FakeUser()
     monkeypatch.setattr(look, "user_named", lambda name: {"station": user}[name])
     assert look.as_user(own, ["/bin/P", "x"], Path("/shown")) == "seat a1 17\n"
-    assert user.calls == [(("/bin/P", "x"), "/shown", look.SECONDS)]
+    assert user.calls == [(("/bin/P", "x"), "/shown", look.LONGEST)]
     user.status = status
     with pytest.raises(StandbyError, match=f"^P ended with status {status} over this machine's half: a; b\\. "):
         look.as_user(own, ["/bin/P", "x"], Path("/shown"))

@@ -1,9 +1,12 @@
 """What asks for a restart, by metrics that the store's user may have written."""
 
+import re
 from argparse import Namespace
 
 import pytest
+from conftest import DEPLOY
 from scripts import script
+from wanekupo.common.store_user import LONGEST
 
 restart = script("restart")
 
@@ -59,3 +62,10 @@ REASONS = [
 def test_reasons(found: object, log: int, wanted: list[str]) -> None:
     args = Namespace(connections=200_000, log=64, memory=50)
     assert restart.reasons_of(args, found, log) == wanted
+
+
+def test_the_units_time() -> None:
+    """The unit ends no run that takes what it may: a copy, a trial start, a join, and the wait for a start behind."""
+    text = (DEPLOY / "station-restart.service").read_text(encoding="utf-8")
+    told = 2 * LONGEST + 3
+    assert 3600 * int(re.findall(r"^TimeoutStartSec=(\d+)h$", text, re.MULTILINE)[0]) > 3 * LONGEST + 3 * told + 60

@@ -237,7 +237,7 @@ def test_stepdown(monkeypatch, now, is_alone, is_there):
     own = FakeHalf(now, is_there=is_there)
     assert step_down(monkeypatch, own, is_alone) == 0
     unmounted = ["is_mounted", *(["unmount"] if is_there else [])]
-    assert own.calls[:-1] == ["leave_address", ("stop", 900), *unmounted, "drbdadm secondary station"]
+    assert own.calls[:-1] == ["leave_address", ("stop", half.SERVER_SECONDS), *unmounted, "drbdadm secondary station"]
 
 
 def test_stepdown_stops_at_what_it_cannot_do(monkeypatch):

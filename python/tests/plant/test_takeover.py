@@ -230,10 +230,10 @@ def test_served(put_in, is_there):
     """The volume, then the server, then the address: nobody asks for the store before it is there."""
     own = put_in(FakeHalf(BOTH, is_there=is_there))
     assert takeover.serve_here(own) == 0
-    assert own.calls == [*([] if is_there else ["mount"]), ("start", 900), ("take_address", 60), "here", "leave"]
+    assert own.calls == SERVED[is_there:]
 
 
-SERVED = ["mount", ("start", 900), ("take_address", 60), "here", "leave"]
+SERVED = ["mount", ("start", half.SERVER_SECONDS), ("take_address", 60), "here", "leave"]
 
 
 def test_behind_a_stepdown(put_in):

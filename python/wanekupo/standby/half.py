@@ -22,7 +22,7 @@ from typing import TextIO
 
 from wanekupo.common.acts import run_noted
 from wanekupo.common.errors import PlantError
-from wanekupo.common.store_user import UserError, shown
+from wanekupo.common.store_user import LONGEST, UserError, shown
 from wanekupo.common.store_words import clean_words
 from wanekupo.common.files import hold_lock, replace_file
 from wanekupo.common.process import run_command
@@ -31,7 +31,7 @@ SETTINGS = Path("/etc/station/standby.toml")
 # What this machine says of itself until it is switched off. Nobody but root writes there.
 RUN = Path("/run/station-standby")
 # How long a command of a plant's may take, and one that starts or stops the server.
-COMMAND_SECONDS, SERVER_SECONDS = 60, 900
+COMMAND_SECONDS, SERVER_SECONDS = 60, LONGEST
 # How long a word counts that nobody has heard, and how long a witness may take to be gathered behind the word.
 WORD_SECONDS = 120
 GATHERED = timedelta(hours=2)

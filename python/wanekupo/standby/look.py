@@ -18,14 +18,13 @@ from pathlib import Path
 from wanekupo.common.errors import PAGES
 from wanekupo.standby import living
 from wanekupo.standby.half import Half, StandbyError, done, run_bounded
-from wanekupo.common.store_user import SQLITE, StoreFolder, user_named
+from wanekupo.common.store_user import LONGEST, SQLITE, StoreFolder, user_named
 from wanekupo.common.site_file import SiteFileError, read_site_file
 
 # A seat and its last number, in a line of a witness, and of what sqlite3 reads of a half.
 SEAT = re.compile(r"seat ([A-Za-z0-9._-]{1,32}) ([0-9]{1,16})")
 # The device of a look, its folder, and the file there that has the changed blocks.
 NAME, FOLDER, CHANGES = "station-look", "station-look-", "changes"
-SECONDS = 900
 SEATS = "SELECT 'seat ' || name || ' ' || last FROM seat ORDER BY name"
 
 
@@ -95,7 +94,7 @@ def mounted(half: Half) -> Iterator[Path]:
 
 def as_user(half: Half, words: list[str], folder: Path) -> str:
     """A command of the store's user: what a file may bring a program to do would be done as that user."""
-    ended = user_named(half.settings.user).run(*words, cwd=folder, seconds=SECONDS)
+    ended = user_named(half.settings.user).run(*words, cwd=folder, seconds=LONGEST)
     if ended.returncode:
         said = (ended.stderr or ended.stdout).strip().replace("\n", "; ")
         name, told = Path(words[0]).name, "Look that fault up; the site file has to be the newest one."

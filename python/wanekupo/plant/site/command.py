@@ -43,7 +43,7 @@ from wanekupo.plant.site.successor import successor
 from wanekupo.plant.site.trials import checked, is_map, tested_growth, tested_others, tried_over_copy
 from wanekupo.common.rooms import ROOMS
 from wanekupo.common.signing import add_signer
-from wanekupo.common.store_user import STOPS
+from wanekupo.common.store_user import LONGEST, STOPS
 from wanekupo.common.files import sync
 from wanekupo.common.token_file import HEALTH, NAME, TokenError, alone, check_folder, put, tokens_text
 from wanekupo.common.site_file import SiteCustomer, digest_of, read_site
@@ -296,7 +296,7 @@ def place_words(made: argparse.ArgumentParser) -> None:
     made.add_argument("--port", type=int, default=880, help="the server's (%(default)s)")
     made.add_argument("--nginx", default="https://127.0.0.1:8443", metavar="URL", help="(%(default)s); '' for none")
     made.add_argument("--certificate", default="/etc/station/cert.pem", metavar="FILE", help="nginx's (%(default)s)")
-    made.add_argument("--wait", type=float, default=900, metavar="SECONDS", help="for a start (%(default)s)")
+    made.add_argument("--wait", type=float, default=LONGEST, metavar="SECONDS", help="for a start (%(default)s)")
     made.add_argument("--patience", type=float, default=30, metavar="SECONDS", help="for another run (%(default)s)")
 
 
