@@ -5,6 +5,7 @@ second."""
 
 import hashlib
 import json
+import os
 from pathlib import Path
 
 import pytest
@@ -153,14 +154,17 @@ def test_own_rows(made, served, capsys, tmp_path):
 
 @pytest.mark.sizes(200, 400_000)
 def test_large(program, tmp_path, size, found):
-    """One device of a large store and of its rows: a second, and 100 MB; and a number that is found."""
+    """One device of a large store and of its rows: a second, and 100 MB; and a number that is found. A short run shares
+    its processors with others, so there a second of a processor counts."""
     replay, store = command_of(str(program), tmp_path, "books.db")
     run_lives(replay, 7200, size, "with")
     (tmp_path / "seals").mkdir()
     assert run("seal", tmp_path / "seals", "--store", store)[0] == 0
     for file in (Path(store), tmp_path / "seals/000001.rows"):
         for words in (["device", f"{size:012x}"], ["ledger", "000000000001"], ["find", f"L{size:09}"]):
-            runs = (measured("look", file, *words, "--customer", "acme") for _ in range(3))
-            status, text, seconds, megabytes = min(runs, key=lambda it: it[2])  # others take the processor too
+            before = os.times()
+            status, text, seconds, megabytes = measured("look", file, *words, "--customer", "acme")
+            used = sum(os.times()[2:4]) - sum(before[2:4])
             found(f"look {words[0]} of {size} in {file.suffix}: {seconds:.2f} s, {megabytes:.0f} MB")
-            assert status == 0 and (seconds < 1 or words[0] == "find") and megabytes < 100, text
+            is_quick = (seconds if size > 200 else used) < 1
+            assert status == 0 and (is_quick or words[0] == "find") and megabytes < 100, text
