@@ -1,8 +1,10 @@
 """Folders in which nobody else puts a file or another folder, and bytes that are signed where nobody replaces them."""
 
+import contextlib
 import os
 import subprocess
 from pathlib import Path
+from types import SimpleNamespace
 
 import pytest
 
@@ -53,6 +55,16 @@ def test_folder_of_another_user_above(tmp_path: Path, monkeypatch: pytest.Monkey
     monkeypatch.setattr(os, "stat", lambda it, **words: other if Path(it) == own.parent else stat(it, **words))
     with pytest.raises(UnsafeFile, match="others can write"):
         files.tested_folder(own)
+
+
+@pytest.mark.parametrize("own, above, is_read", [(0o755, 0o1777, True), (0o755, 0o777, False), (0o1777, 0o755, False)])
+def test_folder_that_root_reads(monkeypatch: pytest.MonkeyPatch, own: int, above: int, is_read: bool) -> None:
+    """A sticky folder keeps another user from putting one in the place of root's, and not from adding files."""
+    modes = {Path("/above"): above, Path("/above/own"): own}
+    monkeypatch.setattr(files.os, "geteuid", lambda: 0)
+    monkeypatch.setattr(files.os, "lstat", lambda it: SimpleNamespace(st_uid=0, st_mode=modes.get(Path(it), 0o755)))
+    with contextlib.nullcontext() if is_read else pytest.raises(UnsafeFile, match="others than root write /above"):
+        files.tested_reading(Path("/above/own"))
 
 
 @pytest.mark.parametrize("name", ["ca.cnf", "ca.pem"])

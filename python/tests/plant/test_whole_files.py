@@ -37,6 +37,10 @@ def test_a_text_comes_in_a_files_place(tmp_path):
         assert path.read_text() == text and mode_of(path) == 0o600
     replace_file(path, "three\n", like=like.stat())
     assert path.read_text() == "three\n" and mode_of(path) == 0o640
+    before = os.umask(0o077)
+    replace_file(path, "four\n", 0o644)
+    os.umask(before)
+    assert mode_of(path) == 0o644
     assert sorted(it.name for it in tmp_path.iterdir()) == ["file", "like"]
 
 

@@ -258,7 +258,7 @@ def replaced(file: Path, mode: int, is_exact: bool = False, like: os.stat_result
         with _made(new, mode) as out:
             if IS_POSIX and like:
                 os.fchown(out.fileno(), like.st_uid, like.st_gid)
-            if IS_POSIX and (is_exact or like):
+            if IS_POSIX and is_exact:
                 os.fchmod(out.fileno(), stat.S_IMODE(like.st_mode) if like else mode)
             yield out
         os.replace(new, file)
