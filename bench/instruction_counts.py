@@ -7,7 +7,9 @@ from collections import Counter
 from typing import NamedTuple
 
 from common.lives import SITE, requests
+from common.ports import free_port
 from common.program import Program, send
+from common.served import Server, station
 
 # A function's name without the types that it is made for.
 TYPES = re.compile(r"::<[#=<'].*$|::<.*>$")
@@ -104,3 +106,18 @@ def start_counted(args, folder):
     if args.out:
         shutil.copy(kept, f"{args.out}.start")
     return counts
+
+
+def served_counted(program, args, folder):
+    """The instructions of a start of `serve` over the store of a folder that `start_counted` made, until its port is
+    listened on; it ends behind its one connection."""
+    port, kept = free_port(), os.path.join(folder, "served")
+    site, path = os.path.join(folder, "site.toml"), os.path.join(folder, "starts.db")
+    words = station(os.path.abspath(program), site, path, port)
+    counted = ["valgrind", "-q", "--tool=callgrind", f"--callgrind-out-file={kept}", *words[:-1], "1"]
+    server = Server(counted, port)
+    try:
+        server.wait(Server.is_listening, args.seconds).process.wait(args.seconds)
+    finally:
+        server.kill()
+    return counts_in(kept).total
