@@ -106,16 +106,15 @@ def folder(made, tmp_path):
     return shutil.copytree(made, tmp_path / "copy")
 
 
-def audited(folder, program, *more):
-    words = [folder / "books.db", folder / "acme", folder / "bolt", *ALWAYS, "--csv", folder / "found.csv", *more]
+def audited(folder, program):
+    words = [folder / "books.db", folder / "acme", folder / "bolt", *ALWAYS, "--csv", folder / "found.csv"]
     status, text = run("audit", *words, "--program", program)
     rows = [it for it in (folder / "found.csv").read_text().splitlines() if it.startswith("replay,")]
     return status, text, rows
 
 
-@pytest.mark.parametrize("more", [[], ["--disk"]])
-def test_an_honest_plant(folder, program, more):
-    status, text, _ = audited(folder, program, *more)
+def test_an_honest_plant(folder, program):
+    status, text, _ = audited(folder, program)
     requests = sum("path" in json.loads(it) for file in folder.glob("*/*.journal") for it in file.open())
     assert status == 0, text
     assert f"The program answered {requests} lines of acme, bolt once more." in text

@@ -1,4 +1,4 @@
-"""A proved program that answers requests over a store in memory, or on the disk, which goes with it."""
+"""A proved program that answers requests over a store in memory, which goes with it."""
 
 import contextlib
 import os
@@ -40,16 +40,14 @@ def program_named(name: str) -> Path:
 
 
 class Program:
-    """The program as a child of this process, for some seconds. It has the words of a site in a folder, and its store
-    too where that is on the disk."""
+    """The program as a child of this process, for some seconds. It has the words of a site in a folder."""
 
-    def __init__(self, path: Path, site: str, folder: Path, seconds: float = LONGEST, is_on_disk: bool = False):
-        kept = ["--db", "books.db"] if is_on_disk else []
+    def __init__(self, path: Path, site: str, folder: Path, seconds: float = LONGEST):
         (folder / "site.toml").write_text(site, encoding="utf-8")
         try:
             self._child = subprocess.Popen(
-                [str(path), "replay", "--site", "site.toml", *kept], cwd=folder, env=dict[str, str](),
-                start_new_session=True, stdin=subprocess.PIPE, stdout=subprocess.PIPE, stderr=subprocess.PIPE,
+                [str(path), "replay", "--site", "site.toml"], cwd=folder, env=dict[str, str](), start_new_session=True,
+                stdin=subprocess.PIPE, stdout=subprocess.PIPE, stderr=subprocess.PIPE,
             )  # fmt: skip
         except OSError as error:
             raise Unanswered(f"{path} can't be run: {error.strerror}") from error

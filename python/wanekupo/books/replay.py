@@ -46,15 +46,13 @@ LATER, COUNTED = "not_before", ("added", "present", "next")
 UNKNOWN, TOO_LARGE = (404, '{"error":"unknown_path","no":7}'), (413, '{"error":"too_large","no":3}')
 
 
-def ask_again(program: Path, books: Iterable[Book], store: Books, audit: Audit, is_on_disk: bool = False) -> None:
-    """Has a program answer the lines of all journals, and holds it to the store. What was found stays where it ends.
-    The program's own books may be on the disk, which has as large files, in /var/tmp."""
+def ask_again(program: Path, books: Iterable[Book], store: Books, audit: Audit) -> None:
+    """Has a program answer the lines of all journals, and holds it to the store. What was found stays where it ends."""
     journals = [seated(it, store) for it in books]
     lines, count = lines_by_seat(journals), sum(len(it.book.steps) for it in journals)
-    with tempfile.TemporaryDirectory(prefix="wanekupo-replay.", dir="/var/tmp" if is_on_disk else None) as folder:
+    with tempfile.TemporaryDirectory(prefix="wanekupo-replay.") as folder:
         try:
-            seconds = LONGEST + FOR_A_LINE * count
-            with Program(program, _site(store), Path(folder), seconds, is_on_disk) as running:
+            with Program(program, _site(store), Path(folder), LONGEST + FOR_A_LINE * count) as running:
                 for customer in sorted(store.customers()):
                     _ask_customer(customer, store, lines, running, audit)
         except Unanswered as error:

@@ -45,8 +45,6 @@ def _add_arguments(parser: argparse.ArgumentParser) -> None:
     parser.add_argument("--json", action="store_true", help=said)
     told = "the proved program that answers the lines once more, by its path where PATH doesn't have it (%(default)s)"
     parser.add_argument("--program", default="station", metavar="P", help=told)
-    told = "have the program keep its books in /var/tmp: a third of the memory, and a sync for each line"
-    parser.add_argument("--disk", action="store_true", help=told)
     said = "how many GB the journals may be, with 0.7 KB more for each line (%(default)s); a seat's are in memory"
     parser.add_argument("--memory", type=int, default=MEMORY >> 30, metavar="GB", help=said)
     add_signer(parser)
@@ -97,7 +95,7 @@ def _audit(_: Settings, args: argparse.Namespace) -> int:
         site = digest_of_file(args.site) if args.site else ""
         audit = audit_of(books, journals, period, text_of(datetime.now(timezone.utc)), site)
         behind = _behind(books, journals, period) if audit.found else ""
-        ask_again(program, journals, books, audit, args.disk)
+        ask_again(program, journals, books, audit)
     found = found_table(audit)
     if args.html:
         page = write(Path(args.html), as_html(audit, _read(path, journals, program)))
