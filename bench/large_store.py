@@ -60,7 +60,7 @@ class Made(NamedTuple):
 
 def make(program, folder, size, seconds):
     """Has the program make the first lives in a folder, and SQLite the others."""
-    (folder / "site.toml").write_text(site_text(), encoding="ascii")
+    (folder / "site.toml").write_text(site_text(), encoding="utf-8")
     command = [program, "replay", "--site", str(folder / "site.toml"), "--db", str(folder / "books.db")]
     benches = [Bench(name) for name in SEATS]
     before = [benches[0].ask("/v1/map", text=MAP)]
@@ -109,7 +109,7 @@ def write_journals(folder, made, size):
     (folder / "journals").mkdir()
     with contextlib.ExitStack() as stack:
         names = [folder / f"journals/{name}.journal" for name in SEATS]
-        files = [stack.enter_context(open(name, "w", encoding="ascii")) for name in names]
+        files = [stack.enter_context(open(name, "w", encoding="utf-8")) for name in names]
         for asked, body in made.before:
             files[0].write(text_of(lines_of(SEATS[0], BEGUN, asked, body)))
         for device in range(1, size + 1):
