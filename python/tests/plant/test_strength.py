@@ -124,6 +124,7 @@ def top(tmp_path: Path) -> Path:
 def tried(top: Path, *words: str) -> subprocess.CompletedProcess[str]:
     """What the tool does with these words; one crate after another."""
     known = {**os.environ, "PATH": f"{top.parent}/bin:{os.environ['PATH']}", "XDG_CACHE_HOME": str(top.parent)}
+    known["TMPDIR"] = str(top.parent)
     words = (str(top / "tools/strength"), "--jobs", "1", *words)
     return subprocess.run(words, env=known, capture_output=True, text=True, timeout=60)
 
