@@ -5,17 +5,13 @@ use Rattle.office_tables.specs.declared.rows.Order.{Order}
 use Rattle.office_tables.specs.declared.rows.Device.{Device}
 pub use Rattle.yield_counts.specs.Counts.{columns, count_in, count_unused, devices_of, HasIssued, has_issued_in, serials_left, state_names}
 
+-- the numbers of an order among all devices of its customer: its quantity, its devices by column, and its serial numbers left
+abbrev pub yield_of : HasIssued → List Device → Order → List ℕ
+yield_of given devices o = o.range.quantity ∷ (map (count_in (devices_of o.name devices)) columns ++ serials_left given o ∷ [])
+
 -- the numbers of a line, in the order of their names
 abbrev pub Yield : Type 0
 Yield = List ℕ
-
--- the numbers of an order with these devices, of which so many serial numbers are left
-abbrev pub yield_with : Order → ℕ → List Device → Yield
-yield_with o left devices = o.range.quantity ∷ (map (count_in devices) columns ++ left ∷ [])
-
--- the numbers of an order, among all devices of its customer
-abbrev pub yield_of : HasIssued → List Device → Order → Yield
-yield_of given devices o = yield_with o (serials_left given o) (devices_of o.name devices)
 
 -- how many numbers a line has: the quantity, one a column, and how many are left
 abbrev pub number_count : ℕ

@@ -1,6 +1,6 @@
 -- The words of this crate, passed on from one place. Declares nothing.
 pub use Rattle.yield_report.specs.Counts.{columns, count_in, devices_of, HasIssued, has_issued_in, number_count, serials_left, state_names, sum_at, total}
-pub use Rattle.yield_report.specs.Counts.{Yield, yield_of, yield_with}
+pub use Rattle.yield_report.specs.Counts.{Yield, yield_of}
 pub use Rattle.yield_report.specs.Lines.{GathersOrder, head_of, line_of, line_with, whole_line}
 pub use Rattle.yield_report.specs.Reports.{customer_line_in, sorted_customers, sorted_names, IsOrderReport, IsSiteReport, order_report_in}
 pub use Rattle.yield_report.specs.Reports.{site_report_in}
