@@ -54,7 +54,7 @@ healthy() { for _ in $(seq 30); do pod health > "$room/healthy" 2> /dev/null && 
 are_shut() {
     for name in server nginx; do
         same "$name as root" "$(inside "$1-$name" id -u)" "$([ $name = server ] && echo 880 || echo 33)"
-        same "$name's capabilities" "$(inside "$1-$name" sed -n 's/^CapEff:[ \t]*//p' /proc/self/status)" 0000000000000000
+        same "$name's capabilities" "$(inside "$1-$name" sed -n 's/^CapBnd:[ \t]*//p' /proc/self/status)" 0000000000000000
         ! inside "$1-$name" touch /usr/bin/x || { echo "image: $name writes its own files" >&2; exit 1; }
     done
     ! inside "$1-server" cat /etc/station/key.pem || { echo 'image: the server reads the key' >&2; exit 1; }
@@ -169,7 +169,9 @@ mkdir "$books/lost+found" "$etc/lost+found"
 same 'whose the volumes are' "$(stat -c %U:%a "$books" "$etc" | xargs)" 'root:755 root:755'
 cp "$site" "$room/site.toml"
 sed -n 's/^#   //p' "$top/deploy/kube/wanekupo.yaml" > "$room/steps"
-(umask 077 && printf 'header = "Authorization: Bearer %s"\n' "$(cd "$room" && eval "$(cat steps)" | tail -n 1)" > "$room/a1.curl")
+stepped() { while read -r line <&3; do eval "$line" || { echo "image: $line" >&2; return 1; }; done 3< steps; }
+text=$(cd "$room" && stepped | tail -n 1)
+(umask 077 && printf 'header = "Authorization: Bearer %s"\n' "$text" > "$room/a1.curl")
 are_shut wanekupo-0
 same 'the bound of the file' "$(inside wanekupo-0-server awk '/^Max file size/ {print $4}' /proc/1/limits)" $(((4 << 30) / 3 / 512 * 512))
 from_outside() {
