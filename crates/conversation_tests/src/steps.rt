@@ -1,9 +1,10 @@
 //! What few steps leave of a store.
 ghost use Rattle.std.specs.Prelude.{◌≤◌};
 
+use crate::conversations::plans;
 use std::alloc::Global;
 use std::test::Fail;
-use test_fixtures::conversations::plans::{A_BIT_AND_ITS_LOCK, PLANS};
+use test_fixtures::conversations::plans::A_BIT_AND_ITS_LOCK;
 use test_fixtures::conversations::{exchanges, is_unanswered};
 use test_fixtures::samples::SITE;
 use test_support::conversation::{difference_over, first_difference};
@@ -69,7 +70,7 @@ fn first_difference_in_one_step<K: Limited>(alloc: Global) -> Result<String, Fai
 
 /// Holds the conversations about plans in few steps, and asks for a ledger in one: what differs first.
 fn first_difference_of_steps<K: Limited>(alloc: Global) -> Result<String, Fail> {
-    for row in PLANS {
+    for row in plans() {
         let found = first_difference_in_few_steps::<K>(alloc, row.1)?;
         if !found.is_empty() {
             return Ok(format!(in alloc; "{}: {found}", row.0)?);
