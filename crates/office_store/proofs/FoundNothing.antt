@@ -1,5 +1,5 @@
 -- A database without tables has nothing, one of a version with the number 1 no validity rows, and one without rows what its version has without them.
-use Rattle.std.proofs.Common.{◌≡◌, ◌<◌, ℕ, ◌≢◌, ◌==◌, Bool, true, false, true≢false, List, [], map, refl, ap, subst, sym, ◌∙◌, inl, inr, Ordering, arith}
+use Rattle.std.proofs.Common.{◌≡◌, ◌<◌, ℕ, ◌≢◌, ◌==◌, Bool, true, false, true≢false, List, [], map, refl, ap, subst, subst₂, sym, ◌∙◌, inl, inr, Ordering, arith}
 use Rattle.std.specs.List.{list_any}
 use Rattle.office_sql.proofs.Kit.{Row, Trees, IsShaped, IsOrdered, Shape, catalog_tree, version_tree, IsListed, IsSound, named_tree, sort_by, Index, Schema}
 use Rattle.office_sql.proofs.Kit.{Database, Table, Has, some_from}
@@ -10,7 +10,7 @@ use Rattle.office_sql.specs.Prelude.{OfficeTable, meta, seats, maps, links, orde
 use Rattle.office_sql.specs.Prelude.{place_of, rows_in, tree_of, seat_in_row, map_in_row, link_in_row, order_in_row, device_in_row, given_in_row, entry_in_row}
 use Rattle.office_sql.specs.Prelude.{with_order_not_before, with_given_not_before, AreOfficeRows, AreRows, HaveOneValidityRow}
 use Rattle.office_sql.specs.Prelude.{is_validity_of_given, is_validity_of_order}
-use Rattle.office_store.proofs.Types.{Version, V1a, V1b, V1, V2, V3}
+use Rattle.office_store.proofs.Types.{Version, V2, V3}
 use Rattle.office_store.specs.Prelude.{HasNothing}
 use Rattle.office_store.proofs.Counts.{at_first, first_eight, tables_at}
 use Rattle.store_inspection.specs.Prelude.{HasOneValidityRowEach, AreValidityRowsFound, HasNoValidityRow, meta_in, number_of_version, rows_at, schema_of}
@@ -52,17 +52,8 @@ has_nothing db none = record { tables = no_rows_at V3 db (λ table _ _. none tab
 -- trees without rows have no validity rows that lack
 pub no_validity_rows : {A : Type 0} (is_for : A → Row → Bool) (value : Row → A) (rows validities : List Row)
     → rows ≡ [] → validities ≡ [] → HaveOneValidityRow is_for value rows validities
-no_validity_rows is_for value rows validities no_row none =
-    subst (λ l.
-    HaveOneValidityRow is_for value l validities) (sym no_row)
-    (subst (HaveOneValidityRow is_for value []) (sym none) (record {
-      rising = tt;
-      numbered = tt;
-      typed =
-          tt;
-      one = tt;
-      for_one = tt;
-    }))
+no_validity_rows is_for value rows validities no_row none = subst₂ (HaveOneValidityRow is_for value) (sym no_row) (sym none)
+    (record { rising = tt; numbered = tt; typed = tt; one = tt; for_one = tt })
 
 -- in tables without a row beginnings of validity are as each version has them
 pub none_found : (version : Version) (db : Database) → ((table : OfficeTable) → rows_in db.trees table ≡ []) → AreValidityRowsFound version db
@@ -109,27 +100,10 @@ module _ (shapes : ℕ → Shape) (reals : ℕ → ℕ) (trees : Trees) (listed 
       (λ e. omega (arith, tree_low table, e)) (λ e. omega (arith, tree_low table, e)) refl refl refl)
 
   -- the versions with the number 1 list no validity rows
-  v1a_without_rows : IsSound (schema_of V1a) trees → HasNoValidityRow trees
-  v1a_without_rows sound = (
-    empty_at (schema_of V1a) shapes reals trees sound listed ordered (tree_of order_starts) (λ e. cc) (λ e. cc) refl refl refl,
-    empty_at (schema_of V1a) shapes reals trees sound listed ordered (tree_of given_starts) (λ e. cc) (λ e. cc) refl refl refl,
-  )
-
-  v1b_without_rows : IsSound (schema_of V1b) trees → HasNoValidityRow trees
-  v1b_without_rows sound = (
-    empty_at (schema_of V1b) shapes reals trees sound listed ordered (tree_of order_starts) (λ e. cc) (λ e. cc) refl refl refl,
-    empty_at (schema_of V1b) shapes reals trees sound listed ordered (tree_of given_starts) (λ e. cc) (λ e. cc) refl refl refl,
-  )
-
-  v1_without_rows : IsSound (schema_of V1) trees → HasNoValidityRow trees
-  v1_without_rows sound = (
-    empty_at (schema_of V1) shapes reals trees sound listed ordered (tree_of order_starts) (λ e. cc) (λ e. cc) refl refl refl,
-    empty_at (schema_of V1) shapes reals trees sound listed ordered (tree_of given_starts) (λ e. cc) (λ e. cc) refl refl refl,
-  )
-
   pub no_validity_found : (version : Version) → number_of_version version ≡ 1 → IsSound (schema_of version) trees → HasNoValidityRow trees
   no_validity_found V2 one sound = absurd (omega (arith, one))
   no_validity_found V3 one sound = absurd (omega (arith, one))
-  no_validity_found V1a one sound = v1a_without_rows sound
-  no_validity_found V1b one sound = v1b_without_rows sound
-  no_validity_found V1 one sound = v1_without_rows sound
+  no_validity_found version one sound = (
+    empty_at (schema_of version) shapes reals trees sound listed ordered (tree_of order_starts) (λ e. cc) (λ e. cc) refl refl refl,
+    empty_at (schema_of version) shapes reals trees sound listed ordered (tree_of given_starts) (λ e. cc) (λ e. cc) refl refl refl,
+  )
