@@ -10,7 +10,7 @@ use Rattle.office_sql.specs.Prelude.{OfficeTable, meta, seats, maps, links, orde
 use Rattle.office_sql.specs.Prelude.{place_of, rows_in, tree_of, seat_in_row, map_in_row, link_in_row, order_in_row, device_in_row, given_in_row, entry_in_row}
 use Rattle.office_sql.specs.Prelude.{with_order_not_before, with_given_not_before, AreOfficeRows, AreRows, HaveOneValidityRow}
 use Rattle.office_sql.specs.Prelude.{is_validity_of_given, is_validity_of_order}
-use Rattle.office_store.proofs.Types.{Version, V2, V3}
+use Rattle.office_store.proofs.Types.{Version, V1a, V1b, V1, V2, V3}
 use Rattle.office_store.specs.Prelude.{HasNothing}
 use Rattle.office_store.proofs.Counts.{at_first, first_eight, tables_at}
 use Rattle.store_inspection.specs.Prelude.{HasOneValidityRowEach, AreValidityRowsFound, HasNoValidityRow, meta_in, number_of_version, rows_at, schema_of}
@@ -100,10 +100,27 @@ module _ (shapes : ℕ → Shape) (reals : ℕ → ℕ) (trees : Trees) (listed 
       (λ e. omega (arith, tree_low table, e)) (λ e. omega (arith, tree_low table, e)) refl refl refl)
 
   -- the versions with the number 1 list no validity rows
+  v1a_without_rows : IsSound (schema_of V1a) trees → HasNoValidityRow trees
+  v1a_without_rows sound = (
+    empty_at (schema_of V1a) shapes reals trees sound listed ordered (tree_of order_starts) (λ e. cc) (λ e. cc) refl refl refl,
+    empty_at (schema_of V1a) shapes reals trees sound listed ordered (tree_of given_starts) (λ e. cc) (λ e. cc) refl refl refl,
+  )
+
+  v1b_without_rows : IsSound (schema_of V1b) trees → HasNoValidityRow trees
+  v1b_without_rows sound = (
+    empty_at (schema_of V1b) shapes reals trees sound listed ordered (tree_of order_starts) (λ e. cc) (λ e. cc) refl refl refl,
+    empty_at (schema_of V1b) shapes reals trees sound listed ordered (tree_of given_starts) (λ e. cc) (λ e. cc) refl refl refl,
+  )
+
+  v1_without_rows : IsSound (schema_of V1) trees → HasNoValidityRow trees
+  v1_without_rows sound = (
+    empty_at (schema_of V1) shapes reals trees sound listed ordered (tree_of order_starts) (λ e. cc) (λ e. cc) refl refl refl,
+    empty_at (schema_of V1) shapes reals trees sound listed ordered (tree_of given_starts) (λ e. cc) (λ e. cc) refl refl refl,
+  )
+
   pub no_validity_found : (version : Version) → number_of_version version ≡ 1 → IsSound (schema_of version) trees → HasNoValidityRow trees
   no_validity_found V2 one sound = absurd (omega (arith, one))
   no_validity_found V3 one sound = absurd (omega (arith, one))
-  no_validity_found version one sound = (
-    empty_at (schema_of version) shapes reals trees sound listed ordered (tree_of order_starts) (λ e. cc) (λ e. cc) refl refl refl,
-    empty_at (schema_of version) shapes reals trees sound listed ordered (tree_of given_starts) (λ e. cc) (λ e. cc) refl refl refl,
-  )
+  no_validity_found V1a one sound = v1a_without_rows sound
+  no_validity_found V1b one sound = v1b_without_rows sound
+  no_validity_found V1 one sound = v1_without_rows sound

@@ -6,10 +6,10 @@ use Rattle.text_core.proofs.Kit.{on_total, then_total, nat_list_cmp_total, nat_l
 use Rattle.text_core.proofs.Kit.{IsDistinct-from_sorted, IsDistinct-IsPermutation, is_eq-slice_cmp, and-true}
 use Rattle.std.specs.List.{IsDistinct}
 use Rattle.std.specs.List.Sorted.{IsStrictlySortedBy}
-use Rattle.office_sql.proofs.Kit.{Value, Null, Binary, Row, column, bytes, is_true, overlay, key_cmp, output, output_cmp, end, IsAnswer, Term, col}
+use Rattle.office_sql.proofs.Kit.{Value, Null, Int, Real, Binary, Row, column, bytes, is_true, overlay, key_cmp, output, output_cmp, end, IsAnswer, Term, col}
 use Rattle.office_sql.proofs.Kit.{op2, lit, Trees, ascending_from_sorted, sorted_from_ascending, IsSorted-from_map, Compare, Ge, all-permutation, ascending-map}
 use Rattle.office_sql.proofs.Kit.{Key, ascending, value_cmp_total, value_cmp-Text, then-Equal}
-use Rattle.sqlite.specs.declared.types.Value.TheVariants.{Text as Words}
+use Rattle.sqlite.specs.declared.types.Value.TheVariants.{Text as Words, Blob as Bytes}
 use Rattle.sqlite.specs.Ops.{binary}
 use Rattle.sqlite.specs.Query.{Query}
 use Rattle.sqlite.specs.Listing.{understood}

@@ -1,9 +1,9 @@
 -- What the rules of a schema say of the columns of a row, and of rows whose keys may not agree.
 use Rattle.std.proofs.Common.{◌≡◌, ◌+◌, ◌&&◌, ◌==◌, ◌||◌, ◌∷◌, Ordering}
 use Rattle.text_core.proofs.Kit.{ℕ, zero, suc, Bool, true, false, not, cond, List, [], drop, Option, refl, sym, ap, subst, ◌∙◌, inl, inr, true≢false, IsTrue}
-use Rattle.text_core.proofs.Kit.{pos, negsuc, is_eq, is_lt, Less, Equal, nat_cmp, arith, AllByRecursion, list_any, ordering_reverse, ordering_then}
+use Rattle.text_core.proofs.Kit.{pos, negsuc, is_eq, is_lt, Less, Equal, Greater, nat_cmp, arith, AllByRecursion, list_any, ordering_reverse, ordering_then}
 use Rattle.text_core.proofs.Kit.{slice_cmp, cases_Bool, nat_tests, ints, is_eq-slice_cmp, and_parts}
-use Rattle.office_sql.proofs.Kit.{Value, Null, Int, Row, column, bytes, Trees, rowid, IsShaped, is_int, is_null, Kind, Column, Table, Schema, Datatype}
+use Rattle.office_sql.proofs.Kit.{Value, Null, Int, Real, Row, column, bytes, Trees, rowid, IsShaped, is_int, is_null, Kind, Column, Table, Schema, Datatype}
 use Rattle.office_sql.proofs.Kit.{NotNull, is_key, is_of, are_typed, are_present, passes, agree, differ, equal, clashes, has_affinity, Ne, Binary, plain}
 use Rattle.office_sql.proofs.Kit.{first_key-plain, value_cmp_total, value_cmp-Int, Has, all_has, all_from, some_from, ascending-map}
 use Rattle.sqlite.specs.declared.types.Value.TheVariants.{Text as Words, Blob as Bytes}
