@@ -39,6 +39,12 @@ fn first_of_each(
     over_each(alloc, &Conversations { table })
 }
 
+/// The conversations about plans. This function alone names them: what names a text costs the prover half a
+/// second for each thousand bytes of it.
+pub fn plans() -> &'static [(&'static str, &'static str)] {
+    PLANS
+}
+
 /// Each table of conversations has a test of its own, or few share one, since the prover sets a bound to all
 /// the texts of one test.
 #[test]
@@ -66,7 +72,7 @@ fn maps_and_devices_get_their_replies(rt: HostRuntime) -> Result<(), Fail> {
 
 #[test]
 fn plans_and_read_backs_get_their_replies(rt: HostRuntime) -> Result<(), Fail> {
-    let found = first_of_each(rt.alloc(), PLANS)?;
+    let found = first_of_each(rt.alloc(), plans())?;
     assert_eq!(rt; found.as_str(), "");
     Ok(())
 }

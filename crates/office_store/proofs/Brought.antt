@@ -1,22 +1,22 @@
 -- What the steps that lack make of a database, by what was found.
-use Rattle.std.proofs.Common.{◌≡◌, ◌≢◌, ◌<◌, ◌≤◌, ◌∙◌, ℕ, List, [], drop, map, sym, ap, subst, refl, arith}
+use Rattle.std.proofs.Common.{◌≡◌, ◌≢◌, ◌<◌, ◌≤◌, ◌+◌, ◌∙◌, ℕ, List, [], drop, map, sym, ap, subst, refl, arith}
 use Rattle.sha2.specs.Sha256.{sha256}
 use Rattle.office_sql.proofs.Kit.{Database, State}
 use Rattle.site_core.specs.Prelude.{TextOfSite}
 use Rattle.sqlite.specs.Store.{Ghosts}
 use Rattle.office_sql.proofs.Names.{first_by_name}
 use Rattle.office_sql.proofs.Offices.{table_changed, both_validity_rows}
-use Rattle.office_sql.specs.Prelude.{OfficeTable, meta, site_texts, no_schema, place_of, rows_in, IsOffice, tables_in}
+use Rattle.office_sql.specs.Prelude.{OfficeTable, meta, seats, maps, links, orders, devices, given, ledger, order_starts, given_starts, site_texts, no_schema}
+use Rattle.office_sql.specs.Prelude.{place_of, rows_in, IsOffice, tables_in}
 use Rattle.store_inspection.specs.Prelude.{meta_in, HasMeta, HoldsSite, HoldsSiteText, IsBeforeV1, IsOnlyText, count_of, schema_of, Sees}
 use Rattle.office_store.specs.declared.bring.Found.{Found}
 use Rattle.office_store.specs.declared.bring.Found.TheVariants.{Nothing, Earlier, Today}
-use Rattle.office_store.specs.Prelude.{all_steps, first_step_of, Brings, CanBring, HaveRun, IsAt, IsBegun, IsEarly, IsGrown, IsRemade, IsUpgrade}
+use Rattle.office_store.specs.Prelude.{all_steps, first_step_of, Brings, CanBring, HasRun, HaveRun, IsAt, IsBegun, IsEarly, IsGrown, IsRemade, IsUpgrade}
 use Rattle.office_store.specs.Prelude.{IsTestedFor, plain_text, SeesBeforeV1, TellsItself}
 use Rattle.office_store.specs.declared.steps.TheConstants.{INSERT_NULL_INTO_GIVEN_START, INSERT_NULL_INTO_ORDER_START}
 use Rattle.office_store.proofs.Counts.{first_but, not_site_texts, tables_at}
 use Rattle.office_store.proofs.CreateSteps.{HasEmptyTables, creates, makes_table}
-use Rattle.office_store.proofs.CreateTables.{meta_create, seat_create, map_create, link_create, orders_create, device_create, given_create, ledger_create}
-use Rattle.office_store.proofs.CreateTables.{order_start_create, given_start_create, site_text_create, gains_both, gains_text}
+use Rattle.office_store.proofs.CreateTables.{create_of, made_by, tables_until, gains_both, gains_text}
 use Rattle.office_store.proofs.FoundNothing.{HasNoRow, no_office_rows, no_rows_at}
 use Rattle.office_store.proofs.FoundValidity.{office_of}
 use Rattle.office_store.proofs.Running.{run_says}
@@ -82,7 +82,7 @@ module _ {S : Type 0} (g : Ghosts S) (text : List ℕ) where
   raises_v2 version x z at told run =
       let y = run.0 in
       let u = run.2.0 in
-      let gains = gains_text x y at.schema (makes_table g site_text_create text x y run.1) in
+      let gains = gains_text x y at.schema (makes_table g (create_of site_texts) text x y run.1) in
       let raised = v2_raised x y at gains in
       let office = office_at y raised.is in
       let none = puts_none g text y u run.2.1 gains.schema gains.none in
@@ -104,7 +104,7 @@ module _ {S : Type 0} (g : Ghosts S) (text : List ℕ) where
       let two = run.2.0 in
       let three = run.2.2.0 in
       let four = run.2.2.2.0 in
-      let gains = gains_both x one two at.schema (makes_table g order_start_create text x one run.1) (makes_table g given_start_create text one two run.2.1) in
+      let gains = gains_both x one two at.schema (makes_table g (create_of order_starts) text x one run.1) (makes_table g (create_of given_starts) text one two run.2.1) in
       let of_orders = run_says g (plain_text INSERT_NULL_INTO_ORDER_START.now) text two three FillsOrders
       (λ old new count ran. orders_filled old new count ran) run.2.2.1 in
       let of_given = run_says g (plain_text INSERT_NULL_INTO_GIVEN_START.now) text three four FillsGiven
@@ -132,26 +132,20 @@ module _ {S : Type 0} (g : Ghosts S) (text : List ℕ) where
         none = none;
       }
 
+  -- a table more, with no row
+  then_made : (table : OfficeTable) {x y : Database} → HasRun g (plain_text (made_by table)) text x y → HasEmptyTables (tables_until (place_of table)) x
+      → HasEmptyTables (tables_until (place_of table + 1)) y
+  then_made table ran was = (creates g (create_of table) text _ _ ran was).0
+
   pub begun : (x z : Database) → x.schema ≡ no_schema → HaveRun g all_steps text x z → IsBegun text z
   begun x z bare r0 =
-      let e0 : HasEmptyTables no_schema x = record { is = bare; empty = tt } in
-      let e1 = (creates g meta_create text x r0.0 r0.1 e0).0 in
-      let r1 = r0.2 in
-      let e2 = (creates g seat_create text r0.0 r1.0 r1.1 e1).0 in
-      let r2 = r1.2 in
-      let e3 = (creates g map_create text r1.0 r2.0 r2.1 e2).0 in
-      let r3 = r2.2 in
-      let e4 = (creates g link_create text r2.0 r3.0 r3.1 e3).0 in
-      let r4 = r3.2 in
-      let e5 = (creates g orders_create text r3.0 r4.0 r4.1 e4).0 in
-      let r5 = r4.2 in
-      let e6 = (creates g device_create text r4.0 r5.0 r5.1 e5).0 in
-      let r6 = r5.2 in
-      let e7 = (creates g given_create text r5.0 r6.0 r6.1 e6).0 in
-      let r7 = r6.2 in
-      let e8 = (creates g ledger_create text r6.0 r7.0 r7.1 e7).0 in
-      let r8 = r7.2 in
-      let new = new_told r7.0 r8.0 e8 (tells_v1 g text r7.0 r8.0 r8.1 e8.is e8.empty.0) in
+      let r3 = r0.2.2.2 in
+      let r6 = r3.2.2.2 in
+      let r8 = r6.2.2 in
+      let e3 = then_made maps r0.2.2.1 (then_made seats r0.2.1 (then_made meta r0.1 (record { is = bare; empty = tt }))) in
+      let e6 = then_made devices r3.2.2.1 (then_made orders r3.2.1 (then_made links r3.1 e3)) in
+      let e8 = then_made ledger r6.2.1 (then_made given r6.1 e6) in
+      let new = new_told r6.2.0 r8.0 e8 (tells_v1 g text r6.2.0 r8.0 r8.1 e8.is e8.empty.0) in
       let it = raises_v1 V1 r8.0 z new.at new.told r8.2 in
       record {
         office = it.office;
@@ -198,21 +192,15 @@ module _ {S : Type 0} (g : Ghosts S) (site : TextOfSite) where
       → HaveRun g (drop (first_step_of found) all_steps) site.text y z → Brings found site.text x.trees z
   remakes (Earlier V1a) early x y z can remade run = early_brings V1a early (omega arith) x y z can remade run
   remakes (Earlier V1b) early x y z can remade run = early_brings V1b early (omega arith) x y z can remade run
-  remakes (Earlier V1) early x y z can remade run = absurd early
-  remakes (Earlier V2) early x y z can remade run = absurd early
-  remakes (Earlier V3) early x y z can remade run = absurd early
-  remakes Nothing early x y z can remade run = absurd early
-  remakes Today early x y z can remade run = absurd early
+  remakes _ early x y z can remade run = absurd early
 
 -- what was brought is a database of the office
 pub office_brought : (found : Found) (text : List ℕ) (x z : Database) → Brings found text x.trees z → IsOffice z
 office_brought Nothing text x z it = it.office
-office_brought (Earlier version) text x z it = it.office
-office_brought Today text x z it = it.office
+office_brought _ text x z it = it.office
 
 -- an early one is of a version before the first
 pub sees_early : (found : Found) (site : TextOfSite) (s : State) → IsEarly found → Sees (CanBring found site) s → SeesBeforeV1 s
 sees_early (Earlier version) site s early can =
     (version, early, λ up. let it = can up in is_at version (sha256 site.text) s.now it.0 it.1)
-sees_early Nothing site s early can = absurd early
-sees_early Today site s early can = absurd early
+sees_early _ site s early can = absurd early

@@ -1,8 +1,17 @@
 -- What is said of a call in a transaction, where more is known of it.
-use Rattle.std.proofs.Common.{Result, Ok, Err, IfOk, OnOk, IsTrue}
-use Rattle.office_sql.proofs.Kit.{Database, Held, state}
+use Rattle.std.proofs.Common.{Result, Ok, Err, IfOk, OnOk, IsTrue, inl, refl, arith}
+use Rattle.office_sql.proofs.Kit.{Database, Held, State, Survives, Trees, state}
 use Rattle.sqlite.specs.Store.{Ghosts}
 use Rattle.office_sql.specs.Prelude.{SqlWrites, IsInside}
+use Rattle.office_store.specs.Prelude.{IsUnderWay}
+
+-- behind a write a transaction is under way
+pub goes_on : {old new : State} → IsInside old new → IsUnderWay new
+goes_on inside = record { is_open = inside.is_open; began = inside.goes_on }
+
+-- what isn't touched leaves nothing new
+pub stays : (s : State) (Commits : Trees → Type 0) → Survives s s Commits
+stays s Commits = record { clean = omega arith; shield = λ h. h; counts = omega arith; limit = refl; closes = λ _ up. inl up; crash = λ _ db left. inl left }
 
 -- what follows from what is said is said
 pub says_more : {S A E : Type 0} (g : Ghosts S) (old new : Held S) (r : Result A E) (P Q : Database → Database → A → Type 0)

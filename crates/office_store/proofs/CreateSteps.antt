@@ -1,5 +1,5 @@
 -- What follows from a CREATE TABLE.
-use Rattle.std.proofs.Common.{◌≡◌, ℕ, List, [], false, Ok, subst, ◌∙◌}
+use Rattle.std.proofs.Common.{◌≡◌, ℕ, List, [], ◌∷◌, ◌++◌, false, Ok, subst, ◌∙◌}
 use Rattle.std.specs.List.{AllByRecursion}
 use Rattle.office_sql.proofs.Kit.{Table, Schema, CreateTable, created, lacks_sequence, Database, IsDatabase, IsPlain, command_of, statement_of, all-append}
 use Rattle.office_sql.proofs.Kit.{all_both}
@@ -10,6 +10,11 @@ use Rattle.office_sql.specs.Prelude.{Makes}
 use Rattle.office_store.specs.Prelude.{HasRun, plain_text}
 use Rattle.office_store.proofs.Creates.{makes, makes_sound}
 use Rattle.office_store.proofs.Running.{run_says}
+
+-- what is so of each of two lists is so of each of them
+pub all_split : {A : Type 0} (P : A → Type 0) (xs ys : List A) → AllByRecursion P (xs ++ ys) → AllByRecursion P xs × AllByRecursion P ys
+all_split P [] ys all = (tt, all)
+all_split P (x ∷ xs) ys all = let more = all_split P xs ys all.1 in ((all.0, more.0), more.1)
 
 -- a database with these tables, and no row
 pub record HasEmptyTables (schema : Schema) (db : Database) : Type 0 where
@@ -31,10 +36,8 @@ grown : (schema next : Schema) (table : Table) (old new : Database) → created 
 grown schema next table old new is made h = record {
   is = made.is ∙ is;
   empty = subst (λ s. AllByRecursion (λ t. new.trees t.tree ≡ []) s.tables) is
-      (all-append (λ t. new.trees t.tree
-      ≡ []) schema.tables _ (all_both (λ t. new.trees t.tree
-      ≡ old.trees t.tree) (λ t. old.trees t.tree ≡ []) (λ t. new.trees t.tree ≡ []) (λ t e f. e
-      ∙ f) schema.tables made.others h.empty) (made.empty, tt));
+      (all-append (λ t. new.trees t.tree ≡ []) schema.tables _ (all_both (λ t. new.trees t.tree ≡ old.trees t.tree) (λ t. old.trees t.tree ≡ [])
+      (λ t. new.trees t.tree ≡ []) (λ t e f. e ∙ f) schema.tables made.others h.empty) (made.empty, tt));
 }
 
 -- it makes the table, and leaves a database

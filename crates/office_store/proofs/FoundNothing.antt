@@ -1,5 +1,5 @@
 -- A database without tables has nothing, one of a version with the number 1 no validity rows, and one without rows what its version has without them.
-use Rattle.std.proofs.Common.{◌≡◌, ◌<◌, ℕ, ◌≢◌, ◌==◌, Bool, true, false, true≢false, List, [], map, refl, ap, subst, sym, ◌∙◌, inl, inr, Ordering, arith}
+use Rattle.std.proofs.Common.{◌≡◌, ◌<◌, ℕ, ◌≢◌, ◌==◌, Bool, true, false, true≢false, List, [], map, refl, ap, subst, subst₂, sym, ◌∙◌, inl, inr, Ordering, arith}
 use Rattle.std.specs.List.{list_any}
 use Rattle.office_sql.proofs.Kit.{Row, Trees, IsShaped, IsOrdered, Shape, catalog_tree, version_tree, IsListed, IsSound, named_tree, sort_by, Index, Schema}
 use Rattle.office_sql.proofs.Kit.{Database, Table, Has, some_from}
@@ -52,17 +52,8 @@ has_nothing db none = record { tables = no_rows_at V3 db (λ table _ _. none tab
 -- trees without rows have no validity rows that lack
 pub no_validity_rows : {A : Type 0} (is_for : A → Row → Bool) (value : Row → A) (rows validities : List Row)
     → rows ≡ [] → validities ≡ [] → HaveOneValidityRow is_for value rows validities
-no_validity_rows is_for value rows validities no_row none =
-    subst (λ l.
-    HaveOneValidityRow is_for value l validities) (sym no_row)
-    (subst (HaveOneValidityRow is_for value []) (sym none) (record {
-      rising = tt;
-      numbered = tt;
-      typed =
-          tt;
-      one = tt;
-      for_one = tt;
-    }))
+no_validity_rows is_for value rows validities no_row none = subst₂ (HaveOneValidityRow is_for value) (sym no_row) (sym none)
+    (record { rising = tt; numbered = tt; typed = tt; one = tt; for_one = tt })
 
 -- in tables without a row beginnings of validity are as each version has them
 pub none_found : (version : Version) (db : Database) → ((table : OfficeTable) → rows_in db.trees table ≡ []) → AreValidityRowsFound version db

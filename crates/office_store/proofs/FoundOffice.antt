@@ -1,17 +1,18 @@
 -- A sound database of a schema that begins with the first version's tables, whatever the keys of `given`
 -- beside that of its serial numbers, whose trees are in order, has the office's rows,
 -- if no number of a map or of an entry is below zero. One lemma for each table.
-use Rattle.std.proofs.Common.{◌≡◌, ℕ, List, false, [], ◌∷◌, ◌++◌, refl, sym, ap, subst, ◌∙◌, inl, inr, is_eq, Less, IsTrue}
+use Rattle.std.proofs.Common.{◌≡◌, ℕ, List, Ordering, true, false, [], ◌∷◌, ◌++◌, refl, sym, ap, subst, ◌∙◌, inl, inr, is_eq, Less, IsTrue}
 use Rattle.std.specs.List.{AllByRecursion}
 use Rattle.text_core.proofs.Kit.{and_parts, not-true}
 use Rattle.office_sql.proofs.Kit.{Row, column, IsShaped, IsOrdered, is_int, Trees, rowid, Shape, catalog_tree, IsListed, Index, Schema, Table, Datatype}
-use Rattle.office_sql.proofs.Kit.{NotNull, Unique, clashes, plain, IsSound, table_shape, Has, all_both, ascending-map}
+use Rattle.office_sql.proofs.Kit.{NotNull, Unique, clashes, plain, IsSound, table_shape, Has, agree, all_both, all_has, ascending-map, passes}
+use Rattle.sqlite_schema.specs.declared.schema.Constraint.{Constraint}
 use Rattle.sqlite.specs.Order.{value_cmp}
 use Rattle.sqlite_trees.specs.declared.store.Shape.TheVariants as shape
 use Rattle.sqlite_trees.proofs.ListLemmas.{all_weaker}
 use Rattle.office_tables.specs.Prelude.{seat_cmp, order_cmp, map_cmp, link_cmp, device_cmp, given_cmp, entry_cmp}
 use Rattle.office_sql.specs.Prelude.{meta, seats, maps, links, orders, devices, given, ledger, seat_table, map_table, link_table, orders_table, device_table}
-use Rattle.office_sql.specs.Prelude.{given_table, ledger_table, rows_in, seat_in_row, map_in_row, link_in_row, order_in_row, device_in_row, given_in_row}
+use Rattle.office_sql.specs.Prelude.{given_table, ledger_table, rows_in, tree_of, seat_in_row, map_in_row, link_in_row, order_in_row, device_in_row, given_in_row}
 use Rattle.office_sql.specs.Prelude.{entry_in_row, AreOfficeRows, AreRows, IsText, IsWhole, IsSeatRow, IsMapRow, IsLinkRow, IsOrderRow, IsDeviceRow, IsGivenRow}
 use Rattle.office_sql.specs.Prelude.{IsEntryRow}
 use Rattle.store_inspection.specs.Prelude.{HasWhole, IsNotBelow, given_keyed, schema_keyed}
@@ -43,72 +44,60 @@ module _ (one two three : List ℕ) (keyed : (P : List ℕ → Type 0) → P one
   pub shaped : (t : Table) → Has schema.tables t → IsShaped shape.Table (trees t.tree)
   shaped t h = subst (λ s. IsShaped s (trees t.tree)) (table_shape listed rising.0 sound.lists.listed t h).0 (ordered t.tree)
 
+  -- the rows of a table are of a type, and no two have one key
+  pub found_in : {A : Type 0} (t : Table) (places : List ℕ) (Typed : Row → Type 0) (cmp : A → A → Ordering) (value : Row → A) → Has schema.tables t
+      → ((a b : Row) → Typed a → Typed b → is_eq (cmp (value a) (value b)) ≡ agree plain places b places a)
+      → ((r : Row) → passes Datatype schema trees t r ≡ true → passes NotNull schema trees t r ≡ true → Typed r)
+      → ((r : Row) → passes Unique schema trees t r ≡ true → clashes plain places (trees t.tree) r ≡ false) → AreRows Typed cmp value (trees t.tree)
+  found_in t places Typed cmp value has ties typed free =
+      let rows = trees t.tree in
+      let keeps = λ (rule : Constraint). all_has (λ (s : Table). AllByRecursion (λ r. passes rule schema trees s r ≡ true) (trees s.tree))
+      schema.tables t (sound.obeys.rules rule) has in
+      rows_found places Typed cmp value ties rows (shaped t has) (all_both _ _ Typed typed rows (keeps Datatype) (keeps NotNull))
+      (all_weaker _ (λ r. clashes plain places rows r ≡ false) free rows (keeps Unique))
+
   seats_found : AreRows IsSeatRow seat_cmp seat_in_row (rows_in trees seats)
-  seats_found =
-      let rows = rows_in trees seats in
-      rows_found (1 ∷ []) IsSeatRow seat_cmp seat_in_row
+  seats_found = found_in seat_table (1 ∷ []) IsSeatRow seat_cmp seat_in_row (inr (inl refl))
       (λ a b e f. last_ties _ _ (texts_tie (column a 1) (column b 1) e f))
-      rows (shaped seat_table (inr (inl refl)))
-      (all_both _ _ IsSeatRow (λ r d n.
-      text_at schema trees seat_table r d n 0 (refl, refl, refl) (refl, refl))
-      rows (sound.obeys.rules Datatype).1.0 (sound.obeys.rules NotNull).1.0)
-      (all_weaker _ (λ r. clashes plain (1 ∷ []) rows r ≡ false) (λ r h. not-true _ (and_parts _ _ h).0) rows (sound.obeys.rules Unique).1.0)
+      (λ r d n. text_at schema trees seat_table r d n 0 (refl, refl, refl) (refl, refl)) (λ r h. not-true _ (and_parts _ _ h).0)
 
   links_found : AreRows IsLinkRow link_cmp link_in_row (rows_in trees links)
-  links_found =
-      let rows = rows_in trees links in
-      rows_found (1 ∷ 2 ∷ []) IsLinkRow link_cmp link_in_row
+  links_found = found_in link_table (1 ∷ 2 ∷ []) IsLinkRow link_cmp link_in_row (inr (inr (inr (inl refl))))
       (λ a b e f. then_ties _ _ _ _ (texts_tie (column a 1) (column b 1) e.0 f.0) (last_ties _ _ (blobs_tie (column a 2) (column b 2) e.1 f.1)))
-      rows (shaped link_table (inr (inr (inr (inl refl)))))
-      (all_both _ _ IsLinkRow (λ r d n. (
-        text_at schema trees link_table r d n 0 (refl, refl, refl)
-            (refl, refl),
+      (λ r d n. (
+        text_at schema trees link_table r d n 0 (refl, refl, refl) (refl, refl),
         blob_at schema trees link_table r d n 1 (refl, refl, refl) (refl, refl),
-      ))
-      rows (sound.obeys.rules Datatype).1.1.1.0 (sound.obeys.rules NotNull).1.1.1.0)
-      (all_weaker _ (λ r. clashes plain (1 ∷ 2 ∷ []) rows r ≡ false) (λ r h. not-true _ (and_parts _ _ h).0) rows (sound.obeys.rules Unique).1.1.1.0)
+      )) (λ r h. not-true _ (and_parts _ _ h).0)
 
   orders_found : AreRows IsOrderRow order_cmp order_in_row (rows_in trees orders)
-  orders_found =
-      let rows = rows_in trees orders in
-      rows_found (1 ∷ 2 ∷ []) IsOrderRow order_cmp order_in_row
+  orders_found = found_in orders_table (1 ∷ 2 ∷ []) IsOrderRow order_cmp order_in_row (inr (inr (inr (inr (inl refl)))))
       (λ a b e f. then_ties _ _ _ _ (texts_tie (column a 1) (column b 1) e.0 f.0) (last_ties _ _ (texts_tie (column a 2) (column b 2) e.1 f.1)))
-      rows (shaped orders_table (inr (inr (inr (inr (inl refl))))))
-      (all_both _ _ IsOrderRow (λ r d n. (
+      (λ r d n. (
         text_at schema trees orders_table r d n 0 (refl, refl, refl) (refl, refl),
         text_at schema trees orders_table r d n 1 (refl, refl, refl) (refl, refl),
         (and_parts _ _ d).0,
-      )) rows (sound.obeys.rules Datatype).1.1.1.1.0 (sound.obeys.rules NotNull).1.1.1.1.0)
-      (all_weaker _ (λ r. clashes plain (1 ∷ 2 ∷ []) rows r ≡ false) (λ r h. not-true _ (and_parts _ _ h).0) rows (sound.obeys.rules Unique).1.1.1.1.0)
+      )) (λ r h. not-true _ (and_parts _ _ h).0)
 
   devices_found : AreRows IsDeviceRow device_cmp device_in_row (rows_in trees devices)
-  devices_found =
-      let rows = rows_in trees devices in
-      rows_found (1 ∷ 2 ∷ []) IsDeviceRow device_cmp device_in_row
+  devices_found = found_in device_table (1 ∷ 2 ∷ []) IsDeviceRow device_cmp device_in_row (inr (inr (inr (inr (inr (inl refl))))))
       (λ a b e f. then_ties _ _ _ _ (texts_tie (column a 1) (column b 1) e.0 f.0) (last_ties _ _ (texts_tie (column a 2) (column b 2) e.1 f.1)))
-      rows (shaped device_table (inr (inr (inr (inr (inr (inl refl)))))))
-      (all_both _ _ IsDeviceRow (λ r d n. (
+      (λ r d n. (
         text_at schema trees device_table r d n 0 (refl, refl, refl) (refl, refl),
         text_at schema trees device_table r d n 1 (refl, refl, refl) (refl, refl),
         text_at schema trees device_table r d n 2 (refl, refl, refl) (refl, refl),
-      )) rows (sound.obeys.rules Datatype).1.1.1.1.1.0 (sound.obeys.rules NotNull).1.1.1.1.1.0)
-      (all_weaker _ (λ r. clashes plain (1 ∷ 2 ∷ []) rows r ≡ false) (λ r h. not-true _ (and_parts _ _ h).0) rows (sound.obeys.rules Unique).1.1.1.1.1.0)
+      )) (λ r h. not-true _ (and_parts _ _ h).0)
 
   given_found : AreRows IsGivenRow given_cmp given_in_row (rows_in trees given)
-  given_found =
-      let rows = rows_in trees given in
-      rows_found (1 ∷ 2 ∷ []) IsGivenRow given_cmp given_in_row
+  given_found = found_in (given_keyed one two three) (1 ∷ 2 ∷ []) IsGivenRow given_cmp given_in_row (inr (inr (inr (inr (inr (inr (inl refl)))))))
       (λ a b e f. then_ties _ _ _ _ (texts_tie (column a 1) (column b 1) e.0 f.0) (last_ties _ _ (texts_tie (column a 2) (column b 2) e.1 f.1)))
-      rows (shaped (given_keyed one two three) (inr (inr (inr (inr (inr (inr (inl refl))))))))
-      (all_both _ _ IsGivenRow (λ r d n. (
+      (λ r d n. (
         text_at schema trees given_table r d n 0 (refl, refl, refl) (refl, refl),
         text_at schema trees given_table r d n 1 (refl, refl, refl) (refl, refl),
         blob_at schema trees given_table r d n 3 (refl, refl, refl) (refl, refl),
         text_if_at schema trees given_table r d 5 (refl, refl, refl),
-      )) rows (sound.obeys.rules Datatype).1.1.1.1.1.1.0 (sound.obeys.rules NotNull).1.1.1.1.1.1.0)
-      (all_weaker _ (λ r. clashes plain (1 ∷ 2 ∷ []) rows r ≡ false)
-      (λ r h. keyed (λ places. clashes plain places rows r ≡ false) (not-true _ (and_parts _ _ h).0) (not-true _ (and_parts _ _ (and_parts _ _ h).1).0))
-      rows (sound.obeys.rules Unique).1.1.1.1.1.1.0)
+      ))
+      (λ r h. keyed (λ places. clashes plain places (trees (tree_of given)) r ≡ false) (not-true _ (and_parts _ _ h).0)
+      (not-true _ (and_parts _ _ (and_parts _ _ h).1).0))
 
   module _ (whole : HasWhole trees) where
     maps_found : AreRows IsMapRow map_cmp map_in_row (rows_in trees maps)

@@ -101,29 +101,24 @@ key_of first second = Null ∷ Words first ∷ Words second ∷ []
 module _ (more : List Table) (shapes : ℕ → Shape) (reals : ℕ → ℕ) (trees : Trees)
     (sound : IsSound (since_v2 more) trees) (listed : IsListed (trees catalog_tree) shapes reals) (ordered : IsOrdered shapes trees)
     (rows : AreOfficeRows trees) where
+  -- validity rows of which no two clash
+  validity_rows : {A : Type 0} (t : Table) (cmp : A → A → Ordering) (value : Row → A) → Has (since_v2 more).tables t
+      → ((a b : Row) → IsValidityRow a → IsValidityRow b → is_eq (cmp (value a) (value b)) ≡ agree plain (1 ∷ 2 ∷ []) b (1 ∷ 2 ∷ []) a)
+      → AllByRecursion IsValidityRow (trees t.tree) → AllByRecursion (λ r. clashes plain (1 ∷ 2 ∷ []) (trees t.tree) r ≡ false) (trees t.tree)
+      → AreRows IsValidityRow cmp value (trees t.tree)
+  validity_rows t cmp value has ties = rows_found (1 ∷ 2 ∷ []) IsValidityRow cmp value ties (trees t.tree)
+      (shaped (1 ∷ 2 ∷ []) (1 ∷ 4 ∷ []) (6 ∷ 1 ∷ 2 ∷ []) (λ P first second. first)
+      (order_start_table ∷ given_start_table ∷ more) later_indexes shapes reals trees sound listed ordered t has)
+
   order_validity_rows : AreRows IsValidityRow order_cmp order_in_row (rows_in trees order_starts)
-  order_validity_rows =
-      let validities = rows_in trees order_starts in
-      rows_found (1 ∷ 2 ∷ []) IsValidityRow order_cmp order_in_row
+  order_validity_rows = validity_rows order_start_table order_cmp order_in_row (inr (inr (inr (inr (inr (inr (inr (inr (inl refl)))))))))
       (λ a b e f. then_ties _ _ _ _ (texts_tie (column a 1) (column b 1) e.0 f.0) (last_ties _ _ (texts_tie (column a 2) (column b 2) e.1 f.1)))
-      validities (shaped (1 ∷ 2 ∷ []) (1 ∷ 4 ∷ []) (6 ∷ 1 ∷ 2 ∷ []) (λ P first second. first)
-      (order_start_table ∷ given_start_table ∷ more) later_indexes shapes reals trees sound listed ordered
-      order_start_table (inr (inr (inr (inr (inr (inr (inr (inr (inl refl)))))))))) (order_validity_typed more trees sound)
-      (all_weaker _ (λ r. clashes plain (1 ∷ 2 ∷ []) validities r
-      ≡ false) (λ r h.
-      not-true _ (and_parts _ _ h).0) validities (sound.obeys.rules Unique).1.1.1.1.1.1.1.1.0)
+      (order_validity_typed more trees sound) (all_weaker _ _ (λ r h. not-true _ (and_parts _ _ h).0) _ (sound.obeys.rules Unique).1.1.1.1.1.1.1.1.0)
 
   given_validity_rows : AreRows IsValidityRow given_cmp given_in_row (rows_in trees given_starts)
-  given_validity_rows =
-      let validities = rows_in trees given_starts in
-      rows_found (1 ∷ 2 ∷ []) IsValidityRow given_cmp given_in_row
+  given_validity_rows = validity_rows given_start_table given_cmp given_in_row (inr (inr (inr (inr (inr (inr (inr (inr (inr (inl refl))))))))))
       (λ a b e f. then_ties _ _ _ _ (texts_tie (column a 1) (column b 1) e.0 f.0) (last_ties _ _ (texts_tie (column a 2) (column b 2) e.1 f.1)))
-      validities (shaped (1 ∷ 2 ∷ []) (1 ∷ 4 ∷ []) (6 ∷ 1 ∷ 2 ∷ []) (λ P first second. first)
-      (order_start_table ∷ given_start_table ∷ more) later_indexes shapes reals trees sound listed ordered
-      given_start_table (inr (inr (inr (inr (inr (inr (inr (inr (inr (inl refl))))))))))) (given_validity_typed more trees sound)
-      (all_weaker _ (λ r. clashes plain (1 ∷ 2 ∷ []) validities r
-      ≡ false) (λ r h.
-      not-true _ (and_parts _ _ h).0) validities (sound.obeys.rules Unique).1.1.1.1.1.1.1.1.1.0)
+      (given_validity_typed more trees sound) (all_weaker _ _ (λ r h. not-true _ (and_parts _ _ h).0) _ (sound.obeys.rules Unique).1.1.1.1.1.1.1.1.1.0)
 
   -- each validity row is one of an order, or of a record
   orders_back : AllByRecursion (λ s. is_some (find (λ r. is_its r s) (rows_in trees orders)) ≡ true) (rows_in trees order_starts)

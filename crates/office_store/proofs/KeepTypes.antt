@@ -5,4 +5,4 @@ pub use Rattle.office_tables.specs.declared.rows.MapRow.{MapRow}
 pub use Rattle.office_tables.specs.declared.rows.OfCustomer.{OfCustomer}
 pub use Rattle.office_tables.specs.declared.rows.Order.{Order}
 pub use Rattle.office_tables.specs.declared.rows.Write.{Write}
-pub use Rattle.office_tables.specs.declared.rows.Write.TheVariants.{AddDevice, AddEntry, AddGiven, AddLink, AddMap, AddOrder, PutDevice, PutSeat, SetCursor}
+pub use Rattle.office_tables.specs.declared.rows.Write.TheVariants.{AddEntry, AddGiven, AddMap, SetCursor}

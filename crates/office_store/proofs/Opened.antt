@@ -4,10 +4,12 @@ use Rattle.sha2.specs.Sha256.{sha256}
 use Rattle.site_core.specs.Prelude.{TextOfSite}
 use Rattle.sqlite_disk.specs.declared.Disk as disk
 use Rattle.sqlite_store.specs.declared.store.FileStore.{FileStore}
-use Rattle.office_sql.proofs.Kit.{file_state, Database, HasCleanDisk, Held, Image, State, Trees}
+use Rattle.office_sql.proofs.Kit.{file_state, state, Database, HasCleanDisk, Held, Image, State, Trees}
 use Rattle.office_sql.specs.Prelude.{IsOffice, IsReady, office_over}
 use Rattle.store_inspection.specs.Prelude.{IsOfSite, IsOurs}
-use Rattle.office_store.specs.Prelude.{FilesHeld, IsFoundOver, IsTakenFor}
+use Rattle.sqlite.specs.Store.{Ghosts}
+use Rattle.office_store.proofs.Types.{Absent}
+use Rattle.office_store.specs.Prelude.{FilesHeld, IsFoundOver, IsOpenedFor, IsTakenFor, Kept, ShowsOpening}
 
 module _ (site : TextOfSite) (before : Trees) (s : State) (settled : (db : Trees) → IsTrue s.is_open → s.may_leave db → db ≡ s.committed.trees)
     (up : IsTrue s.is_open) (ready : IsReady s) (it : IsTakenFor site before s.now.trees) (named : sha256 site.text ≡ site.digest) where
@@ -25,6 +27,17 @@ module _ (site : TextOfSite) (before : Trees) (s : State) (settled : (db : Trees
       let is = leaves_shown db may in
       let same : office_over db ≡ s.now = λ i. record { schema = sym office.schema i; trees = is i } in
       (subst IsOffice (sym same) office, subst (IsOurs site.digest) (sym is) ours)
+
+-- a keeper is as an opening leaves it, of what is known otherwise of the database that was there before
+pub opened_of : {S : Type 0} (g : Ghosts S) (site : TextOfSite) (absent : Absent) {Was Other : (Trees → Type 0) → Type 0} {keep : Kept S}
+    → IsOpenedFor g site absent Was keep → (HasCleanDisk (state g keep.conn) → (Says : Trees → Type 0) → Was Says → Other Says)
+    → IsOpenedFor g site absent Other keep
+opened_of g site absent {keep = keep} it other = record {
+  of_site = it.of_site;
+  is_open = it.is_open;
+  shows = λ clean. other clean (λ before. ShowsOpening site absent before (state g keep.conn).now.trees) (it.shows clean);
+  left = it.left;
+}
 
 -- what is so of the database that a connection over files shows is so of what the files held
 pub held_before : {D : Type 0} {g : disk.Ghosts D} (image : Image) (conn : Held (FileStore D g)) → IsFoundOver image conn → HasCleanDisk (file_state conn)

@@ -1,5 +1,5 @@
 -- How a connection is settled: its tables are made, upgraded or found, or it is refused.
-use Rattle.std.proofs.Common.{◌≡◌, ◌≢◌, ◌↔◌, inl, inr, ℕ, Bool, false, List, Result, Ok, Err, OnOk, IfErr, IsTrue, refl, sym, ap, subst, ◌∙◌, arith}
+use Rattle.std.proofs.Common.{◌≡◌, ◌≢◌, ◌↔◌, inl, inr, ℕ, Bool, false, List, Result, Ok, Err, OnOk, IfErr, IsErrAnd, IsTrue, refl, sym, ap, subst, ◌∙◌}
 use Rattle.sha2.specs.Sha256.{sha256}
 use Rattle.site_core.specs.Prelude.{SiteValue, TextOfSite}
 use Rattle.office_sql.proofs.Kit.{Database, Held, state, State, HasCleanDisk, IsUnchanged, KeepsCommit, Survives, Trees, survives_then, survives_weaker, Error}
@@ -17,6 +17,7 @@ use Rattle.office_sql.proofs.Asked.{was_clean}
 use Rattle.office_store.proofs.FoundValidity.{office_of, without_not_before_of}
 use Rattle.office_store.proofs.Brought.{office_brought}
 use Rattle.office_store.proofs.AddressKept.{apart_grown, apart_if_none, apart_upgraded}
+use Rattle.office_store.proofs.Refusals.{is_err}
 use Rattle.office_store.proofs.Telling.{not_silent, not_v3, site_once}
 use Rattle.store_inspection.proofs.TextShows.{one_text}
 
@@ -30,10 +31,6 @@ failed site s has = record {
 
 undone_keeps : (old new : State) → IsUndone old new → KeepsCommit old new
 undone_keeps old new undone = record { was_open = undone.was_open; committed = undone.committed }
-
--- what isn't touched leaves nothing new
-pub stays : (s : State) (Commits : Trees → Type 0) → Survives s s Commits
-stays s Commits = record { clean = omega arith; shield = λ h. h; counts = omega arith; limit = refl; closes = λ _ up. inl up; crash = λ _ db left. inl left }
 
 -- a refusal, whatever its fault
 pub unprepared : {S : Type 0} (g : Ghosts S) (site : TextOfSite) (old new : Held S)
@@ -249,21 +246,20 @@ module _ {S : Type 0} (g : Ghosts S) (site : TextOfSite) (old new : Held S) (cal
         (λ other. absurd (other refl))
         (survives_weaker _ _ _ _ (λ clean db none. absurd none) tests.crash)
 
-  -- a store that was tested is refused
-  pub refused : (fault : OpenFault) (Says : Database → Type 0) → Examines g site old new (Err fault) Says → PreparesTables g site old new (Err fault)
-  refused fault Says test = unprepared g site old new fault test.mode test.refused
-      (λ clean.
-      record {
-        was_open = (test.rests clean).was_open;
-        committed = (test.rests clean).committed;
-      })
-      (λ other. record { same = λ clean. test.shown clean other; crash = test.crash })
-      (survives_weaker _ _ _ _ (λ clean db none. absurd none) test.crash)
+-- a store that was tested is refused by the fault of the test
+pub refused : {S : Type 0} (g : Ghosts S) (site : TextOfSite) {old new : Held S} {fault : OpenFault} {Says : Database → Type 0}
+    (result : Result (Unit {0}) OpenFault) → IsErrAnd result (λ told. told ≡ fault) → Examines g site old new (Err fault) Says
+    → PreparesTables g site old new result
+refused g site {old = old} {new = new} {fault = fault} result is test = is_err (λ r. PreparesTables g site old new r) result fault is
+    (unprepared g site old new fault test.mode test.refused
+    (λ clean. record { was_open = (test.rests clean).was_open; committed = (test.rests clean).committed })
+    (λ other. record { same = λ clean. test.shown clean other; crash = test.crash })
+    (survives_weaker _ _ _ _ (λ clean db none. absurd none) test.crash))
 
 -- tables that are prepared after a test are prepared
-pub prepared_after : {S : Type 0} (g : Ghosts S) (site : TextOfSite) (old mid new : Held S) (r : Result (Unit {0}) OpenFault) (Says : Database → Type 0)
+pub prepared_after : {S : Type 0} (g : Ghosts S) (site : TextOfSite) {old mid new : Held S} {r : Result (Unit {0}) OpenFault} {Says : Database → Type 0}
     → Examines g site old mid (Ok tt) Says → PreparesTables g site mid new r → PreparesTables g site old new r
-prepared_after g site old mid new r Says test it = record {
+prepared_after {S = S} g site {old = old} {mid = mid} {new = new} {r = r} test it = record {
   mode = it.mode;
   ready = it.ready;
   was = λ clean. of_before r (λ d. (absent : Absent) → ¬ LacksStore absent d → IsTaken absent d.trees) (same clean) (it.was clean);
@@ -272,9 +268,7 @@ prepared_after g site old mid new r Says test it = record {
   unchanged = λ clean. keeps r (test.same (calm clean)) (it.unchanged clean);
   untouched = untouched_too r it.untouched;
   crash = survives_then (state g old) (state g mid) (state g new) _ _ (IsPreparedFor site (state g old)) (λ _ db none. absurd none)
-      (λ clean db whole.
-      subst (λ (d : Database).
-      IsPreparedFor site (record (state g old) { committed = d }) db)
+      (λ clean db whole. subst (λ (d : Database). IsPreparedFor site (record (state g old) { committed = d }) db)
       (test.same (calm clean)).0.committed_is whole) test.crash it.crash;
 }
   where

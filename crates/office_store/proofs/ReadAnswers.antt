@@ -3,11 +3,10 @@ use Rattle.std.proofs.Common.{◌≡◌, ℕ, List, inl, inr, false, refl, sym, 
 use Rattle.std.specs.Result.{result_ok}
 use Rattle.office_sql.proofs.Kit.{Database, Held, state, Error, State, HasCleanDisk, IsUnchanged, clean_if_open}
 use Rattle.sqlite.specs.Store.{Ghosts}
-use Rattle.office_tables.specs.Prelude.{Tables, LooksUp}
+use Rattle.office_tables.specs.Prelude.{Tables}
 use Rattle.office_sql.specs.Prelude.{SqlReads, Rests, IsReady, IsOffice, tables_in}
 use Rattle.office_sql.proofs.Resting.{same_now}
-use Rattle.office_store.specs.Prelude.{fuse_map_at, Kept, RemembersRight, tables_of, is_open_at, is_honest_at, may_leave_at, tells_text_at, commits_at}
-use Rattle.office_store.specs.Prelude.{LooksUpBySql}
+use Rattle.office_store.specs.Prelude.{fuse_map_at, Kept, LooksUpBySql, RemembersRight, tables_of, is_open_at}
 use Rattle.fusemap_core.specs.Numbers.{AreMapsOfNumbers}
 use Rattle.fusemap_core.specs.declared.numbered.NumberCache.{NumberCache}
 
@@ -33,25 +32,27 @@ ShutsIfDirty {S = S} g = (store : S) → (g.view store).is_clean ≡ false → (
 pub clean_at : {S : Type 0} (g : Ghosts S) → ShutsIfDirty g → (h : Held S) → IsTrue (state g h).is_open → HasCleanDisk (state g h)
 clean_at g shuts h = clean_if_open (g.view h.store) (shuts h.store)
 
-module _ {S : Type 0} (g : Ghosts S) (shuts : ShutsIfDirty g) (old new : Held S) (ready : IsReady (state g old)) where
-  clean : IsTrue (state g new).is_open → HasCleanDisk (state g new)
-  clean = clean_at g shuts new
-
+-- a read by a keeper, of whose value the connection is a part
+module _ {S : Type 0} (g : Ghosts S) (shuts : ShutsIfDirty g) {old new : Held S} {maps : NumberCache} {owner : List ℕ}
+    (is_kept : RemembersRight g old owner maps) where
   -- what is asked of a connection at rest is what a keeper answers
-  pub answers : {A F : Type 0} (r : Result A Error) (q : Result A F) (Says : Tables → A → Type 0) → result_ok q ≡ result_ok r → SqlReads g old new r Says
-      → LooksUp (is_open_at g) (is_honest_at g) (may_leave_at g) (tells_text_at g) (tables_of g) commits_at old new q Says
-  answers {A = A} r q Says is asks = record {
-    read_only = record {
-      was_open = λ up. (asks.rests (clean up)).was_open up;
-      same = λ up. ap (λ (d : Database). tables_in d.trees) ((asks.rests (clean up)).committed up);
-      was_honest = λ honest. omega (arith, asks.crash.clean, honest);
-      crash = λ honest t h. elim (asks.crash.crash honest h.0 h.1) [ inl m ↦ (h.0, m, h.2) | inr none ↦ absurd none ];
-      text = λ honest text tells db may. elim (asks.crash.crash honest db may) [ inl m ↦ tells db m | inr none ↦ absurd none ];
-      uncommitted = refl;
-    };
-    stays_open = λ honest. if_ok (λ _. is_open_at g new) r q is (open_after r (asks.same honest));
-    answer = λ up. if_ok (Says (tables_of g old)) r q is (said r (asks.same (clean up)) (asks.answer (clean up)));
-  }
+  pub answered : {A F : Type 0} {site : List ℕ} {self : Kept S} → record { conn = old; site = site } ≡ self
+      → {r : Result A Error} {Says : Tables → A → Type 0} (q : Result A F) → result_ok q ≡ result_ok r → SqlReads g old new r Says
+      → LooksUpBySql g self (record { conn = new; site = site }) q Says
+  answered {A = A} {site = site} view {r = r} {Says = Says} q is asks =
+      let clean = clean_at g shuts new in
+      subst (λ k. LooksUpBySql g k (record { conn = new; site = site }) q Says) view (record {
+        read_only = record {
+          was_open = λ up. (asks.rests (clean up)).was_open up;
+          same = λ up. ap (λ (d : Database). tables_in d.trees) ((asks.rests (clean up)).committed up);
+          was_honest = λ honest. omega (arith, asks.crash.clean, honest);
+          crash = λ honest t h. elim (asks.crash.crash honest h.0 h.1) [ inl m ↦ (h.0, m, h.2) | inr none ↦ absurd none ];
+          text = λ honest text tells db may. elim (asks.crash.crash honest db may) [ inl m ↦ tells db m | inr none ↦ absurd none ];
+          uncommitted = refl;
+        };
+        stays_open = λ honest. if_ok (λ _. is_open_at g new) r q is (open_after r (asks.same honest));
+        answer = λ up. if_ok (Says (tables_of g old)) r q is (said r (asks.same (clean up)) (asks.answer (clean up)));
+      })
     where
       open_after : (r : Result A Error) → OnOk r (IsUnchanged (state g old) (state g new)) → IfOk r (λ _. is_open_at g new)
       open_after (Ok x) same = same.0.is_open
@@ -59,61 +60,26 @@ module _ {S : Type 0} (g : Ghosts S) (shuts : ShutsIfDirty g) (old new : Held S)
 
       said : (r : Result A Error) → OnOk r (IsUnchanged (state g old) (state g new))
           → IfOk r (Says (tables_in (state g old).now.trees)) → IfOk r (Says (tables_of g old))
-      said (Ok x) same h = subst (λ (d : Database). Says (tables_in d.trees) x) (ready.shows_committed same.0.was_open) h
+      said (Ok x) same h = subst (λ (d : Database). Says (tables_in d.trees) x) (is_kept.ready.shows_committed same.0.was_open) h
       said (Err e) same h = tt
 
   -- the tables after a read are those that it saw
-  pub same_tables : {A : Type 0} (r : Result A Error) (Says : Tables → A → Type 0)
-      → SqlReads g old new r Says → IsTrue (state g new).is_open
+  pub same_tables : {A : Type 0} {r : Result A Error} {Says : Tables → A → Type 0} → SqlReads g old new r Says → IsTrue (state g new).is_open
       → tables_of g new ≡ tables_in (state g old).now.trees
-  same_tables r Says asks up =
-      let rests = asks.rests (clean up) in
-      ap (λ (d : Database). tables_in d.trees) (rests.committed up ∙ sym (ready.shows_committed (rests.was_open up)))
-
-  -- a connection is ready after a read
-  pub still_ready : {A : Type 0} (r : Result A Error) (Says : Tables → A → Type 0) → SqlReads g old new r Says → IsReady (state g new)
-  still_ready r Says asks = rested (state g old) (state g new) ready (λ up. asks.rests (clean up)) (asks.mode ready.mode)
-
--- what is said of a connection is said of a keeper that has it
-pub told : {S A F : Type 0} (g : Ghosts S) (old new : Held S) (site : List ℕ) (self : Kept S)
-    → record { conn = old; site = site } ≡ self → (q : Result A F) (Says : Tables → A → Type 0)
-    → LooksUp (is_open_at g) (is_honest_at g) (may_leave_at g) (tells_text_at g) (tables_of g) commits_at old new q Says
-    → LooksUpBySql g self (record { conn = new; site = site }) q Says
-told g old new site self view q Says it = subst (λ k. LooksUpBySql g k (record { conn = new; site = site }) q Says) view (record {
-  read_only = record {
-    was_open = it.read_only.was_open;
-    same = it.read_only.same;
-    was_honest = it.read_only.was_honest;
-    crash = it.read_only.crash;
-    text = it.read_only.text;
-    uncommitted = refl;
-  };
-  stays_open = it.stays_open;
-  answer = it.answer;
-})
-
--- what is read by a keeper, of whose value the connection is a part
-module _ {S : Type 0} (g : Ghosts S) (shuts : ShutsIfDirty g) (old new : Held S) {maps : NumberCache} {owner : List ℕ}
-    (is_kept : RemembersRight g old owner maps) where
-  pub answered : {A F : Type 0} {site : List ℕ} (self : Kept S)
-      → record { conn = old; site = site } ≡ self
-      → (r : Result A Error) (q : Result A F) (Says : Tables → A → Type 0)
-      → result_ok q ≡ result_ok r → SqlReads g old new r Says
-      → LooksUpBySql g self (record { conn = new; site = site }) q Says
-  answered {site = site} self view r q Says is asks = told g old new site self view q Says (answers g shuts old new is_kept.ready r q Says is asks)
+  same_tables asks up =
+      let rests = asks.rests (clean_at g shuts new up) in
+      ap (λ (d : Database). tables_in d.trees) (rests.committed up ∙ sym (is_kept.ready.shows_committed (rests.was_open up)))
 
   -- the keeper is as good as before, and so are its maps
-  pub ready_after : {A : Type 0} (r : Result A Error) (Says : Tables → A → Type 0) → SqlReads g old new r Says → RemembersRight g new owner maps
-  ready_after r Says asks = record {
-    ready = still_ready g shuts old new is_kept.ready r Says asks;
+  pub ready_after : {A : Type 0} {r : Result A Error} {Says : Tables → A → Type 0} → SqlReads g old new r Says → RemembersRight g new owner maps
+  ready_after asks = record {
+    ready = rested (state g old) (state g new) is_kept.ready (λ up. asks.rests (clean_at g shuts new up)) (asks.mode is_kept.ready.mode);
     right = λ up. let rests = asks.rests (clean_at g shuts new up) in
         subst (λ (d : Database). AreMapsOfNumbers (fuse_map_at (tables_in d.trees)) maps) (sym (rests.committed up)) (is_kept.right (rests.was_open up));
-    left = λ honest db may.
-        elim (asks.crash.crash honest db may) [
-          | inl m ↦ is_kept.left (omega (arith, asks.crash.clean, honest))
-              db m
-          | inr none ↦ absurd none
-        ];
+    left = λ honest db may. elim (asks.crash.crash honest db may) [
+      | inl m ↦ is_kept.left (omega (arith, asks.crash.clean, honest)) db m
+      | inr none ↦ absurd none
+    ];
   }
 
 -- a connection that is ready where it is open is ready

@@ -6,19 +6,18 @@ use Rattle.sha2.specs.Sha256.{sha256}
 use Rattle.site_core.specs.Prelude.{TextOfSite}
 use Rattle.office_sql.proofs.Kit.{Row, Database, Held, state, HasCleanDisk, IsUnchanged, Trees, Error, survives_then, unchanged_then}
 use Rattle.sqlite.specs.Store.{Ghosts}
-use Rattle.office_store.proofs.Types.{OpenFault, OtherSite, OtherTables, Failed, Meta, Version, V1a, V1b, V1, V3}
+use Rattle.office_store.proofs.Types.{OpenFault, OtherSite, OtherTables, Failed, Meta, Version, V2, V3}
 use Rattle.office_store.specs.Prelude.{AreValidityRowsAsked, CanTake, Examines, HasOtherRows, HasOtherTables, IsFoundAt, IsOfOtherSite, IsOther, IsShownText}
 use Rattle.office_store.specs.Prelude.{IsGrownFrom, ShowsSame, TellsOther, result_of_test}
 use Rattle.store_inspection.specs.Prelude.{HasValidityRows, IsFound, Tests, meta_of_version, metas_in, IsMetaOf, HasMeta, ShowSiteTexts, number_of_version}
 use Rattle.store_inspection.specs.Prelude.{schema_of}
 use Rattle.office_sql.proofs.Asked.{was_clean}
-use Rattle.store_inspection.proofs.FoundAsked.{rests_then, still_found}
+use Rattle.store_inspection.proofs.FoundAsked.{rests_then, still_so}
 use Rattle.store_inspection.proofs.MetaShows.{no_site}
 use Rattle.office_store.proofs.Telling.{shown_tells, tells_shown}
 
 -- what holds of an error holds of a result that is it
-pub is_err : {A : Type 0} (X : Result A OpenFault
-    → Type 0) (result : Result A OpenFault) (fault : OpenFault)
+pub is_err : {A : Type 0} (X : Result A OpenFault → Type 0) (result : Result A OpenFault) (fault : OpenFault)
     → IsErrAnd result (λ told. told ≡ fault) → X (Err fault) → X result
 is_err X (Ok _) fault is x = absurd is
 is_err X (Err told) fault is x = subst (λ f. X (Err f)) (sym is) x
@@ -31,36 +30,34 @@ is_other site _ db earlier other = other
 -- in a store of an earlier version and this site in which beginnings of validity are told, they are asked for
 pub are_asked : (site : List ℕ) (version : Version) (db : Trees) → version ≢ V3 → number_of_version version ≢ 1
     → HasMeta version site db → AreValidityRowsAsked site version db
-are_asked site V1a db earlier later told = absurd (later refl)
-are_asked site V1b db earlier later told = absurd (later refl)
-are_asked site V1 db earlier later told = absurd (later refl)
+are_asked site V2 db earlier later told = told
 are_asked site V3 db earlier later told = absurd (earlier refl)
-are_asked site _ db earlier later told = told
+are_asked site _ db earlier later told = absurd (later refl)
 
 -- what was found is there after a test
-pub found_after : {S : Type 0} (g : Ghosts S) (site : TextOfSite) (old mid : Held S)
-    (Says : Database → Type 0) (version : Version) → Examines g site old mid (Ok tt) Says
+pub found_after : {S : Type 0} (g : Ghosts S) (site : TextOfSite) {old mid : Held S} {Says : Database → Type 0} (version : Version)
+    → Examines g site old mid (Ok tt) Says
     → (HasCleanDisk (state g old) → (state g old).now ≡ (state g old).committed)
     → (HasCleanDisk (state g old) → Says (state g old).now → IsFound version (state g old).now) → IsFoundAt version (state g mid)
-found_after g site old mid Says version test shows_committed found =
+found_after g site {old = old} {mid = mid} version test shows_committed found =
     let before = was_clean (state g old) (state g mid) _ test.crash in
     record {
       mode = test.mode;
       shows_committed = λ clean. let same = (test.same clean).0 in same.now_is ∙ shows_committed (before clean) ∙ sym same.committed_is;
-      found = λ clean. still_found version (test.same clean) (found (before clean) (test.answer clean));
+      found = λ clean. still_so (IsFound version) (test.same clean) (found (before clean) (test.answer clean));
     }
 
 -- what a test says is so after it
-pub says_of : {S : Type 0} (g : Ghosts S) (site : TextOfSite) (old mid : Held S) (Says : Database → Type 0) → Examines g site old mid (Ok tt) Says
+pub says_of : {S : Type 0} (g : Ghosts S) (site : TextOfSite) {old mid : Held S} {Says : Database → Type 0} → Examines g site old mid (Ok tt) Says
     → HasCleanDisk (state g mid) → Says (state g mid).now
-says_of g site old mid Says test clean = subst Says (sym (test.same clean).0.now_is) (test.answer clean)
+says_of g site {Says = Says} test clean = subst Says (sym (test.same clean).0.now_is) (test.answer clean)
 
 module _ {S : Type 0} (g : Ghosts S) (site : TextOfSite) where
   -- one test after another
-  pub examines_then : (old mid new : Held S) (r : Result (Unit {0}) OpenFault) (P Q R : Database
-      → Type 0) → Examines g site old mid (Ok tt) P → Examines g site mid new r Q
+  pub examines_then : {old mid new : Held S} {r : Result (Unit {0}) OpenFault} {P Q R : Database → Type 0}
+      → Examines g site old mid (Ok tt) P → Examines g site mid new r Q
       → (HasCleanDisk (state g old) → P (state g old).now → Q (state g old).now → R (state g old).now) → Examines g site old new r R
-  examines_then old mid new r P Q R one two both = record {
+  examines_then {old = old} {mid = mid} {new = new} {r = r} {P = P} {Q = Q} {R = R} one two both = record {
     answer = λ clean. said r (one.answer (calm clean)) (one.same (calm clean)) (before (calm clean)) (two.answer clean);
     same = λ clean. same r (one.same (calm clean)) (two.same clean);
     rests = λ clean. rests_then (state g old) (state g mid) (state g new) (one.same (calm clean)) (two.rests clean);
@@ -93,11 +90,11 @@ module _ {S : Type 0} (g : Ghosts S) (site : TextOfSite) where
       shown (Ok _) h k = tt
       shown (Err _) h k = λ other. k other ∙ h.0.now_is
 
-  -- a test that is not passed says nothing
-  pub says_nothing : (old new : Held S) (fault : OpenFault) (P Q : Database → Type 0)
-      → Examines g site old new (Err fault) P → Examines g site old new (Err fault) Q
-  says_nothing old new fault P Q it = record {
-    answer = λ clean. tt;
+  -- what follows from what a test says is said by it
+  pub examines_of : {old new : Held S} {r : Result (Unit {0}) OpenFault} {P Q : Database → Type 0} → Examines g site old new r P
+      → (OnOk r (P (state g old).now) → OnOk r (Q (state g old).now)) → Examines g site old new r Q
+  examines_of it says = record {
+    answer = λ clean. says (it.answer clean);
     same = it.same;
     rests = it.rests;
     mode = it.mode;
@@ -106,18 +103,11 @@ module _ {S : Type 0} (g : Ghosts S) (site : TextOfSite) where
     crash = it.crash;
   }
 
-  -- a test that is passed says what follows from what it says
-  pub examines_weaker : (old new : Held S) (P Q : Database → Type 0) → Examines g site old new (Ok tt) P
-      → (HasCleanDisk (state g old) → P (state g old).now → Q (state g old).now) → Examines g site old new (Ok tt) Q
-  examines_weaker old new P Q it says = record {
-    answer = λ clean. says (was_clean (state g old) (state g new) _ it.crash clean) (it.answer clean);
-    same = it.same;
-    rests = it.rests;
-    mode = it.mode;
-    refused = it.refused;
-    shown = it.shown;
-    crash = it.crash;
-  }
+  -- a test that is not passed says nothing
+  pub says_nothing : {old new : Held S} {fault : OpenFault} {P Q : Database → Type 0} (result : Result (Unit {0}) OpenFault)
+      → IsErrAnd result (λ told. told ≡ fault) → Examines g site old new (Err fault) P → Examines g site old new result Q
+  says_nothing {old = old} {new = new} {fault = fault} {Q = Q} result is it =
+      is_err (λ r. Examines g site old new r Q) result fault is (examines_of it (λ _. tt))
 
 -- ---- tests of a connection at rest to a database whose schema is a version's
 
@@ -259,9 +249,9 @@ module _ {S : Type 0} (g : Ghosts S) (site : TextOfSite) (old mid new : Held S) 
       → (r : Result Bool Error) → Tests g mid new r (λ db has. IsTrue has ↔ HasValidityRows db)
       → (told : Result (Unit {0}) OpenFault) → told ≡ result_of_test r → Examines g site old new told Whole
   validity_asked version Known Whole one known whole r tests told is =
-      let found = found_after g site old mid Known version one shows_committed (λ clean it. (known (state g old).now it).0) in
-      examines_then g site old mid new told Known (λ (db : Database). HasValidityRows db.trees) Whole one
+      let found = found_after g site version one shows_committed (λ clean it. (known (state g old).now it).0) in
+      examines_then g site one
       (answered g site mid new calm version found.mode found.shows_committed (λ clean. (found.found clean).schema) HasValidityRows
       (λ (db : Database). HasValidityRows db.trees) (λ clean has. has)
-      (λ clean lacks. inr (inr (inl ((known (state g mid).now (says_of g site old mid Known one clean)).1, lacks))))
+      (λ clean lacks. inr (inr (inl ((known (state g mid).now (says_of g site one clean)).1, lacks))))
       r tests told is) (λ clean it has. whole (state g old).now it has)

@@ -17,6 +17,16 @@ pub run_says : {S : Type 0} (g : Ghosts S) (text : SqlText) (site : List ℕ) (x
     → HasRun g text site x y → Says x y
 run_says g text site x y Says says it = subst₂ Says it.was it.is (says (state g it.old) (state g it.new) it.count it.ran)
 
+-- a call changes what each run of its text does
+pub ran_so : {S : Type 0} (g : Ghosts S) (sql : List ℕ) (Says : Database → Database → Type 0) (old new : Held S) (params values : Row) (count : ℕ)
+    → ((n : ℕ) → Executes sql values (state g old) (state g new) (Ok n) → Says (state g old).now (state g new).now) → params ≡ values
+    → (old.in_transaction ≡ false → (Ok count ≡ Err (SqliteFailure TransactionState)) × (new ≡ old))
+    → (HasCleanDisk (state g new) → IsTrue old.in_transaction → ExecutesInside 0 sql params (state g old) (state g new) (Ok count))
+    → Survives (state g old) (state g new) (λ _. ⊥) → SqlWrites {A = Unit {0}} {E = Error} g old new (Ok tt) (λ x y _. Says x y)
+ran_so g sql Says old new params values count says bound ended runs survives =
+    done g old new count tt (λ x y _. Says x y) (λ x y _. Says x y)
+    (changed g sql params values bound old new (Ok count) (λ x y _. Says x y) (λ n up ran. says n ran) ended runs survives) (λ x y h. h)
+
 -- a call with what the text takes runs it
 pub step_run : {S : Type 0} (g : Ghosts S) (text : SqlText) (site : List ℕ) (old new : Held S) (params values : Row) (count : ℕ)
     → params ≡ values → values ≡ taken text.takes site
@@ -24,10 +34,8 @@ pub step_run : {S : Type 0} (g : Ghosts S) (text : SqlText) (site : List ℕ) (o
     → (HasCleanDisk (state g new) → IsTrue old.in_transaction → ExecutesInside 0 text.sql params (state g old) (state g new) (Ok count))
     → Survives (state g old) (state g new) (λ _. ⊥) → SqlWrites {A = Unit {0}} {E = Error} g old new (Ok tt) (λ x y _. HasRun g text site x y)
 step_run g text site old new params values count bound takes ended runs survives =
-    done g old new count tt (λ x y _. HasRun g text site x y) (λ x y _. HasRun g text site x y)
-    (changed g text.sql params (taken text.takes site) (bound ∙ takes) old new (Ok count) (λ x y _. HasRun g text site x y)
-    (λ n up ran. record { old = old; new = new; count = n; was = refl; is = refl; ran = ran }) ended runs survives)
-    (λ x y h. h)
+    ran_so g text.sql (HasRun g text site) old new params (taken text.takes site) count
+    (λ n ran. record { old = old; new = new; count = n; was = refl; is = refl; ran = ran }) (bound ∙ takes) ended runs survives
 
 module _ {S : Type 0} (g : Ghosts S) (site : List ℕ) where
   -- no text was run yet, or the first ones were

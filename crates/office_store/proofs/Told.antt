@@ -1,8 +1,8 @@
 -- What the texts that tell of the store itself do to meta and to the text of the site.
-use Rattle.std.proofs.Common.{◌≡◌, ◌≢◌, ◌∙◌, ◌∷◌, ℕ, pos, negsuc, List, [], map, true, refl, sym, ap, is_eq}
+use Rattle.std.proofs.Common.{◌≡◌, ◌≢◌, ◌∙◌, ◌∷◌, ℕ, pos, List, [], map, true, refl, sym, ap, is_eq}
 use Rattle.std.proofs.lemmas.Cmp.{tied_itself}
 use Rattle.sha2.specs.Sha256.{sha256}
-use Rattle.office_sql.proofs.Kit.{Value, Null, Int, Real, Row, column, rowid, Term, lit, col, op2, eval_all, Binary, Eq, Compare, Database, IsDatabase, Trees}
+use Rattle.office_sql.proofs.Kit.{Value, Null, Int, Row, column, rowid, Term, lit, col, op2, eval_all, Binary, Eq, Compare, Database, IsDatabase, Trees}
 use Rattle.office_sql.proofs.Kit.{has_rowid, put_row, without_rowid, cast_row, value_cmp_total}
 use Rattle.sqlite.specs.declared.types.Value.TheVariants.{Text as Words, Blob as Bytes}
 use Rattle.sqlite.specs.Listing.{understood}
@@ -110,11 +110,7 @@ alone (r ∷ s ∷ rows) m is = absurd (let two = is in cc)
 -- a number stands for itself alone, unless it is 0
 the_number : (n : ℕ) → n ≢ 0 → (v : Value) → number_in_cell v ≡ n → v ≡ Int (pos n)
 the_number n some (Int (pos m)) e = ap (λ k. Int (pos k)) e
-the_number n some (Int (negsuc m)) e = absurd (some (sym e))
-the_number n some Null e = absurd (some (sym e))
-the_number n some (Real x) e = absurd (some (sym e))
-the_number n some (Words t) e = absurd (some (sym e))
-the_number n some (Bytes b) e = absurd (some (sym e))
+the_number n some _ e = absurd (some (sym e))
 
 -- the row in place of the one
 replaced : (r new : Row) → rowid r ≡ Int (pos 1) → put_row new (without_rowid (pos 1) (r ∷ [])) ≡ new ∷ []

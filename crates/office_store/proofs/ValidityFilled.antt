@@ -2,15 +2,15 @@
 use Rattle.std.proofs.Common.{◌≡◌, ◌∷◌}
 use Rattle.text_core.proofs.Kit.{ℕ, ℤ, Bool, true, false, cond, Some, None, find, option_and_then, ap, List, [], Ok, refl, sym, subst, append-nil}
 use Rattle.text_core.proofs.Kit.{AllByRecursion, is_eq, IsPermutation-trans}
-use Rattle.office_sql.proofs.Kit.{Null, Int, Row, column, Term, lit, col, eval_all, Collation, Binary, Database, IsDatabase, State, Executes, cast_row}
+use Rattle.office_sql.proofs.Kit.{Null, Int, Row, column, Term, lit, col, eval_all, Collation, Binary, Database, IsDatabase, State, Trees, Executes, cast_row, overlay}
 use Rattle.office_sql.proofs.Kit.{IsPermutation-same}
 use Rattle.sqlite.specs.Listing.{understood}
 use Rattle.sqlite.specs.Source.TheVariants.{Query as Selected}
 use Rattle.sqlite_tied.specs.Compute.{everything}
-use Rattle.office_sql.specs.Prelude.{orders, given, order_starts, given_starts, order_start_table, given_start_table, rows_in, not_before_in_rows, text_if, env}
-use Rattle.office_sql.specs.Prelude.{order_in_row, given_in_row, HaveOneValidityRow, IsText, IsOrderRow, IsGivenRow}
+use Rattle.office_sql.specs.Prelude.{rows_in, table_of, tree_of, not_before_in_rows, text_if, env}
+use Rattle.office_sql.specs.Prelude.{order_in_row, given_in_row, HaveOneValidityRow, IsText}
 use Rattle.office_sql.proofs.Filled.{news_of, numbered_made, grows, validity_made, each_made}
-use Rattle.office_sql.proofs.Filling.{Fills, fills, shown_of}
+use Rattle.office_sql.proofs.Filling.{fills, shown_of}
 use Rattle.office_sql.proofs.Inserting.{IsInsertOf}
 use Rattle.office_sql.proofs.OrderTexts.{as_orders, order_tied, orders_validity}
 use Rattle.office_sql.proofs.GivenTexts.{as_given, given_tied, records_validity}
@@ -58,12 +58,23 @@ pub record GainsNone {A : Type 0} (t : TableOf A) (v : HasValidity t) (old new :
 abbrev FillsSilently : {A : Type 0} (t : TableOf A) → HasValidity t → Database → Database → Type 0
 FillsSilently t v old new = LacksValidity t v old → GainsNone t v old new
 
-filled : {A : Type 0} (t : TableOf A) (v : HasValidity t)
+abbrev pub FillsOrders : Database → Database → Type 0
+FillsOrders = FillsSilently as_orders orders_validity
+
+abbrev pub FillsGiven : Database → Database → Type 0
+FillsGiven = FillsSilently as_given records_validity
+
+filled : {A : Type 0} (t : TableOf A) (v : HasValidity t) (sql : List ℕ)
+    → IsInsertOf (schema_of V2) sql v.side (Selected (shown_of t.name plainly fill_shown))
+    → ((db : Trees) → overlay db [] (tree_of t.name) ≡ rows_in db t.name)
+    → ((r : Row) → t.Typed r → cast_row (table_of v.side) (eval_all fill_shown (env [] r)) ≡ Null ∷ silent_columns r)
     → ((a : A) (id : ℤ) (r : Row) → t.Typed r → v.is_for a (Int id ∷ silent_columns r) ≡ is_eq (t.cmp a (t.value r)))
-    → ((r : Row) → t.Typed r → IsText 1 r × IsText 2 r) → (old new : Database) → AreRowsAs t (rows_in old.trees t.name)
-    → Fills (schema_of V2) silent_columns t.name v.side old new → GainsNone t v old new
-filled t v tied texts old new are it =
-    let rows = rows_in old.trees t.name in
+    → ((r : Row) → t.Typed r → IsText 1 r × IsText 2 r)
+    → (old new : State) (count : ℕ) → Executes sql [] old new (Ok count) → FillsSilently t v old.now new.now
+filled t v sql fill there casts tied texts old new count ran lacks =
+    let rows = rows_in old.now.trees t.name in
+    let it = fills (schema_of V2) sql v.side t.name plainly fill_shown fill there [] t.Typed silent_columns casts old new count
+    lacks.schema lacks.none lacks.rows.typed ran in
     let news = news_of silent_columns [] it.kept in
     let grown = grows silent_columns it.kept [] tt tt in
     let made = numbered_made silent_columns [] it.kept in
@@ -72,44 +83,20 @@ filled t v tied texts old new are it =
       schema = it.schema;
       sound = it.sound;
       validity = subst (HaveOneValidityRow v.is_for t.value rows) (sym it.rows)
-          (validity_made t v silent_columns tied (λ id r e. texts r e) rows it.kept news _ are it.along made grown.rising grown.numbered same);
+          (validity_made t v silent_columns tied (λ id r e. texts r e) rows it.kept news _ lacks.rows it.along made grown.rising grown.numbered same);
       silent = subst (AllByRecursion (λ s. column s 3 ≡ Null)) (sym it.rows)
           (each_made silent_columns (λ s. column s 3 ≡ Null) it.kept news _ made same (λ id r. refl));
-      others = first_but 10 11 v.side old.trees new.trees it.others;
+      others = first_but 10 11 v.side old.now.trees new.now.trees it.others;
     }
 
--- ---- validity rows of orders
-
-order_fill : IsInsertOf (schema_of V2) INSERT_NULL_INTO_ORDER_START.now order_starts (Selected (shown_of orders plainly fill_shown))
-unfolding understood everything
-order_fill = record { is = refl; plain = (refl, refl); there = refl; uncounted = refl; unstamped = refl }
-
-order_casts : (r : Row) → IsOrderRow r → cast_row order_start_table (eval_all fill_shown (env [] r)) ≡ Null ∷ silent_columns r
-order_casts r e = rw (cast_null, e.0, e.1) refl
-
-abbrev pub FillsOrders : Database → Database → Type 0
-FillsOrders = FillsSilently as_orders orders_validity
-
 pub orders_filled : (old new : State) (count : ℕ) → Executes INSERT_NULL_INTO_ORDER_START.now [] old new (Ok count) → FillsOrders old.now new.now
-orders_filled old new count ran lacks =
-    filled as_orders orders_validity (λ a id r e. sym (order_tied a (order_in_row r))) (λ r e. (e.0, e.1)) old.now new.now lacks.rows
-    (fills (schema_of V2) INSERT_NULL_INTO_ORDER_START.now order_starts orders plainly fill_shown order_fill (λ db. refl) []
-    IsOrderRow silent_columns order_casts old new count lacks.schema lacks.none lacks.rows.typed ran)
-
--- ---- validity rows of records
-
-given_fill : IsInsertOf (schema_of V2) INSERT_NULL_INTO_GIVEN_START.now given_starts (Selected (shown_of given plainly fill_shown))
 unfolding understood everything
-given_fill = record { is = refl; plain = (refl, refl); there = refl; uncounted = refl; unstamped = refl }
-
-given_casts : (r : Row) → IsGivenRow r → cast_row given_start_table (eval_all fill_shown (env [] r)) ≡ Null ∷ silent_columns r
-given_casts r e = rw (cast_null, e.0, e.1) refl
-
-abbrev pub FillsGiven : Database → Database → Type 0
-FillsGiven = FillsSilently as_given records_validity
+orders_filled = filled as_orders orders_validity INSERT_NULL_INTO_ORDER_START.now
+    (record { is = refl; plain = (refl, refl); there = refl; uncounted = refl; unstamped = refl }) (λ db. refl)
+    (λ r e. rw (cast_null, e.0, e.1) refl) (λ a id r e. sym (order_tied a (order_in_row r))) (λ r e. (e.0, e.1))
 
 pub given_filled : (old new : State) (count : ℕ) → Executes INSERT_NULL_INTO_GIVEN_START.now [] old new (Ok count) → FillsGiven old.now new.now
-given_filled old new count ran lacks =
-    filled as_given records_validity (λ a id r e. sym (given_tied a (given_in_row r))) (λ r e. (e.0, e.1)) old.now new.now lacks.rows
-    (fills (schema_of V2) INSERT_NULL_INTO_GIVEN_START.now given_starts given plainly fill_shown given_fill (λ db. refl) []
-    IsGivenRow silent_columns given_casts old new count lacks.schema lacks.none lacks.rows.typed ran)
+unfolding understood everything
+given_filled = filled as_given records_validity INSERT_NULL_INTO_GIVEN_START.now
+    (record { is = refl; plain = (refl, refl); there = refl; uncounted = refl; unstamped = refl }) (λ db. refl)
+    (λ r e. rw (cast_null, e.0, e.1) refl) (λ a id r e. sym (given_tied a (given_in_row r))) (λ r e. (e.0, e.1))

@@ -24,6 +24,10 @@ use Rattle.station_cli.specs.declared.job.Job.TheVariants.{CheckMap, CheckSite, 
 use Rattle.station_cli.specs.declared.job.StoreName.{StoreName}
 use Rattle.text_core.specs.Prelude.{result_and_then}
 
+-- what a job that reads nothing of its input finds, and leaves
+abbrev pub unread : (input output_old output_new : Option (List ℕ)) → Traffic
+unread input output_old output_new = record { input_old = input; input_new = input; output_old = output_old; output_new = output_new }
+
 -- ---- the file that a job reads first
 
 -- the file can't be read, or its text has a fault

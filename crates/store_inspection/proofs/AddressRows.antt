@@ -82,9 +82,7 @@ module _ (r : Row) (texts : List (List ℕ)) (rows : List Row) (later : texts �
   one_shown (Words t) is typed =
       ap (λ v. cons_option (text_if v) texts) (sym is) ∙ ap₂ ◌∷◌ (ap bytes is) later
       ∙ sym (ap (λ b. map text (cond b (r ∷ rows) rows)) (is_passed r t is))
-  one_shown (Int n) is typed = absurd (let e = typed in cc)
-  one_shown (Real x) is typed = absurd (let e = typed in cc)
-  one_shown (Bytes b) is typed = absurd (let e = typed in cc)
+  one_shown _ is typed = absurd (let e = typed in cc)
 
 -- the texts of the rows that pass are those of the rows that have one
 shown_texts : (rows : List Row) → AllByRecursion (IsTextIf 6) rows
@@ -97,9 +95,7 @@ one_typed : (r : Row) (rows : List Row) → AllByRecursion IsWords rows → (v :
 one_typed r rows later Null is typed = subst (λ b. AllByRecursion IsWords (cond b (r ∷ rows) rows)) (sym (is_left r is)) later
 one_typed r rows later (Words t) is typed =
     subst (λ b. AllByRecursion IsWords (cond b (r ∷ rows) rows)) (sym (is_passed r t is)) (sym is ∙ ap (λ v. Words (bytes v)) is, later)
-one_typed r rows later (Int n) is typed = absurd (let e = typed in cc)
-one_typed r rows later (Real x) is typed = absurd (let e = typed in cc)
-one_typed r rows later (Bytes b) is typed = absurd (let e = typed in cc)
+one_typed r rows later _ is typed = absurd (let e = typed in cc)
 
 typed_texts : (rows : List Row) → AllByRecursion (IsTextIf 6) rows → AllByRecursion IsWords (filter (passes (is_there ∷ []) []) rows)
 typed_texts [] typed = tt

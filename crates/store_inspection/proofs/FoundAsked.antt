@@ -1,5 +1,5 @@
 -- From what `query_all` promises to what the tests of a found file do.
-use Rattle.std.proofs.Common.{◌≡◌, ◌≢◌}
+use Rattle.std.proofs.Common.{◌≡◌}
 use Rattle.text_core.proofs.Kit.{sym, ap, refl, ℕ, List, [], false, subst, inl, inr, ◌∙◌, Result, Ok, Err, IfOk, IfErr, OnOk, IsTrue, IfOk-weaker, Vec, Global}
 use Rattle.office_sql.proofs.Kit.{Row, Trees, Error, Held, state, State, HasCleanDisk, Survives, IsUnchanged, Database, survives_then, IsAnswer, Schema}
 use Rattle.office_sql.proofs.Kit.{reads_as, Select, overlay, Null, unchanged_then}
@@ -8,7 +8,7 @@ use Rattle.sqlite.specs.State.{Shown, FailsToQuery, CommitsShowing}
 use Rattle.office_sql.specs.Prelude.{Rests}
 use Rattle.sqlite.specs.Query.{Query}
 use Rattle.store_inspection.specs.declared.version.Version.{Version}
-use Rattle.store_inspection.specs.Prelude.{IsFound, IsFoundLater, Tests, number_of_version, schema_of}
+use Rattle.store_inspection.specs.Prelude.{Tests, schema_of}
 use Rattle.office_sql.proofs.Asked.{was_clean, leaves, shown_open, query_rests}
 use Rattle.office_sql.proofs.Bare.{IsBare, bare_commits_nothing}
 use Rattle.office_sql.proofs.LedgerAsked.{IsReadAs}
@@ -18,10 +18,10 @@ pub of_a_version : (text : List ℕ) (body : Query) → ((version : Version) →
     → (schema : Schema) → (version : Version) × (schema ≡ schema_of version) → IsReadAs schema text body
 of_a_version text body read schema it = subst (λ s. IsReadAs s text body) (sym it.1) (read it.0)
 
--- under that of each in which beginnings of validity are told
-pub of_a_later : (text : List ℕ) (body : Query) → ((version : Version) → number_of_version version ≢ 1 → IsReadAs (schema_of version) text body)
-    → (schema : Schema) → (version : Version) × (number_of_version version ≢ 1) × (schema ≡ schema_of version) → IsReadAs schema text body
-of_a_later text body read schema it = subst (λ s. IsReadAs s text body) (sym it.2) (read it.0 it.1)
+-- under that of each version of which this is so
+pub of_those : (text : List ℕ) (body : Query) (IsOf : Version → Type 0) → ((version : Version) → IsOf version → IsReadAs (schema_of version) text body)
+    → (schema : Schema) → (version : Version) × IsOf version × (schema ≡ schema_of version) → IsReadAs schema text body
+of_those text body IsOf read schema it = subst (λ s. IsReadAs s text body) (sym it.2) (read it.0 it.1)
 
 -- a text that means a query under one schema means it under a schema that is the same
 pub read_under : (text : List ℕ) (body : Query) (of : Schema) → IsReadAs of text body → (schema : Schema) → schema ≡ of → IsReadAs schema text body
@@ -47,12 +47,8 @@ module _ {S : Type 0} (g : Ghosts S) (text : List ℕ) (body : Query) (bare : Is
         let schema = (state g old).now.schema in
         let it = read schema (known up) in
         answer rows up
-        ((reads_as text [] (state g old) (state g new) schema refl (Select (record {
-          lets =
-              [];
-          body = body;
-        }) it.names) it.is it.plain it.unlisted rows.items h).answer Null))
-        (ok clean);
+        ((reads_as text [] (state g old) (state g new) schema refl (Select (record { lets = []; body = body }) it.names)
+        it.is it.plain it.unlisted rows.items h).answer Null)) (ok clean);
     same = λ clean. unchanged r (ok clean);
     rests = λ clean. query_rests text [] (state g old) (state g new) r (λ v. v.items) bare (ok clean) (err clean);
     mode = mode;
@@ -100,25 +96,14 @@ pub tests_more : {S A B E F : Type 0} (g : Ghosts S) (old new : Held S) (r : Res
     (q : Result B F) (P : Trees → A → Type 0) (Q : Trees → B → Type 0) → Tests g old new r P
     → (IfOk r (P (state g old).now.trees) → IfOk q (Q (state g old).now.trees))
     → (OnOk r (IsUnchanged (state g old) (state g new)) → OnOk q (IsUnchanged (state g old) (state g new))) → Tests g old new q Q
-tests_more g old new r q P Q it answer same = record {
-  answer = λ clean. answer (it.answer clean);
-  same =
-      λ clean. same (it.same clean);
-  rests = it.rests;
-  mode = it.mode;
-  crash = it.crash;
-}
+tests_more g old new r q P Q it answer same =
+    record { answer = λ clean. answer (it.answer clean); same = λ clean. same (it.same clean); rests = it.rests; mode = it.mode; crash = it.crash }
 
 -- a schema of a version is one after a test
-pub still_known : {old new : State} → IsUnchanged old new → (version : Version)
-    × (old.now.schema ≡ schema_of version) → (version : Version)
-    × (new.now.schema ≡ schema_of version)
+pub still_known : {old new : State} → IsUnchanged old new → (version : Version) × (old.now.schema ≡ schema_of version)
+    → (version : Version) × (new.now.schema ≡ schema_of version)
 still_known same it = (it.0, ap (λ (d : Database). d.schema) same.0.now_is ∙ it.1)
 
--- what was found is so after a test
-pub still_found : {old new : State} (version : Version) → IsUnchanged old new → IsFound version old.now → IsFound version new.now
-still_found version same it = subst (IsFound version) (sym same.0.now_is) it
-
--- in a version in which beginnings of validity are told
-pub still_later : {old new : State} → IsUnchanged old new → IsFoundLater old.now → IsFoundLater new.now
-still_later same it = subst IsFoundLater (sym same.0.now_is) it
+-- what is so of a database is so after a test
+pub still_so : {old new : State} (Says : Database → Type 0) → IsUnchanged old new → Says old.now → Says new.now
+still_so Says same it = subst Says (sym same.0.now_is) it

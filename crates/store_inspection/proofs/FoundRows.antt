@@ -42,10 +42,8 @@ pub typed_at : (key : Option ℕ) (at : ℕ) (cs : List Column) (i : ℕ) (k : K
 typed_at key at [] i k is vs h = absurd is
 typed_at key at (c ∷ cs) zero k is [] h = refl
 typed_at key at (c ∷ cs) zero k is (v ∷ vs) h =
-    subst (λ k. is_of k v
-    ≡ true) is.0
-    (strict_one (is_key key at) c.is_strict (is_null v) (is_of c.kind v) (has_affinity c.kind v)
-    is.2 is.1 (and_parts _ _ h).0)
+    subst (λ k. is_of k v ≡ true) is.0
+    (strict_one (is_key key at) c.is_strict (is_null v) (is_of c.kind v) (has_affinity c.kind v) is.2 is.1 (and_parts _ _ h).0)
 typed_at key at (c ∷ cs) (suc i) k is [] h = refl
 typed_at key at (c ∷ cs) (suc i) k is (v ∷ vs) h = typed_at key (at + 1) cs i k is vs (and_parts _ _ h).1
 
@@ -73,41 +71,30 @@ dropped (v ∷ row) i = refl
 
 text_of : (v : Value) → is_of kind.Text v ≡ true → not (is_null v) ≡ true → v ≡ Words (bytes v)
 text_of Null d n = absurd (true≢false (sym n))
-text_of (Int m) d n = absurd (true≢false (sym d))
-text_of (Real x) d n = absurd (true≢false (sym d))
 text_of (Words t) d n = refl
-text_of (Bytes b) d n = absurd (true≢false (sym d))
+text_of _ d n = absurd (true≢false (sym d))
 
 blob_of : (v : Value) → is_of kind.Blob v ≡ true → not (is_null v) ≡ true → v ≡ Bytes (bytes v)
 blob_of Null d n = absurd (true≢false (sym n))
-blob_of (Int m) d n = absurd (true≢false (sym d))
-blob_of (Real x) d n = absurd (true≢false (sym d))
-blob_of (Words t) d n = absurd (true≢false (sym d))
 blob_of (Bytes b) d n = refl
+blob_of _ d n = absurd (true≢false (sym d))
 
 text_if_of : (v : Value) → is_of kind.Text v ≡ true → v ≡ text_value (text_if v)
 text_if_of Null d = refl
-text_if_of (Int m) d = absurd (true≢false (sym d))
-text_if_of (Real x) d = absurd (true≢false (sym d))
 text_if_of (Words t) d = refl
-text_if_of (Bytes b) d = absurd (true≢false (sym d))
+text_if_of _ d = absurd (true≢false (sym d))
 
 int_of : (v : Value) → is_of kind.Integer v ≡ true → not (is_null v) ≡ true → IsTrue (is_int v)
 int_of Null d n = absurd (true≢false (sym n))
 int_of (Int m) d n = refl
-int_of (Real x) d n = absurd (true≢false (sym d))
-int_of (Words t) d n = absurd (true≢false (sym d))
-int_of (Bytes b) d n = absurd (true≢false (sym d))
+int_of _ d n = absurd (true≢false (sym d))
 
 pub whole_of : (v : Value) → IsTrue (is_int v) → is_below v ≡ false → v ≡ Int (pos (number_in_cell v))
 whole_of (Int (pos m)) d n = refl
 whole_of (Int (negsuc m)) d n =
     let low : value_cmp (Int (negsuc m)) (Int (pos 0)) ≡ Less = value_cmp-Int (negsuc m) (pos 0) ∙ grind (arith, ints, nat_tests) in
     absurd (true≢false (sym (ap is_lt low) ∙ n))
-whole_of Null d n = absurd (true≢false (sym d))
-whole_of (Real x) d n = absurd (true≢false (sym d))
-whole_of (Words t) d n = absurd (true≢false (sym d))
-whole_of (Bytes b) d n = absurd (true≢false (sym d))
+whole_of _ d n = absurd (true≢false (sym d))
 
 module _ (schema : Schema) (db : Trees) (table : Table) (r : Row) (typed : passes Datatype schema db table r ≡ true) where
   kind_at : (i : ℕ) (k : Kind) → IsKind table.key 0 table.columns i k → is_of k (column r (suc i)) ≡ true
@@ -152,9 +139,8 @@ wholes_tie v w e f = turned (number_in_cell v) (number_in_cell w) ∙ sym (whole
     turned m n = grind (arith, nat_tests)
 
 pub then_ties : (o p : Ordering) (b c : Bool) → is_eq o ≡ b → is_eq p ≡ c → is_eq (ordering_then o p) ≡ (b && c)
-then_ties Less p b c e f = ap (λ b. b && c) e
 then_ties Equal p b c e f = f ∙ ap (λ b. b && c) e
-then_ties Greater p b c e f = ap (λ b. b && c) e
+then_ties _ p b c e f = ap (λ b. b && c) e
 
 pub last_ties : (o : Ordering) (b : Bool) → is_eq o ≡ b → is_eq o ≡ (b && true)
 last_ties o true e = e
@@ -162,9 +148,8 @@ last_ties o false e = e
 
 pub entry_ties : (o p q : Ordering) (b c d : Bool) → is_eq o ≡ b → is_eq p ≡ c → is_eq q ≡ d
     → is_eq (ordering_then (ordering_then o p) q) ≡ (b && (c && (d && true)))
-entry_ties Less p q b c d e f g = ap (λ b. b && (c && (d && true))) e
 entry_ties Equal p q b c d e f g = then_ties p q c (d && true) f (last_ties q d g) ∙ ap (λ b. b && (c && (d && true))) e
-entry_ties Greater p q b c d e f g = ap (λ b. b && (c && (d && true))) e
+entry_ties _ p q b c d e f g = ap (λ b. b && (c && (d && true))) e
 
 -- ---- the rows of one table
 
@@ -175,14 +160,8 @@ numbers_differ (Int m) (Int n) p q low = ap (λ o.
     (Rattle.sqlite.specs.Ops.from_truth
     (Rattle.std.proofs.Common.Some (Rattle.sqlite_sql.specs.Ops.test Ne o))))
     (value_cmp_total.antisymm (Int n) (Int m) ∙ ap ordering_reverse low)
-numbers_differ Null b p q low = absurd (true≢false (sym p))
-numbers_differ (Real x) b p q low = absurd (true≢false (sym p))
-numbers_differ (Words t) b p q low = absurd (true≢false (sym p))
-numbers_differ (Bytes t) b p q low = absurd (true≢false (sym p))
-numbers_differ (Int m) Null p q low = absurd (true≢false (sym q))
-numbers_differ (Int m) (Real x) p q low = absurd (true≢false (sym q))
-numbers_differ (Int m) (Words t) p q low = absurd (true≢false (sym q))
-numbers_differ (Int m) (Bytes t) p q low = absurd (true≢false (sym q))
+numbers_differ (Int m) _ p q low = absurd (true≢false (sym q))
+numbers_differ _ b p q low = absurd (true≢false (sym p))
 
 none_of : {A : Type 0} (p : A → Bool) (xs : List A) (x : A) → list_any p xs ≡ false → Has xs x → p x ≡ false
 none_of p xs x none has = elim (cases_Bool (p x)) [ inl there ↦ absurd (true≢false (sym (some_from p xs x has there) ∙ none)) | inr away ↦ away ]

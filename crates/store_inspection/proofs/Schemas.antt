@@ -18,17 +18,6 @@ joined f t columns keys references rest =
     ap (λ (r : List Reference). record (table_of_form f) { references = r }) references in
     rest ∙ ap bare keys ∙ ap (λ (x : Table). bare (with_table_keys f x)) columns ∙ last
 
-pub columns_of : (f : TableForm) (t : Table) → t ≡ table_of_form f → t ≡ with_columns f t
-columns_of f t e =
-    let back : with_columns f t ≡ table_of_form f = ap (with_columns f) e in
-    e ∙ sym back
-
-pub keys_of : (f : TableForm) (t : Table) → t ≡ table_of_form f → t ≡ with_table_keys f t
-keys_of f t e =
-    let back : with_table_keys f t ≡ table_of_form f = ap (with_table_keys f) e in
-    e ∙ sym back
-
-pub bare_of : (f : TableForm) (t : Table) → t ≡ table_of_form f → t ≡ bare t
-bare_of f t e =
-    let back : bare t ≡ table_of_form f = ap bare e in
-    e ∙ sym back
+-- and that one has each part
+pub part_of : (part : Table → Table) (f : TableForm) (t : Table) → part (table_of_form f) ≡ table_of_form f → t ≡ table_of_form f → t ≡ part t
+part_of part f t has e = e ∙ sym (ap part e ∙ has)

@@ -7,4 +7,4 @@ pub use Rattle.store_inspection.specs.Meta.{HasMeta, HoldsSite, IsMetaOf, IsOfSi
 pub use Rattle.store_inspection.specs.Meta.{meta_of, meta_of_version, metas_in, ShowMeta, TellNoSite}
 pub use Rattle.store_inspection.specs.SiteTexts.{HoldsSiteText, IsOnlyText, IsTextAt, ShowSiteTexts}
 pub use Rattle.store_inspection.specs.Versions.{count_of, first_tables, given_indexes, given_keyed, IsBeforeV1, IsOfNoVersion, KeepsFirst, KeepsFirstBut}
-pub use Rattle.store_inspection.specs.Versions.{next_version, number_of_version, rows_at, schema_keyed, schema_of}
+pub use Rattle.store_inspection.specs.Versions.{number_of_version, rows_at, schema_keyed, schema_of}

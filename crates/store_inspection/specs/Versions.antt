@@ -1,5 +1,5 @@
 -- The schemas that a database of the office may have, and the numbers by which a store tells them.
-use Rattle.std.specs.Prelude.{◌≡◌, ◌≢◌, ◌<◌, ⊤, ℕ, List, [], ◌∷◌, ◌++◌, Option, Some, None, codes, take, drop, if◌then◌else◌, nat_lt}
+use Rattle.std.specs.Prelude.{◌≡◌, ◌≢◌, ◌<◌, ⊤, ℕ, List, [], ◌∷◌, ◌++◌, codes, take, drop, if◌then◌else◌, nat_lt}
 use Rattle.sqlite.specs.Order.{Row}
 use Rattle.sqlite.specs.Table.{Table}
 use Rattle.sqlite.specs.Schema.{Schema}
@@ -15,14 +15,6 @@ abbrev pub number_of_version : Version → ℕ
 number_of_version V2 = 2
 number_of_version V3 = 3
 number_of_version _ = 1
-
--- the version behind a version, to which a store of it is brought first
-abbrev pub next_version : Version → Option Version
-next_version V1a = Some V1
-next_version V1b = Some V1
-next_version V1 = Some V2
-next_version V2 = Some V3
-next_version V3 = None
 
 -- how many tables a version has: the first of the office's
 abbrev pub count_of : Version → ℕ

@@ -1,6 +1,6 @@
 // The schemas that a database of the office may have.
 ghost use Rattle.std.specs.Prelude.{◌≡◌, ◌↔◌, IsTrue};
-ghost use Rattle.store_inspection.specs.Prelude.{next_version, number_of_version};
+ghost use Rattle.store_inspection.specs.Prelude.{number_of_version};
 
 /// A schema that a database of the office may have.
 #[derive(Clone, Copy)]
@@ -35,17 +35,5 @@ impl Version {
         ensures { IsTrue result ↔ (number_of_version self ≡ 1) }
     {
         self.number() == 1
-    }
-
-    /// The version behind it, to which a store of it is brought first.
-    pub fn next(self) -> Option<Version>
-        ensures { result ≡ next_version self }
-    {
-        match self {
-            Version::V1a | Version::V1b => Some(Version::V1),
-            Version::V1 => Some(Version::V2),
-            Version::V2 => Some(Version::V3),
-            Version::V3 => None,
-        }
     }
 }

@@ -121,6 +121,19 @@ pub fn job(alloc: Global, kind: &str, name: &str) -> Result<Job, Fail> {
     Ok(Job::CheckMap { map: name })
 }
 
+/// Does a job over an input and two outputs: its status. It alone names the program's run, whose clauses
+/// each call has the prover read again.
+pub fn status_of<R: Read + Drop, W: Write + Drop, E: Write>(
+    rt: &HostRuntime,
+    alloc: Global,
+    job: &Job,
+    input: R,
+    output: W,
+    err: &mut E,
+) -> u8 {
+    run(rt, alloc, job, input, output, err, Unknown).status
+}
+
 /// Does a job over an input: what was written on standard output and then on standard error, where the
 /// status is 1 exactly where something is on standard error.
 pub fn written_by(
@@ -131,7 +144,7 @@ pub fn written_by(
 ) -> Result<String, Fail> {
     let mut out = Vec::new(alloc);
     let mut err = Vec::new(alloc);
-    let status = run(rt, alloc, job, input, &mut out, &mut err, Unknown).status;
+    let status = status_of(rt, alloc, job, input, &mut out, &mut err);
     if (status == 1) == err.is_empty() {
         return Err(Fail::from("another status"));
     }
@@ -261,8 +274,7 @@ fn end_of_line(
         flushes,
     };
     let mut err = Vec::new(alloc);
-    let done = run(rt, alloc, &job, b"".as_slice(), output, &mut err, Unknown);
-    let status = done.status;
+    let status = status_of(rt, alloc, &job, b"".as_slice(), output, &mut err);
     let err = String::from_utf8(err).map_err(|_| "no text")?;
     Ok(format!(in alloc; "{status} {err}")?)
 }
@@ -276,7 +288,7 @@ fn line_of_failure(
     output: Short,
 ) -> Result<String, Fail> {
     let mut err = Vec::new(alloc);
-    let status = run(rt, alloc, job, input, output, &mut err, Unknown).status;
+    let status = status_of(rt, alloc, job, input, output, &mut err);
     if (status == 1) == err.is_empty() {
         return Err(Fail::from("another status"));
     }
@@ -354,16 +366,8 @@ fn a_line_is_written_whole(rt: HostRuntime) -> Result<(), Fail> {
     let mut err = Slow {
         taken: Vec::new(alloc),
     };
-    let done = run(
-        &rt,
-        alloc,
-        &unread,
-        b"".as_slice(),
-        BROKEN,
-        &mut err,
-        Unknown,
-    );
-    assert_eq!(rt; done.status, 1);
+    let status = status_of(&rt, alloc, &unread, b"".as_slice(), BROKEN, &mut err);
+    assert_eq!(rt; status, 1);
     let line = b"station: cannot read none.toml\n";
     assert_eq!(rt; err.taken.as_slice(), line.as_slice());
     Ok(())

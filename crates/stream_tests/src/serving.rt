@@ -1,8 +1,8 @@
 //! The job of a port: what the program serves over a file, twice, and where it fails.
 use crate::clients::{Scene, Script, Taking, served_clients};
+use crate::jobs::status_of;
 use crate::refused::found_at;
-use sqlite_disk::Unknown;
-use station_cli::{Job, listen, read_job, run};
+use station_cli::{Job, listen, read_job};
 use std::alloc::Global;
 use std::cell::RefCell;
 use std::io::{ErrorKind, Write};
@@ -143,8 +143,7 @@ fn served(
         written: &written,
     };
     let mut err = Vec::new(alloc);
-    let done = run(rt, alloc, &job, b"".as_slice(), callers, &mut err, Unknown);
-    let status = done.status;
+    let status = status_of(rt, alloc, &job, b"".as_slice(), callers, &mut err);
     joined(
         alloc,
         status,
@@ -159,16 +158,7 @@ fn replayed(rt: &HostRuntime, alloc: Global, words: &str, stream: &str) -> Resul
     let job = job_of(alloc, words)?;
     let mut out = Vec::new(alloc);
     let mut err = Vec::new(alloc);
-    let status = run(
-        rt,
-        alloc,
-        &job,
-        stream.as_bytes(),
-        &mut out,
-        &mut err,
-        Unknown,
-    )
-    .status;
+    let status = status_of(rt, alloc, &job, stream.as_bytes(), &mut out, &mut err);
     joined(alloc, status, out, err, Vec::new(alloc))
 }
 

@@ -1,22 +1,16 @@
 use Rattle.std.proofs.Common.{◌∙◌, ap, subst, sym}
 use Rattle.office_sql.proofs.Kit.{Database, state}
 use Rattle.office_sql.proofs.Asked.{was_clean}
-use Rattle.office_store.specs.Prelude.{ShowsOpening}
 use Rattle.office_store.proofs.Types.{Make}
+use Rattle.office_store.proofs.Opened.{opened_of}
 use Rattle.office_store.proofs.Preparing.{left_anew}
 use Rattle.office_store.proofs.adopting.adopt.Goals as goal
 
 pub returns-in-Ok-prepare_or_hand_back-clause-opened : goal.returns-in-Ok-prepare_or_hand_back-clause-opened
 returns-in-Ok-prepare_or_hand_back-clause-opened g c =
-    let keep = c.in-Ok-prepare_or_hand_back.keep in
     let it = c.in-Ok-prepare_or_hand_back.ensures in
-    record {
-      of_site = it.opened.of_site;
-      is_open = it.opened.is_open;
-      shows = λ clean. subst (λ before. ShowsOpening c.args.site.now Make before (state g.S.Store keep.conn).now.trees)
-          (c.in-Ok.ensures.tables (was_clean (state g.S.Store c.in-Ok.conn) (state g.S.Store keep.conn) _ it.crash clean)) (it.opened.shows clean);
-      left = it.opened.left;
-    }
+    opened_of g.S.Store c.args.site.now Make it.opened (λ clean Says is.
+    subst Says (c.in-Ok.ensures.tables (was_clean (state g.S.Store c.in-Ok.conn) (state g.S.Store c.in-Ok-prepare_or_hand_back.keep.conn) _ it.crash clean)) is)
 
 pub returns-in-Ok-prepare_or_hand_back-clause-crash : goal.returns-in-Ok-prepare_or_hand_back-clause-crash
 returns-in-Ok-prepare_or_hand_back-clause-crash g c =

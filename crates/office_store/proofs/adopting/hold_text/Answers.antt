@@ -57,8 +57,7 @@ settle-requires g c =
 pub returns-in-Ok-false : goal.returns-in-Ok-false
 returns-in-Ok-false g c =
     let test = c.in-Ok-false.ensures in
-    prepared_after g.S.Store c.args.site.now c.args.conn.now c.has_site_text.new.conn c.settle.new.conn c.settle.result (λ _. ⊤)
-    (record {
+    prepared_after g.S.Store c.args.site.now {old = c.args.conn.now} {mid = c.has_site_text.new.conn} {Says = λ _. ⊤} (record {
       answer = λ clean. tt;
       same = test.same;
       rests = test.rests;

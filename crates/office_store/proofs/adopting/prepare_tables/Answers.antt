@@ -7,7 +7,8 @@ use Rattle.office_sql.specs.Prelude.{no_schema}
 use Rattle.office_store.specs.Prelude.{IsPreparedFor, PreparesTables}
 use Rattle.store_inspection.specs.Prelude.{IsOfNoVersion}
 use Rattle.office_store.proofs.Types.{OtherTables}
-use Rattle.office_store.proofs.Preparing.{stays, unprepared}
+use Rattle.office_store.proofs.Changing.{stays}
+use Rattle.office_store.proofs.Preparing.{unprepared}
 use Rattle.office_store.proofs.adopting.prepare_tables.Goals as goal
 
 refused : {S : Type 0} (g : Ghosts S) (site : TextOfSite) (conn : Held S)

@@ -1,11 +1,12 @@
 use Rattle.std.proofs.Common.{◌≡◌, ◌↔◌, [], None, Bool, Result, Ok, IsTrue, inl, inr}
 use Rattle.site_core.specs.Prelude.{TextOfSite}
-use Rattle.office_sql.proofs.Kit.{Database, Error, HasCleanDisk, Held, clean_if_open, state}
+use Rattle.office_sql.proofs.Kit.{Database, Error, HasCleanDisk, Held, state}
 use Rattle.sqlite.specs.Store.{Ghosts}
 use Rattle.office_store.proofs.Types.{OpenFault, Version}
-use Rattle.office_store.specs.Prelude.{CanPrepareTables, Examines, IsFoundApart, result_of_test}
+use Rattle.office_store.specs.Prelude.{CanPrepareTables, Examines, result_of_test}
 use Rattle.store_inspection.specs.Prelude.{HasApartAddresses, HasWhole, IsFound, Tests, schema_of}
-use Rattle.office_store.proofs.Refusals.{answered, examines_then, found_after, is_err, says_nothing}
+use Rattle.office_store.proofs.ReadAnswers.{clean_at}
+use Rattle.office_store.proofs.Refusals.{answered, examines_then, found_after, says_nothing}
 use Rattle.office_store.proofs.adopting.test_rows.Goals as goal
 
 -- what was tested is so whatever the site
@@ -24,33 +25,29 @@ pub has_apart_addresses-requires : goal.has_apart_addresses-requires
 has_apart_addresses-requires g c =
     let v = c.args.version in
     let mid = c.has_whole_numbers.new.conn in
-    let calm = clean_if_open (g.S.Store.view mid.store) (g.met.S.Store.shut_if_dirty mid.store) in
+    let calm = clean_at g.S.Store g.met.S.Store.shut_if_dirty mid in
     let one = numbers_asked g.S.Store anybody c.args.conn.now mid calm v c.requires.can c.requires.has _ c.has_whole_numbers.ensures
     (Ok tt) c.in_ok-judge_answer.ensures in
-    (v, λ up. (found_after g.S.Store anybody c.args.conn.now mid (IsFound v) v one c.requires.can.shows_committed (λ clean found. found)).found (calm up))
+    (v, λ up. (found_after g.S.Store anybody v one c.requires.can.shows_committed (λ clean found. found)).found (calm up))
 
 pub returns : goal.returns
 returns g c site =
     let v = c.args.version in
-    let old = c.args.conn.now in
     let mid = c.has_whole_numbers.new.conn in
     let new = c.has_apart_addresses.new.conn in
-    let calm = clean_if_open (g.S.Store.view new.store) (g.met.S.Store.shut_if_dirty new.store) in
-    let one = numbers_asked g.S.Store site old mid (clean_if_open (g.S.Store.view mid.store) (g.met.S.Store.shut_if_dirty mid.store)) v
+    let shuts = g.met.S.Store.shut_if_dirty in
+    let one = numbers_asked g.S.Store site c.args.conn.now mid (clean_at g.S.Store shuts mid) v
     c.requires.can c.requires.has _ c.has_whole_numbers.ensures (Ok tt) c.in_ok-judge_answer.ensures in
-    let found = found_after g.S.Store site old mid (IsFound v) v one c.requires.can.shows_committed (λ clean found. found) in
-    let Apart = λ (db : Database). HasApartAddresses db.trees in
-    examines_then g.S.Store site old mid new c.judge_answer-2.result (IsFound v) Apart (IsFoundApart v) one
-    (answered g.S.Store site mid new calm v found.mode found.shows_committed (λ clean. (found.found clean).schema) HasApartAddresses Apart
+    let found = found_after g.S.Store site v one c.requires.can.shows_committed (λ clean found. found) in
+    examines_then g.S.Store site one
+    (answered g.S.Store site mid new (clean_at g.S.Store shuts new) v found.mode found.shows_committed (λ clean. (found.found clean).schema)
+    HasApartAddresses (λ (db : Database). HasApartAddresses db.trees)
     (λ clean apart. apart) (λ clean meets. inr (inr (inr (inr meets)))) _ c.has_apart_addresses.ensures _ c.judge_answer-2.ensures)
     (λ clean found apart. (found, apart))
 
 pub returns-in_err-judge_answer : goal.returns-in_err-judge_answer
 returns-in_err-judge_answer g c site =
-    let v = c.args.version in
-    let old = c.args.conn.now in
     let new = c.has_whole_numbers.new.conn in
-    let calm = clean_if_open (g.S.Store.view new.store) (g.met.S.Store.shut_if_dirty new.store) in
-    is_err (λ r. Examines g.S.Store site old new r (IsFoundApart v)) c.from_residual.result _ c.from_residual.ensures.1
-    (says_nothing g.S.Store site old new _ (IsFound v) (IsFoundApart v)
-    (numbers_asked g.S.Store site old new calm v c.requires.can c.requires.has _ c.has_whole_numbers.ensures _ c.in_err-judge_answer.ensures))
+    says_nothing g.S.Store site _ c.from_residual.ensures.1
+    (numbers_asked g.S.Store site c.args.conn.now new (clean_at g.S.Store g.met.S.Store.shut_if_dirty new) c.args.version
+    c.requires.can c.requires.has _ c.has_whole_numbers.ensures _ c.in_err-judge_answer.ensures)

@@ -2,10 +2,10 @@ use Rattle.std.proofs.Common.{ℕ, Bool, true, false, cond, List, ap₂, inl, in
 use Rattle.sqlite_disk.specs.Events.{Event, replay}
 use Rattle.sqlite_store.specs.Laws.{settled_at}
 use Rattle.office_sql.proofs.Asked.{was_clean}
-use Rattle.office_sql.proofs.Kit.{file_state, image_at, Image}
-use Rattle.office_store.specs.Prelude.{IsFoundOver, ShowsOpening}
+use Rattle.office_sql.proofs.Kit.{file_state, image_at, over_files, Image}
+use Rattle.office_store.specs.Prelude.{IsFoundOver}
 use Rattle.office_store.proofs.FoundFiles.{can_prepare}
-use Rattle.office_store.proofs.Opened.{held_before}
+use Rattle.office_store.proofs.Opened.{held_before, opened_of}
 use Rattle.office_store.proofs.Spared.{alone, spared}
 use Rattle.office_store.proofs.TurnedAway.{kept_for, told_for}
 use Rattle.office_store.proofs.opening.open_file.Goals as goal
@@ -22,17 +22,10 @@ prepare_or_hand_back-requires g c = can_prepare (image_at g.S.Start) (file_state
 
 pub returns-in-Ok-prepare_or_hand_back-clause-opened : goal.returns-in-Ok-prepare_or_hand_back-clause-opened
 returns-in-Ok-prepare_or_hand_back-clause-opened g c =
-    let keep = c.in-Ok-prepare_or_hand_back.keep in
     let it = c.in-Ok-prepare_or_hand_back.ensures in
-    record {
-      of_site = it.opened.of_site;
-      is_open = it.opened.is_open;
-      shows = λ clean. held_before (image_at g.S.Start) c.in-Ok.conn
-          (record { finds = c.in-Ok.ensures.found; opened = c.in-Ok.ensures.opened; plain = c.in-Ok.ensures.sums })
-          (was_clean (file_state c.in-Ok.conn) (file_state keep.conn) _ it.crash clean)
-          (λ before. ShowsOpening c.args.site.now c.args.absent before (file_state keep.conn).now.trees) (it.opened.shows clean);
-      left = it.opened.left;
-    }
+    opened_of over_files c.args.site.now c.args.absent it.opened (λ clean Says is. held_before (image_at g.S.Start) c.in-Ok.conn
+    (record { finds = c.in-Ok.ensures.found; opened = c.in-Ok.ensures.opened; plain = c.in-Ok.ensures.sums })
+    (was_clean (file_state c.in-Ok.conn) (file_state c.in-Ok-prepare_or_hand_back.keep.conn) _ it.crash clean) Says is)
 
 pub returns-in-Ok-prepare_or_hand_back-clause-taken : goal.returns-in-Ok-prepare_or_hand_back-clause-taken
 returns-in-Ok-prepare_or_hand_back-clause-taken g c = record {

@@ -1,5 +1,5 @@
 use Rattle.std.proofs.Common.{◌≡◌, ◌⊎◌, inl, inr, rules, sym, subst}
-use Rattle.station_cli.proofs.Outcomes.{check_comes, no_memory_of_site, served_comes, site_job_fails, stream_comes}
+use Rattle.station_cli.proofs.Outcomes.{check_comes, no_memory_of_site, served_comes, site_job_fails, stream_comes, unread}
 use Rattle.station_cli.specs.Prelude.{ComesTo, IsBeforeStream, IsDone, IsOfJob, IsOfPort, IsOfStore, Traffic}
 use Rattle.station_cli.specs.declared.failure.Failure.{Failure}
 use Rattle.station_cli.specs.declared.failure.Failure.TheVariants.{NoMemory}
@@ -13,12 +13,7 @@ returns-in-Serve g c =
     let words = c.in-Serve in
     let served = c.serve_site-done.result.result in
     let input = g.R.Read.remaining c.args.input in
-    let traffic : Traffic = record {
-      input_old = input;
-      input_new = input;
-      output_old = g.W.Write.contents c.args.output;
-      output_new = g.W.Write.contents c.serve_site-done.new.output;
-    } in
+    let traffic : Traffic = unread input (g.W.Write.contents c.args.output) (g.W.Write.contents c.serve_site-done.new.output) in
     let job : Job = Serve words.site words.store words.port words.connections in
     let Behind : Failure → Type 0 = λ failure. (failure ≡ NoMemory) ⊎ IsOfStore failure ⊎ IsOfPort failure in
     subst (λ (j : Job). ComesTo j traffic c.result_of.result) (sym words.is)
@@ -47,11 +42,6 @@ pub returns-in-CheckMap : goal.returns-in-CheckMap
 returns-in-CheckMap g c =
     let ends = c.check_map.ensures in
     let input = g.R.Read.remaining c.args.input in
-    let traffic : Traffic = record {
-      input_old = input;
-      input_new = input;
-      output_old = g.W.Write.contents c.args.output;
-      output_new = g.W.Write.contents c.check_map.new.output;
-    } in
+    let traffic : Traffic = unread input (g.W.Write.contents c.args.output) (g.W.Write.contents c.check_map.new.output) in
     subst (λ (j : Job). ComesTo j traffic c.check_map.result) (sym c.in-CheckMap.is)
     (check_comes (λ b. b.items) _ _ traffic _ c.check_map.result (search rules) ends.unread ends.no_map ends.map)

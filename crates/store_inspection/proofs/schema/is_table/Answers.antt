@@ -1,16 +1,17 @@
 -- A table that lacks a part of the form isn't the one described; one that has each part is.
-use Rattle.std.proofs.Common.{sym, ap, ◌∙◌}
-use Rattle.store_inspection.proofs.Schemas.{joined, columns_of, keys_of, bare_of}
+use Rattle.std.proofs.Common.{refl, sym, ap, ◌∙◌}
+use Rattle.store_inspection.specs.Prelude.{with_columns, with_table_keys, bare}
+use Rattle.store_inspection.proofs.Schemas.{joined, part_of}
 use Rattle.store_inspection.proofs.schema.is_table.Goals as goal
 
 pub returns-then-not-has_columns : goal.returns-then-not-has_columns
-returns-then-not-has_columns c = (λ b. cc, λ e. sym c.if-not-has_columns.true ∙ c.has_columns.ensures.1 (columns_of c.args.form c.args.table.now e))
+returns-then-not-has_columns c = (λ b. cc, λ e. sym c.if-not-has_columns.true ∙ c.has_columns.ensures.1 (part_of (with_columns c.args.form) c.args.form c.args.table.now refl e))
 
 pub returns-then-not-has_keys : goal.returns-then-not-has_keys
-returns-then-not-has_keys c = (λ b. cc, λ e. sym c.if-not-has_keys.true ∙ c.has_keys.ensures.1 (keys_of c.args.form c.args.table.now e))
+returns-then-not-has_keys c = (λ b. cc, λ e. sym c.if-not-has_keys.true ∙ c.has_keys.ensures.1 (part_of (with_table_keys c.args.form) c.args.form c.args.table.now refl e))
 
 pub returns-then-not-is_bare : goal.returns-then-not-is_bare
-returns-then-not-is_bare c = (λ b. cc, λ e. sym c.if-not-is_bare.true ∙ c.is_bare.ensures.1 (bare_of c.args.form c.args.table.now e))
+returns-then-not-is_bare c = (λ b. cc, λ e. sym c.if-not-is_bare.true ∙ c.is_bare.ensures.1 (part_of bare c.args.form c.args.table.now refl e))
 
 pub returns : goal.returns
 returns c = (
