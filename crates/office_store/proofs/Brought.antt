@@ -104,7 +104,8 @@ module _ {S : Type 0} (g : Ghosts S) (text : List ℕ) where
       let two = run.2.0 in
       let three = run.2.2.0 in
       let four = run.2.2.2.0 in
-      let gains = gains_both x one two at.schema (makes_table g (create_of order_starts) text x one run.1) (makes_table g (create_of given_starts) text one two run.2.1) in
+      let gains = gains_both x one two at.schema (makes_table g (create_of order_starts) text x one run.1)
+      (makes_table g (create_of given_starts) text one two run.2.1) in
       let of_orders = run_says g (plain_text INSERT_NULL_INTO_ORDER_START.now) text two three FillsOrders
       (λ old new count ran. orders_filled old new count ran) run.2.2.1 in
       let of_given = run_says g (plain_text INSERT_NULL_INTO_GIVEN_START.now) text three four FillsGiven

@@ -1,5 +1,7 @@
--- A database without tables has nothing, one of a version with the number 1 no validity rows, and one without rows what its version has without them.
-use Rattle.std.proofs.Common.{◌≡◌, ◌<◌, ℕ, ◌≢◌, ◌==◌, Bool, true, false, true≢false, List, [], map, refl, ap, subst, subst₂, sym, ◌∙◌, inl, inr, Ordering, arith}
+-- A database without tables has nothing, one of a version with the number 1 no validity rows, and one without rows what
+-- its version has without them.
+use Rattle.std.proofs.Common.{◌≡◌, ◌<◌, ℕ, ◌≢◌, ◌==◌, Bool, true, false, true≢false, List, [], map, refl, ap, subst, subst₂, sym, ◌∙◌, inl, inr}
+use Rattle.std.proofs.Common.{Ordering, arith}
 use Rattle.std.specs.List.{list_any}
 use Rattle.office_sql.proofs.Kit.{Row, Trees, IsShaped, IsOrdered, Shape, catalog_tree, version_tree, IsListed, IsSound, named_tree, sort_by, Index, Schema}
 use Rattle.office_sql.proofs.Kit.{Database, Table, Has, some_from}

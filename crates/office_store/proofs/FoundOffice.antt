@@ -12,7 +12,8 @@ use Rattle.sqlite_trees.specs.declared.store.Shape.TheVariants as shape
 use Rattle.sqlite_trees.proofs.ListLemmas.{all_weaker}
 use Rattle.office_tables.specs.Prelude.{seat_cmp, order_cmp, map_cmp, link_cmp, device_cmp, given_cmp, entry_cmp}
 use Rattle.office_sql.specs.Prelude.{meta, seats, maps, links, orders, devices, given, ledger, seat_table, map_table, link_table, orders_table, device_table}
-use Rattle.office_sql.specs.Prelude.{given_table, ledger_table, rows_in, tree_of, seat_in_row, map_in_row, link_in_row, order_in_row, device_in_row, given_in_row}
+use Rattle.office_sql.specs.Prelude.{given_table, ledger_table, rows_in, tree_of, seat_in_row, map_in_row, link_in_row, order_in_row}
+use Rattle.office_sql.specs.Prelude.{device_in_row, given_in_row}
 use Rattle.office_sql.specs.Prelude.{entry_in_row, AreOfficeRows, AreRows, IsText, IsWhole, IsSeatRow, IsMapRow, IsLinkRow, IsOrderRow, IsDeviceRow, IsGivenRow}
 use Rattle.office_sql.specs.Prelude.{IsEntryRow}
 use Rattle.store_inspection.specs.Prelude.{HasWhole, IsNotBelow, given_keyed, schema_keyed}

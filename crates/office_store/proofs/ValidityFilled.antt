@@ -2,7 +2,8 @@
 use Rattle.std.proofs.Common.{◌≡◌, ◌∷◌}
 use Rattle.text_core.proofs.Kit.{ℕ, ℤ, Bool, true, false, cond, Some, None, find, option_and_then, ap, List, [], Ok, refl, sym, subst, append-nil}
 use Rattle.text_core.proofs.Kit.{AllByRecursion, is_eq, IsPermutation-trans}
-use Rattle.office_sql.proofs.Kit.{Null, Int, Row, column, Term, lit, col, eval_all, Collation, Binary, Database, IsDatabase, State, Trees, Executes, cast_row, overlay}
+use Rattle.office_sql.proofs.Kit.{Null, Int, Row, column, Term, lit, col, eval_all, Collation, Binary, Database, IsDatabase, State, Trees, Executes}
+use Rattle.office_sql.proofs.Kit.{cast_row, overlay}
 use Rattle.office_sql.proofs.Kit.{IsPermutation-same}
 use Rattle.sqlite.specs.Listing.{understood}
 use Rattle.sqlite.specs.Source.TheVariants.{Query as Selected}
