@@ -5,14 +5,16 @@ use Rattle.store_inspection.proofs.Schemas.{joined, part_of}
 use Rattle.store_inspection.proofs.schema.is_table.Goals as goal
 
 pub returns-then-not-has_columns : goal.returns-then-not-has_columns
-returns-then-not-has_columns c =
-    (λ b. cc,
-        λ e. sym c.if-not-has_columns.true ∙ c.has_columns.ensures.1 (part_of (with_columns c.args.form) c.args.form c.args.table.now refl e))
+returns-then-not-has_columns c = (
+  λ b. cc,
+  λ e. sym c.if-not-has_columns.true ∙ c.has_columns.ensures.1 (part_of (with_columns c.args.form) c.args.form c.args.table.now refl e),
+)
 
 pub returns-then-not-has_keys : goal.returns-then-not-has_keys
-returns-then-not-has_keys c =
-    (λ b. cc,
-        λ e. sym c.if-not-has_keys.true ∙ c.has_keys.ensures.1 (part_of (with_table_keys c.args.form) c.args.form c.args.table.now refl e))
+returns-then-not-has_keys c = (
+  λ b. cc,
+  λ e. sym c.if-not-has_keys.true ∙ c.has_keys.ensures.1 (part_of (with_table_keys c.args.form) c.args.form c.args.table.now refl e),
+)
 
 pub returns-then-not-is_bare : goal.returns-then-not-is_bare
 returns-then-not-is_bare c = (λ b. cc, λ e. sym c.if-not-is_bare.true ∙ c.is_bare.ensures.1 (part_of bare c.args.form c.args.table.now refl e))
