@@ -128,13 +128,13 @@ def counts_of_journals(plant):
 
 
 def first_of_logs(plant):
-    """How many chips passed and never ended otherwise, by the logs of both benches."""
-    results = {}
-    for file in plant.folder.glob("*.json.bench/log-*.jsonl"):
-        for line in map(json.loads, file.read_text("ascii").splitlines()):
-            if "result" in line and line["result"] not in NEXT:
-                results.setdefault(line["chip"], set()).add(line["result"])
-    return sum(it <= {"passed", "passed_before", "shipped_before"} for it in results.values())
+    """How many chips passed at their first stay, by the logs of both benches, whatever became of a later stay."""
+    files = plant.folder.glob("*.json.bench/log-*.jsonl")
+    lines = [json.loads(line) for file in files for line in file.read_text("ascii").splitlines()]
+    firsts = {}
+    for line in sorted((it for it in lines if it.get("result", NEXT[0]) not in NEXT), key=lambda it: it["at"]):
+        firsts.setdefault(line["chip"], line["result"])
+    return sum(it in ("passed", "passed_before", "shipped_before") for it in firsts.values())
 
 
 def tables_of(plant):
