@@ -344,8 +344,8 @@ def placed(file: Path) -> tuple[int, ...]:
 
 
 def stays(house: House, *words: str) -> None:
-    """The next site's file is as the first's: its store's user reads it. Given again the command leaves it as it is, also
-    where the site grew since; what is no growth is refused, and stays too."""
+    """The next site's file is as the first's: its store's user reads it. Given again the command leaves it as it is,
+    also where the site grew since; what is no growth is refused, and stays too."""
     new = house.folder / NEW
     kept = [(it.owner(), it.group(), it.stat().st_mode & 0o777) for it in (new, house.site)]
     expect("whose it is", kept, [("root", "nogroup", 0o640)] * 2)

@@ -34,7 +34,7 @@ class StoreRows:
         """Whether it is the seal by which a site was closed, so that no newer one comes: beside its folder of seals
         closed.json has the seal's line."""
         told = self.file.parent.with_name("closed.json")
-        return told.is_file() and f'"seal": "{self.seal.line()}"' in small_bytes(told, MOST_CLOSED).decode("utf-8", "replace")
+        return told.is_file() and f'"seal": "{self.seal.line()}"'.encode() in small_bytes(told, MOST_CLOSED)
 
 
 def sealed_rows_of(place: Path) -> Iterator[StoreRows]:

@@ -43,7 +43,10 @@ UNITS = r"""    next='s,{db},&{more},g; s,{backups},&{more},g; s,{old},{new},g; 
     printf 'R! {backups}{more}/%s\n' '.new-*' 'trial.*' 'tried-by-site.*' > /etc/tmpfiles.d/{unit}{more}.conf
     install -d -m 700 -o station -g station {db}{more} {backups}{more}; . /usr/share/wanekupo/by-hand.sh
     as_station station replay --site {new} --db {db}{more}/{file}
-    systemctl daemon-reload; systemctl enable --now {unit}{more} {unit}{more}-backup.timer"""
+    systemctl daemon-reload; systemctl enable --now {unit}{more} {unit}{more}-backup.timer
+    # and to grow it: station-site --site {new} --db {db}{more}/{file} --backups {backups}{more} --port {server} \
+    #   --start 'systemctl start {unit}{more}' --stop 'systemctl stop {unit}{more}' \
+    #   --restarts 'systemctl show -p NRestarts --value {unit}{more}' add-seat .."""
 
 
 def reached(place: Place, customer: SiteCustomer, tokens: Tokens, sealed: SealBooks) -> list[Pool]:
@@ -183,8 +186,9 @@ def tell_steps(args: argparse.Namespace, place: Place, pairs: list[tuple[SiteCus
     new, spent = Path(args.new).absolute(), spent_of(place)
     issuers = ", ".join(f"{b} beside {a}" for one, two in pairs for a, b in zip(one.issuers, two.issuers) if a != b)
     unit = place.args.start.rpartition(" ")[2].removesuffix(".service")
-    units = UNITS.format(db=place.db.parent, file=place.db.name, backups=place.backups, old=place.site, new=new, unit=unit,
-                         more=args.suffix, port=place.args.port, server=args.server.rpartition(":")[2])  # fmt: skip
+    places = {"db": place.db.parent, "file": place.db.name, "backups": place.backups, "old": place.site, "new": new}
+    ports = {"port": place.args.port, "server": args.server.rpartition(":")[2]}
+    units = UNITS.format(**places, **ports, unit=unit, more=args.suffix)
     same = " ".join(f"--same {two.name}={one.name}" for one, two in pairs)
     say(STEPS.format(new=new, server=args.server, spent=spent, old=place.site, issuers=issuers or "none", units=units,
                      same=same))  # fmt: skip
