@@ -327,6 +327,9 @@ def test_successor(closed: House, port: int) -> None:
     parts = [house.folder / name for name in (NEW, "site.spent.toml")]
     joined.write_text("\n".join(it.read_text().partition("[manager]")[0] for it in parts))
     expect("joined", subprocess.run([house.program, "check-site", joined], check=False).returncode, 0)
+    joined.write_text("\n".join(it.read_text() for it in reversed(parts)))
+    check = token(house, "check", "--site", str(joined))
+    expect(check.stderr, check.returncode, 0)
     expect("told", all(f"--same {name}-2={name}" in run.said for name in before), True)
     serve_next(house, port)
     text, records = (house.folder / NEW).read_text(), house.records()
