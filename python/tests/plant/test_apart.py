@@ -87,7 +87,7 @@ def test_disjoint(asked, tmp_path):
 
 
 @pytest.mark.parametrize("told, at", [("{}", 1796018400), ("other", 1796018400), (None, 1796104800)])
-def test_a_closed_store_has_no_newer_seal(tmp_path, told, at):
+def test_a_closed_store_has_no_newer_seal(tmp_path, monkeypatch, told, at):
     """Its seal's time doesn't count, where closed.json has the line of this very seal: 1796018400 is AT, by date(1)."""
     for name, rows, time in (("one", FIRST, AT), ("two", bolts(SECOND), LATER)):
         (tmp_path / name / "seals").mkdir(parents=True)
@@ -97,6 +97,9 @@ def test_a_closed_store_has_no_newer_seal(tmp_path, told, at):
     (tmp_path / "one/closed.json").write_text(json.dumps({"seal": text}, indent=1))
     file = tmp_path.parent / f"{tmp_path.name}.prom"
     assert main(["apart", str(tmp_path), "--to", str(file)]) == 0
+    assert f"\nwanekupo_apart_timestamp_seconds {at}\n" in file.read_text()
+    monkeypatch.chdir(tmp_path / "one/seals")
+    assert main(["apart", "000001.rows", "../../two", "--to", str(file)]) == 0, "in the folder itself too"
     assert f"\nwanekupo_apart_timestamp_seconds {at}\n" in file.read_text()
 
 

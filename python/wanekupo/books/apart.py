@@ -33,7 +33,7 @@ class StoreRows:
     def is_closed(self) -> bool:
         """Whether it is the seal by which a site was closed, so that no newer one comes: beside its folder of seals
         closed.json has the seal's line."""
-        told = self.file.parent.with_name("closed.json")
+        told = self.file.absolute().parent.parent / "closed.json"
         return told.is_file() and f'"seal": "{self.seal.line()}"'.encode() in small_bytes(told, MOST_CLOSED)
 
 
