@@ -327,12 +327,40 @@ def test_successor(closed: House, port: int) -> None:
     parts = [house.folder / name for name in (NEW, "site.spent.toml")]
     joined.write_text("\n".join(it.read_text().partition("[manager]")[0] for it in parts))
     expect("joined", subprocess.run([house.program, "check-site", joined], check=False).returncode, 0)
+    joined.write_text("\n".join(it.read_text() for it in reversed(parts)))
+    check = token(house, "check", "--site", str(joined))
+    expect(check.stderr, check.returncode, 0)
+    expect("told", all(f"--same {name}-2={name}" in run.said for name in before), True)
     serve_next(house, port)
     text, records = (house.folder / NEW).read_text(), house.records()
     again = follow(house, "--server", f"127.0.0.1:{port}")
     expect(again.said, (again.status, (house.folder / NEW).read_text(), house.records()), (0, text, records))
+    stays(house, "--server", f"127.0.0.1:{port}")
     third = house.run("successor", str(house.folder / "site-3.toml"), "--suffix", "3", "--to", str(house.given))
     expect(third.said, (third.status, f"{house.folder / NEW} follows already" in third.said), (1, True))
+
+
+def placed(file: Path) -> tuple[int, ...]:
+    """Which file has a name, when it was written, and who reads it."""
+    found = file.stat()
+    return found.st_ino, found.st_mtime_ns, found.st_ctime_ns, found.st_mode, found.st_uid, found.st_gid
+
+
+def stays(house: House, *words: str) -> None:
+    """The next site's file is as the first's: its store's user reads it. Given again the command leaves it as it is,
+    also where the site grew since; what is no growth is refused, and stays too."""
+    new = house.folder / NEW
+    kept = [(it.owner(), it.group(), it.stat().st_mode & 0o777) for it in (new, house.site)]
+    expect("whose it is", kept, [("root", "nogroup", 0o640)] * 2)
+    read = [*house.as_owner(), house.program, "check-site", new]
+    expect("its store's user reads it", subprocess.run(read, check=False, capture_output=True).returncode, 0)
+    text = new.read_text()
+    for other, status in ((text.replace('"acme-ca-2"', '"acme-ca-2", "more"'), 0), (text.replace("bolt", "volt"), 1)):
+        new.write_text(other)
+        before, run = placed(new), follow(house, *words)
+        expect(run.said, (run.status, "stays as it is" in run.said), (status, bool(status)))
+        expect("the file", (placed(new), new.read_text()), (before, other))
+    new.write_text(text)
 
 
 def serve_next(house: House, port: int) -> None:

@@ -2,6 +2,7 @@
 were cut, changed or not sorted, and two seals of one store, are refused. What is twice is written by hand."""
 
 import gzip
+import json
 import os
 from pathlib import Path
 
@@ -85,6 +86,23 @@ def test_disjoint(asked, tmp_path):
     assert "\nwanekupo_apart_success 1\n" in text and "\nwanekupo_apart_timestamp_seconds 1796018400\n" in text
 
 
+@pytest.mark.parametrize("told, at", [("{}", 1796018400), ("other", 1796018400), (None, 1796104800)])
+def test_a_closed_store_has_no_newer_seal(tmp_path, monkeypatch, told, at):
+    """Its seal's time doesn't count, where closed.json has the line of this very seal: 1796018400 is AT, by date(1)."""
+    for name, rows, time in (("one", FIRST, AT), ("two", bolts(SECOND), LATER)):
+        (tmp_path / name / "seals").mkdir(parents=True)
+        Chain(tmp_path / name / "seals").add(sorted(rows), time, "@all", None, None)
+    line = (tmp_path / "one/seals/chain").read_text().strip()
+    text = {None: line, "other": (tmp_path / "two/seals/chain").read_text().strip()}.get(told, "none")
+    (tmp_path / "one/closed.json").write_text(json.dumps({"seal": text}, indent=1))
+    file = tmp_path.parent / f"{tmp_path.name}.prom"
+    assert main(["apart", str(tmp_path), "--to", str(file)]) == 0
+    assert f"\nwanekupo_apart_timestamp_seconds {at}\n" in file.read_text()
+    monkeypatch.chdir(tmp_path / "one/seals")
+    assert main(["apart", "000001.rows", "../../two", "--to", str(file)]) == 0, "in the folder itself too"
+    assert f"\nwanekupo_apart_timestamp_seconds {at}\n" in file.read_text()
+
+
 KEY = f"a{63 * '0'}"
 TWICE = {
     "a serial number": (["G010", "G009"], "The serial number G009 stands twice: the record of G009 of acme-ca of acme"),
@@ -117,6 +135,13 @@ def test_a_chip_by_another_name(asked, word, status, told):
     """One customer is the other one by another name."""
     found, text = asked(FIRST, bolts(it.replace("c2", "c1") for it in SECOND), more=["--same", word])
     assert (found, told in text) == (status, True), text
+
+
+def test_a_chip_by_a_third_name(asked):
+    """A next store's name behind another next one's: the first and the third are one customer."""
+    found, text = asked(FIRST, bolts(it.replace("c2", "c1") for it in SECOND),
+                        more=["--same", "bolt=acme-2", "--same", "acme-2=acme"])  # fmt: skip
+    assert (found, "The chip c1 stands twice" in text) == (1, True), text
 
 
 def test_an_imported_key(asked):

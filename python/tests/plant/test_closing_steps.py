@@ -155,23 +155,77 @@ def test_who_gets_a_token_of_the_next_site(place, monkeypatch, capsys):
     assert place.calls == [("known_seats",), write]
 
 
-@pytest.mark.parametrize("there", [None, "TEXT", "other"])
+@pytest.mark.parametrize("there", [None, "TEXT", "TEXT, grown", "other"])
 def test_one_site_follows(place, tmp_path, monkeypatch, there):
-    """What the first gave is written before a token is made; the new text only where no other one is there."""
+    """What the first gave is written before a token is made. The new text is readable by whom the first is, and a file
+    that is there stays as it is, also where it grew since; any other one is refused."""
     new, spent = tmp_path / "site-2.toml", tmp_path / "site.spent.toml"
-    args = argparse.Namespace(new=str(new), to=str(tmp_path), patience=0.1, other_site=["o"], server="s",
-                              keep_issuers=False)  # fmt: skip
-    steps = {"tested_site": None, "tested_others": None, "give": None, "next_text": "TEXT"}
+    args = argparse.Namespace(new=str(new), to=str(tmp_path), patience=0.1, other_site=["o"], server="s")
+    steps = {"tested_site": None, "tested_others": None, "give": None, "next_text": "TEXT", "tell_steps": None}
     noted(place, monkeypatch, successor, **steps, sites_of=(Site(), Site()))
+    place.refusal = lambda command, text, old: "" if text.startswith(old) else "store fault 1"
     with pytest.raises(TokenError, match="isn't closed"):
         successor.successor(args, place)
     place.closed.write_text("{}")
+    place.site.chmod(0o640)
     if there:
         new.write_text(there)
+        new.chmod(0o444)
+    before = new.stat().st_ino if there else None
     with pytest.raises(TokenError, match="another text") if there == "other" else contextlib.nullcontext():
         successor.successor(args, place)
-    tried = ["next_text", "tested_site", "tested_others"]
-    assert [it[0] for it in place.calls] == ["sites_of", *tried, *tried, *["give"] * (there != "other")]
+    tried, told = ["next_text", "tested_site", "tested_others"], ["give", "tell_steps"] * (there != "other")
+    assert [it[0] for it in place.calls] == ["sites_of", *tried, *tried, *told]
     assert place.calls[3] == ("tested_others", "TEXT", [str(spent), "o"]) and place.calls[1][-1] is True
     mark = "" if there == "other" else f"# {new} follows\n"
     assert spent.read_text() == f"{mark}customer = []\n" and new.read_text() == (there or "TEXT")
+    assert new.stat().st_mode & 0o777 == (0o444 if there else 0o640) and before in (None, new.stat().st_ino)
+
+
+def test_a_name_that_another_made(place, tmp_path):
+    """A link, also one to nothing, and a file that others write, in which the very text may be."""
+    new, other = tmp_path / "site-2.toml", tmp_path / "other"
+    other.write_text("TEXT")
+    with pytest.raises(TokenError, match="others may write it"):
+        successor.is_kept(place, other, "TEXT")
+    new.symlink_to(tmp_path / "none")
+    with pytest.raises((TokenError, OSError)):
+        successor.is_kept(place, new, "TEXT")
+    assert new.is_symlink() and not (tmp_path / "none").exists()
+
+
+UNITS = {
+    "station-2.service": [
+        "StateDirectory=station-2", "WorkingDirectory=/var/lib/station-2",
+        "    exec /usr/local/bin/station serve --site /etc/station/site-2.toml --db books.db --existing \\",
+        "        --port 881 --connections 1000000'",
+        "    exec /usr/local/bin/station replay --site /etc/station/site-2.toml --db books.db --existing'",
+        "SyslogIdentifier=station-2",
+    ],
+    "station-2-backup.service": [
+        "After=local-fs.target station-2.service", "RequiresMountsFor=/var/lib/station-2 /var/backups/station-2",
+        "ExecStart=/usr/share/wanekupo/backup --program /usr/bin/station --site /etc/station/site-2.toml \\",
+        "    --db /var/lib/station-2/books.db --into /var/backups/station-2 $HOW",
+        "ExecStopPost=/usr/share/wanekupo/backup --into /var/backups/station-2 $HOW --clean "
+        "--db /var/lib/station-2/books.db", "SyslogIdentifier=station-2-backup",
+    ],
+    "station-2-backup.timer": [],
+}  # fmt: skip
+
+
+def test_the_next_units(place, tmp_path, capsys):
+    """The commands that are told, run in a shell over the package's units: what differs is named here by hand."""
+    place.site, place.db = Path("/etc/station/site.toml"), Path("/var/lib/station/books.db")
+    place.backups, place.args = Path("/var/backups/station"), SimpleNamespace(start="systemctl start station", port=880)
+    args = argparse.Namespace(new="/etc/station/site-2.toml", suffix="-2", server="127.0.0.1:881", keep_issuers=False)
+    one, two = SiteCustomer("acme", ["ca"]), SiteCustomer("acme-2", ["ca-2"])
+    successor.tell_steps(args, place, [(one, two)])
+    told = capsys.readouterr().out
+    assert "wanekupo apart FOLDER.. --same acme-2=acme\n" in told and "ca-2 beside ca\n" in told
+    script = "\n".join(it for it in told.splitlines() if it.startswith("    ")).partition("    printf")[0]
+    deploy = Path(__file__).parents[3] / "deploy"
+    cat = f'systemctl() {{ case $2 in *.timer) cat {deploy}/$2;; *) cat {deploy}/$2.service;; esac; }}\n'
+    subprocess.run(["sh", "-ec", cat + script.replace("/etc/systemd/system", str(tmp_path))], check=True)
+    for name, lines in UNITS.items():
+        before = (deploy / name.replace("-2", "")).read_text().splitlines()
+        assert [it for it in (tmp_path / name).read_text().splitlines() if it not in before] == lines

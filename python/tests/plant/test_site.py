@@ -260,9 +260,11 @@ def test_under_way_nothing_is_prepared(place):
 
 @pytest.mark.parametrize("more, stage, is_applied", [([], "", False), (["--apply"], PREPARED, True)])
 def test_add(place, capsys, more, stage, is_applied):
-    site.add(words("add-seat", "acme", "a2", *more), place)
+    site.add(words("--site=/s/2 two.toml", "--port=881", "add-seat", "acme", "a2", *more), place)
     assert [it for it in place.calls if it[0] == "APPLY"] == ([("APPLY", stage)] if is_applied else [])
-    assert ("to put it in place" in capsys.readouterr().out) != is_applied
+    told = [it for it in capsys.readouterr().out.splitlines() if it.startswith("to put it in place")]
+    there = ["to put it in place: station-site '--site=/s/2 two.toml' --port=881 --patience=0.1 apply"]
+    assert told == (there if not is_applied else [])
 
 
 def test_add_goes_on_with_what_is_under_way(place, monkeypatch):

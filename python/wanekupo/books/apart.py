@@ -19,8 +19,8 @@ from wanekupo.common.errors import BadSettings
 from wanekupo.common.files import small_bytes
 from wanekupo.seat.forms import DIGEST
 
-# The addresses that there are, and the most bytes of a seal's line.
-ADDRESSES, LONGEST_LINE = 1 << 48, 4096
+# The addresses that there are, and the most bytes of a seal's line and of what is told of a closed site.
+ADDRESSES, LONGEST_LINE, MOST_CLOSED = 1 << 48, 4096, 1 << 24
 
 
 @dataclass(frozen=True)
@@ -29,6 +29,12 @@ class StoreRows:
 
     file: Path
     seal: Seal
+
+    def is_closed(self) -> bool:
+        """Whether it is the seal by which a site was closed, so that no newer one comes: beside its folder of seals
+        closed.json has the seal's line."""
+        told = self.file.absolute().parent.parent / "closed.json"
+        return told.is_file() and f'"seal": "{self.seal.line()}"'.encode() in small_bytes(told, MOST_CLOSED)
 
 
 def sealed_rows_of(place: Path) -> Iterator[StoreRows]:
@@ -49,11 +55,19 @@ def sealed_rows_of(place: Path) -> Iterator[StoreRows]:
         yield from sealed_rows_of(it)
 
 
+def first_name(name: str, same: Mapping[str, str]) -> str:
+    """The name that a customer had first, however often a next store gave it another one."""
+    for _ in same:
+        name = same.get(name, name)
+    return name
+
+
 class Given:
     """What stores gave, gathered to be sorted. `same` has customers that are another one by another name."""
 
     def __init__(self, same: Mapping[str, str]):
-        self._given, self._spans, self._same = Sorted(8, 6), Sorted(5, 4), same
+        self._given, self._spans = Sorted(8, 6), Sorted(5, 4)
+        self._same = {name: first_name(name, same) for name in same}
         self.files, self._seats, self.records = list[Path](), dict[tuple[str, str], int](), 0
 
     def add(self, store: StoreRows) -> None:

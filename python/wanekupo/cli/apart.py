@@ -41,7 +41,8 @@ def _apart(_: Settings, args: argparse.Namespace) -> int:
         stores = [it for place in args.places for it in sealed_rows_of(place)]
         status = _compared(stores, Given(dict(it.split("=") for it in args.same)))
         samples.add("wanekupo_apart_success", status == DONE)
-        samples.add("wanekupo_apart_timestamp_seconds", min(moment_of(it.seal.at).timestamp() for it in stores))
+        serving = [it for it in stores if not it.is_closed()] or stores
+        samples.add("wanekupo_apart_timestamp_seconds", min(moment_of(it.seal.at).timestamp() for it in serving))
     finally:
         if args.to:
             replace_file(args.to, samples.text(), READABLE)

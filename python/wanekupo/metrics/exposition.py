@@ -47,7 +47,7 @@ METRICS = {
     "wanekupo_backup_success": (GAUGE, "Whether the last backup was made: 1, or 0 where it failed."),
     "wanekupo_backup_bytes": (GAUGE, "Bytes of the last backup."),
     "wanekupo_apart_success": (GAUGE, "Whether all stores' seals were compared, and nothing stands twice."),
-    "wanekupo_apart_timestamp_seconds": (GAUGE, "When the oldest of the stores' seals was made."),
+    "wanekupo_apart_timestamp_seconds": (GAUGE, "When the oldest last seal of the stores that aren't closed was made."),
     "wanekupo_in_shift": (GAUGE, "Whether it is a time of a shift, by the plant's hours."),
 }
 

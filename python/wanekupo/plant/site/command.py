@@ -29,6 +29,7 @@ through yet: give the same words again.
 import argparse
 import os
 import re
+import shlex
 import signal
 from pathlib import Path
 from typing import Any
@@ -205,7 +206,7 @@ def add(args: argparse.Namespace, place: Place) -> None:
         if args.apply and place.next.exists():
             carry_out(place)
         elif place.next.exists():
-            say(f"to put it in place: {NAMED} apply")
+            say(f"to put it in place: {shlex.join([NAMED, *own_words(args), 'apply'])}")
 
 
 def apply_command(args: argparse.Namespace, place: Place) -> None:
@@ -298,6 +299,14 @@ def place_words(made: argparse.ArgumentParser) -> None:
     made.add_argument("--certificate", default="/etc/station/cert.pem", metavar="FILE", help="nginx's (%(default)s)")
     made.add_argument("--wait", type=float, default=LONGEST, metavar="SECONDS", help="for a start (%(default)s)")
     made.add_argument("--patience", type=float, default=30, metavar="SECONDS", help="for another run (%(default)s)")
+
+
+def own_words(args: argparse.Namespace) -> list[str]:
+    """The words by which a store's place is another one than the package's."""
+    made = argparse.ArgumentParser()
+    place_words(made)
+    usual = vars(made.parse_args([]))
+    return [f"--{name.replace('_', '-')}={getattr(args, name)}" for name in usual if getattr(args, name) != usual[name]]
 
 
 def parser() -> argparse.ArgumentParser:

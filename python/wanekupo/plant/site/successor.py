@@ -4,14 +4,16 @@ by the same words it goes on."""
 
 import argparse
 import json
+import os
 from dataclasses import replace
 from pathlib import Path
 
 from wanekupo.books.documents import SealBooks
 from wanekupo.common.errors import StationError
+from wanekupo.common.files import replace_file
 from wanekupo.common.sentences import sentence_of
 from wanekupo.common.site_file import Pool, Site, SiteCustomer, digest_of, read_site
-from wanekupo.common.token_file import HEALTH, TokenError, Tokens, TokenSeat, alone, check_folder, put
+from wanekupo.common.token_file import HEALTH, TokenError, Tokens, TokenSeat, alone, check_folder, own_file, put
 from wanekupo.plant.site.apply import outer_token, say, token_run
 from wanekupo.plant.site.closing import FIRST_ROWS, known_seats
 from wanekupo.plant.site.difference import gains, joined
@@ -24,11 +26,27 @@ from wanekupo.seat.station import Station
 
 # What a person does with the new text: the store, its program, the stations and the CA.
 STEPS = """{new} is a site, and shares nothing with the others. Then, in this order:
-1. its store and its program, with a folder and a unit of their own, and a /health in nginx.conf, at {server}
+1. its store, its program and its backups, in a bash of root's; and its /health in nginx.conf, at {server}:
+{units}
 2. at each station the new token, seat, state file and journal; the maps again, and new orders there alone
 3. the next issuer is a line more of the file `issuer` of each CA's folder: {issuers}
-4. from now on --other-site {spent}, in the place of {old}: it has but what the first gave"""
-KEPT = "5. before the first order `wanekupo import` of all serial numbers that the first gave"
+4. from now on --other-site {spent}, in the place of {old}: it has but what the first gave
+5. whoever holds both stores' seals apart, each night too (HOW of wanekupo-apart): wanekupo apart FOLDER.. {same}"""
+KEPT = "6. before the first order `wanekupo import` of all serial numbers that the first gave"
+
+# The next store's units are those of the closed one's, with other names; its store is made once.
+UNITS = r"""    next='s,{db},&{more},g; s,{backups},&{more},g; s,{old},{new},g; s,--port {port},--port {server},
+    s,^\(StateDirectory\|SyslogIdentifier\)={unit},&{more},; s, {unit}\.service, {unit}{more}.service,'
+    cd /etc/systemd/system; systemctl cat {unit} | sed "$next" > {unit}{more}.service
+    systemctl cat {unit}-backup | sed "$next" > {unit}{more}-backup.service
+    systemctl cat {unit}-backup.timer > {unit}{more}-backup.timer
+    printf 'R! {backups}{more}/%s\n' '.new-*' 'trial.*' 'tried-by-site.*' > /etc/tmpfiles.d/{unit}{more}.conf
+    install -d -m 700 -o station -g station {db}{more} {backups}{more}; . /usr/share/wanekupo/by-hand.sh
+    as_station station replay --site {new} --db {db}{more}/{file}
+    systemctl daemon-reload; systemctl enable --now {unit}{more} {unit}{more}-backup.timer
+    # and to grow it: station-site --site {new} --db {db}{more}/{file} --backups {backups}{more} --port {server} \
+    #   --start 'systemctl start {unit}{more}' --stop 'systemctl stop {unit}{more}' \
+    #   --restarts 'systemctl show -p NRestarts --value {unit}{more}' add-seat .."""
 
 
 def reached(place: Place, customer: SiteCustomer, tokens: Tokens, sealed: SealBooks) -> list[Pool]:
@@ -123,8 +141,24 @@ def marked(new: Path, spent: Path) -> str:
     return line if there.startswith("# ") else ""
 
 
+def spent_of(place: Place) -> Path:
+    """Where what a first gave is written."""
+    return place.site.with_name(f"{place.site.stem}.spent.toml")
+
+
+def is_kept(place: Place, new: Path, text: str) -> bool:
+    """Whether a file has a text, or what that grew to since, and so stays as it is: a program may have it open. Any
+    other file, and one of another user, is an error."""
+    if not os.path.lexists(new):
+        return False
+    there = text_in(own_file(str(new)))
+    if there != text and place.refusal("check-site", there, text):
+        raise TokenError(1, f"{new} is there already, with another text, and stays as it is: name another file")
+    return True
+
+
 def successor(args: argparse.Namespace, place: Place) -> None:
-    new, spent = Path(args.new).absolute(), place.site.with_name(f"{place.site.stem}.spent.toml")
+    new, spent = Path(args.new).absolute(), spent_of(place)
     with alone(place.plan, args.patience):
         if not place.closed.exists():
             raise TokenError(1, f"{place.site} isn't closed, so its orders may reach more addresses: close it first")
@@ -137,15 +171,26 @@ def successor(args: argparse.Namespace, place: Place) -> None:
             text = next_text(args, place, first, following, is_trial)
             tested_site(place, text, str(new))
             tested_others(place, text, [str(spent), *args.other_site])
-        if new.exists() and text_in(new) != text:
-            raise TokenError(1, f"{new} is there already, with another text: name another file")
+        is_there = is_kept(place, new, text)
         put(spent, f"# {new} follows\n{joined([gone])}")
-        put(new, text)
+        if not is_there:
+            replace_file(new, text, like=os.stat(place.site))
         for line in gains(Site(), following):
             say(line)
         give(args, place, following)
-        pairs = zip(first.customers.values(), following.customers.values())
-        issuers = ", ".join(f"{b} beside {a}" for one, two in pairs for a, b in zip(one.issuers, two.issuers) if a != b)
-        say(STEPS.format(new=new, server=args.server, spent=spent, old=place.site, issuers=issuers or "none"))
-        if args.keep_issuers:
-            say(KEPT)
+        tell_steps(args, place, list(zip(first.customers.values(), following.customers.values())))
+
+
+def tell_steps(args: argparse.Namespace, place: Place, pairs: list[tuple[SiteCustomer, SiteCustomer]]) -> None:
+    """What a person does next: the commands, by the closed site's places and with the names of both."""
+    new, spent = Path(args.new).absolute(), spent_of(place)
+    issuers = ", ".join(f"{b} beside {a}" for one, two in pairs for a, b in zip(one.issuers, two.issuers) if a != b)
+    unit = place.args.start.rpartition(" ")[2].removesuffix(".service")
+    places = {"db": place.db.parent, "file": place.db.name, "backups": place.backups, "old": place.site, "new": new}
+    ports = {"port": place.args.port, "server": args.server.rpartition(":")[2]}
+    units = UNITS.format(**places, **ports, unit=unit, more=args.suffix)
+    same = " ".join(f"--same {two.name}={one.name}" for one, two in pairs)
+    say(STEPS.format(new=new, server=args.server, spent=spent, old=place.site, issuers=issuers or "none", units=units,
+                     same=same))  # fmt: skip
+    if args.keep_issuers:
+        say(KEPT)
