@@ -175,3 +175,6 @@ def test_one_site_follows(place, tmp_path, monkeypatch, there):
     assert place.calls[3] == ("tested_others", "TEXT", [str(spent), "o"]) and place.calls[1][-1] is True
     mark = "" if there == "other" else f"# {new} follows\n"
     assert spent.read_text() == f"{mark}customer = []\n" and new.read_text() == (there or "TEXT")
+    args.new = str(tmp_path / "site-3.toml")
+    with pytest.raises(TokenError, match=f"^{new} follows already") if mark else contextlib.nullcontext():
+        successor.successor(args, place)
