@@ -335,7 +335,8 @@ class Canned:
 
 def refusal_of(no):
     """A refusal in the server's form, by its number."""
-    status, error = {6: (401, "unknown_token"), 11: (409, "wrong_number"), 18: (409, "quantity_reached")}[no]
+    names = {6: "unknown_token", 11: "wrong_number", 12: "other_body", 18: "quantity_reached"}
+    status, error = 401 if no == 6 else 409, names[no]
     told = json.dumps({"error": error, "no": no, **({"expected": 1} if no == 11 else {})}).encode()
     kind = b"Content-Type: application/json\r\nConnection: close\r\n"
     return b"HTTP/1.1 %d Refused\r\n%sContent-Length: %d\r\n\r\n%s" % (status, kind, len(told), told)

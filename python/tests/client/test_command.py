@@ -323,7 +323,8 @@ class Words(CommandCase):
                 self.assertRegex(told, rf"^The server refused it: .+ \(refusal {number}, {name}\)[.] [A-Zs].+[.]$")
 
     def test_no_option_has_two_meanings(self):
-        """An option of one command is refused by the others, and none may be cut short."""
+        """An option of one command is refused by the others, and none may be cut short, or lack where it is needed."""
+        self.assertIn("required: --ca-folder\n", self.ran("certify", "spool")[2])
         for words in ("--state a1.json devices", "devices --stat shipped", f"ship {MAC} --order o1"):
             status, out, err = self.ran(*words.split())
             self.assertEqual((status, out), (2, ""), words)

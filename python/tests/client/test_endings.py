@@ -138,7 +138,6 @@ class Endings(BenchCase):
 
     def test_what_read_backs_find(self):
         """Each outcome that isn't `match`, of a chip that was burnt otherwise than it was told."""
-        self.needs_program()
         (self.folder / "7.key").write_bytes(bytes(32 * [7]))
         lost = "and the chip is lost"
         cases = [
@@ -209,7 +208,7 @@ class Endings(BenchCase):
             bench.until(lambda board: board["sockets"][0]["reason"] == reason, reason)
             self.assertEqual(bench.ended("left")[2], sentence)
             self.take("left", mac)
-        self.assertEqual((bench.board()["shift"]["passed"], bench.board()["shift"]["failed"]), (2, {}))
+        self.assertEqual({**bench.board()["shift"], "since": ""}, {"since": "", "passed": 2, "first": 2, "failed": {}})
 
     def test_espefuse_that_fails(self):
         """No chip, no command, no chip of the family, a port that went, one that is silent behind its

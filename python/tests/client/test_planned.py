@@ -35,6 +35,8 @@ CASES = [
 class Planned(BenchCase):
     """Chips that come with more than a blank one has."""
 
+    over_office = True
+
     def test_chips_that_another_hand_planned(self):
         """None passes without what the recipe wishes, in whichever state the bench finds it."""
         key = {"kind": "key", "field": "BLOCK1", "file": "flash.key", "burnt_as": self.keys["BLOCK1"].burnt_as}
@@ -52,6 +54,8 @@ class Planned(BenchCase):
             with self.subTest(case[:2]):
                 self.stays(bench, mac, *case[2:])
             self.assertLessEqual(sum(mac.encode() in request for _, request in proxy.seen[seen:]), 8)
+        shift = bench.board()["shift"]
+        self.assertEqual((shift["passed"], shift["first"]), (7, 0), "another hand began each of them")
 
     def stays(self, bench, mac, reason, detail):
         """A chip's stay in the socket, which ends so. One that doesn't pass isn't burnt."""

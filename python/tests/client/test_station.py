@@ -21,7 +21,7 @@ from support import (
 from wanekupo.chips.chip import bit
 from wanekupo.seat.import_rows import import_parts
 from wanekupo.seat.station import Station
-from wanekupo.common.errors import NoReply, Refused
+from wanekupo.common.errors import NoReply, OutOfStep, Refused
 from wanekupo.chips.espefuse import Espefuse
 from wanekupo.seat.replies import Device, Entry, Identity, Imported, Listed, Order, Plan, Verdict, Word, Work
 
@@ -192,6 +192,18 @@ class Commands(StationCase):
         self.assertEqual(station.import_all("acme-ca", []), (Imported(0, 0), 0))
         longest = [(f"{row:064}", "0" * 64) for row in range(600)]
         self.assertEqual([len(part) for part in import_parts(longest)], [485, 115])
+
+    def test_a_late_copy_of_which_nothing_is_known(self):
+        """The server says 12, and of the request that may be the late copy 6: the seat doesn't stop, and goes on."""
+        proxy = self.proxy()
+        station = self.station(proxy.url)
+        station.make_order(**ORDER)
+        self.assertRaises(Refused, station.make_order, **ORDER)
+        proxy.faults = ["done, 12", "done, 6"]
+        with self.assertRaises(Refused) as found:
+            station.import_map(MAP)
+        self.assertEqual((found.exception.no, isinstance(found.exception, OutOfStep)), (6, False))
+        self.assertEqual(station.import_map(MAP), DIGEST)
 
     def test_a_long_import_after_a_restore(self):
         """The last part that was accepted isn't in an older store, so it goes on from the beginning."""

@@ -180,6 +180,9 @@ def test_one_site_follows(place, tmp_path, monkeypatch, there):
     mark = "" if there == "other" else f"# {new} follows\n"
     assert spent.read_text() == f"{mark}customer = []\n" and new.read_text() == (there or "TEXT")
     assert new.stat().st_mode & 0o777 == (0o444 if there else 0o640) and before in (None, new.stat().st_ino)
+    args.new = str(tmp_path / "site-3.toml")
+    with pytest.raises(TokenError, match=f"^{new} follows already") if mark else contextlib.nullcontext():
+        successor.successor(args, place)
 
 
 def test_a_name_that_another_made(place, tmp_path):

@@ -11,7 +11,8 @@ import pytest
 from wanekupo.common import files
 from wanekupo.common.errors import BadSettings, UnsafeFile
 from wanekupo.common.signing import BadSignature, Signer, is_public, verify
-from wanekupo.lots.authority import Authority
+from wanekupo.lots.authority import Authority, NotCertified
+from wanekupo.lots.certificates import _serials_in
 
 
 def _folder(above: Path, mode: int) -> Path:
@@ -76,9 +77,12 @@ def test_file_by_which_a_ca_signs(tmp_path: Path, name: str, mode: int, is_taken
         (tmp_path / it).chmod(mode if it == name else 0o644)
     if is_taken:
         before = os.umask(0)
-        Authority(tmp_path).close()
+        with contextlib.closing(Authority(tmp_path)) as authority:
+            authority.take("acme-ca")
         os.umask(before)
-        assert (tmp_path / "issued").stat().st_mode & 0o777 == 0o755
+        assert [(tmp_path / it).stat().st_mode & 0o777 for it in ("issued", "issuer")] == [0o755, 0o644]
+        with pytest.raises(NotCertified, match="certifies for acme-ca, and not for bolt-ca"):
+            authority.take("bolt-ca")
         return
     with pytest.raises(BadSettings, match=f"others can write {tmp_path / name}, by which the CA signs"):
         Authority(tmp_path)
@@ -104,6 +108,25 @@ def test_what_is_signed_is_not_what_another_put_there(tmp_path: Path) -> None:
         verify(file, cms=tmp_path / "cert.pem")
     file.write_bytes(b"serial\nA1\n")
     verify(file, cms=tmp_path / "cert.pem")
+
+
+def test_who_verifies_names_one_key_and_has_its_command(tmp_path: Path, monkeypatch: pytest.MonkeyPatch) -> None:
+    names = [tmp_path / it for it in ("file", "file.p7s", "cert.pem")]
+    for it in names:
+        it.write_text("-----BEGIN CERTIFICATE-----")
+    for given, told in (((None, None), "isn't said whose"), ((tmp_path / "key.pub", names[2]), "two signatures are")):
+        with pytest.raises(BadSettings, match=told):
+            verify(names[0], *given)
+    monkeypatch.setenv("PATH", str(tmp_path))
+    with pytest.raises(BadSettings, match="there is no command openssl"):
+        verify(names[0], cms=names[2])
+
+
+def test_requests_come_in_the_order_of_their_numbers(tmp_path: Path) -> None:
+    numbers = [f"A{it:02}" for it in range(30)]
+    for it in (*numbers[1::2], *numbers[::2]):
+        (tmp_path / f"{it}.csr").touch()
+    assert list(_serials_in(tmp_path)) == numbers
 
 
 def test_public_keys_of_minisign(tmp_path: Path) -> None:

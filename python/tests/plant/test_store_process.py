@@ -154,18 +154,9 @@ def gathered(parts, most=100, end=math.inf):
             it.close()
 
 
-@pytest.fixture
-def hurry(monkeypatch):
-    """A test that waits for ever fails."""
-    monkeypatch.setattr(store_user, "LINGER", 0.5)
-    signal.signal(signal.SIGALRM, lambda *_: pytest.fail("waited for ever"))
-    signal.alarm(20)
-    yield
-    signal.alarm(0)
-
-
-def test_who_has_a_pipe_behind_the_childs_end_holds_nobody(hurry):
+def test_who_has_a_pipe_behind_the_childs_end_holds_nobody(monkeypatch):
     """As another process of the store's user gets it, by pidfd_getfd(2): here the child's own child has it."""
+    monkeypatch.setattr(store_user, "LINGER", 0.5)
     own = store_user.StoreUser("me", os.geteuid(), os.getegid())
     begun = time.monotonic()
     done = own.run("sh", "-c", "echo here; sleep 15 & exit 3")
@@ -174,7 +165,7 @@ def test_who_has_a_pipe_behind_the_childs_end_holds_nobody(hurry):
         assert store_user._relayed([child.stdout.fileno(), child.stderr.fileno()], child.pid) == ""
 
 
-def test_a_child_that_closed_its_pipes_is_ended_too(hurry):
+def test_a_child_that_closed_its_pipes_is_ended_too():
     own = store_user.StoreUser("me", os.geteuid(), os.getegid())
     begun = time.monotonic()
     with pytest.raises(UserError, match="took too long"):
@@ -189,14 +180,14 @@ def called_as_another(monkeypatch, function, **more):
     return USER.call(function, **more)
 
 
-def test_a_function_that_does_not_end_is_ended(monkeypatch, hurry):
+def test_a_function_that_does_not_end_is_ended(monkeypatch):
     """Its user may stop it, and root waits for no more than it said."""
     monkeypatch.setattr(store_user, "PATIENCE", 0.2)
     with pytest.raises(UserError, match="took too long"):
         called_as_another(monkeypatch, lambda: os.kill(os.getpid(), signal.SIGSTOP), seconds=0.5)
 
 
-def test_what_a_function_prints_is_bounded(monkeypatch, hurry):
+def test_what_a_function_prints_is_bounded(monkeypatch):
     monkeypatch.setattr(store_user, "RELAYED", 1000)
     assert called_as_another(monkeypatch, lambda: os.write(1, b"x" * 1000) and 0) == 0
     assert called_as_another(monkeypatch, lambda: os.umask(0)) == 0o077, "what it makes is its user's alone"
@@ -412,7 +403,7 @@ def test_a_room_that_is_too_small(tmp_path, monkeypatch):
     assert os.listdir(tmp_path) == []
 
 
-def test_a_room_is_roots_and_goes(tmp_path, monkeypatch, hurry):
+def test_a_room_is_roots_and_goes(tmp_path, monkeypatch):
     owned, removed = [], []
     os.mkfifo(tmp_path / f"{rooms.ROOM}pipe")  # what others put beside it holds nobody up, and stays
     (tmp_path / f"{rooms.ROOM}link").symlink_to("/tmp")

@@ -202,17 +202,21 @@ def hold_lock(file: Path, busy: Exception, patience: float = 0.0, is_made: bool 
     opened = opened_shared_lock(file, is_made)
     end = time.monotonic() + patience
     try:
-        while True:
-            try:
-                locked(opened)
-                break
-            except BlockingIOError:
-                if time.monotonic() >= end:
-                    raise busy from None
-                time.sleep(0.05)
+        while not (has_it := _is_locked(opened)) and time.monotonic() < end:
+            time.sleep(0.05)
+        if not has_it:
+            raise busy
         yield
     finally:
         os.close(opened)
+
+
+def _is_locked(opened: int) -> bool:
+    """Whether this process alone has the lock of an opened file."""
+    with contextlib.suppress(BlockingIOError):
+        locked(opened)
+        return True
+    return False
 
 
 def locked(opened: int) -> None:

@@ -267,7 +267,7 @@ def _verified(
         raise NotCertified("it has no serialNumber of a record in its subject")
     listed, record = books.record(serial)
     whose = f"{serial}, the chip {listed.chip}"
-    wrong = [*certificate_faults(chain[0], record, profile), *chain_fault(chain[0], chain[1:], trusted, crl)]
+    wrong = [*certificate_faults(chain[0], record, profile), *chain_fault(chain[0], chain, trusted, crl)]
     if wrong == [REVOKED]:
         raise NotCertified(f"it is the certificate of {whose}, and its CA revoked it", "Trust this device no more.")
     if wrong:
