@@ -50,23 +50,29 @@ class MadeKeys(BenchCase):
         self.assertEqual(bench.ended("left")[1], "no_key")
 
     def test_a_key_that_is_gone(self):
-        """A chip that awaits it is put aside, and no other key is made."""
+        """A chip that awaits it, or has it and its identity, is put aside, and no other key is made."""
         make = script(self.folder / "make-key", 'head -c 32 /dev/urandom > "$KEY_FILE"\n')
         wish = {"kind": "key", "field": "BLOCK1", "command": [make], "burnt_as": "flash_encryption"}
         self.order()
-        stuck = self.other_tool("none_such")
-        bench = self.run_bench(self.recipe(wishes=[wish], sockets={"left": [stuck, *self.socket_of("left")[3:]]}))
-        self.put("left", MAC)
-        bench.said("left")
-        self.assertEqual(bench.ended("left")[1], "no_burn")
-        bench.end()
-        (self.folder / "a1.json.bench" / "chips" / MAC / "BLOCK1.key").unlink()
-        bench = self.run_bench(self.recipe(wishes=[wish]))
-        bench.said("left")
-        file = self.folder / "a1.json.bench" / "chips" / MAC / "BLOCK1.key"
-        told = f"The chip has or awaits a key that isn't on this bench ({file}: No such file or directory): {RED}."
-        self.assertEqual(bench.ended("left")[1:], ("lost_key", told))
-        self.assertEqual(SimulatedChip.at(self.folder / "places" / "left").blocks[1], 0)
+        stuck = {"sockets": {"left": [self.other_tool("none_such"), *self.socket_of("left")[3:]]}}
+        broken = {"hooks": {"before_ship": {"command": [script(self.folder / "broken", "exit 3\n")]}}}
+        for mac, more, reason in ((MAC, stuck, "no_burn"), (macs_of(2)[1], broken, "hook_failed")):
+            bench = self.run_bench(self.recipe(wishes=[wish], **more))
+            self.put("left", mac)
+            bench.said("left")
+            self.assertEqual(bench.ended("left")[1], reason)
+            bench.end()
+            file, before = self.folder / f"a1.json.bench/chips/{mac}/BLOCK1.key", self.blocks()
+            file.unlink()
+            bench = self.run_bench(self.recipe(wishes=[wish]))
+            bench.said("left")
+            told = f"The chip has or awaits a key that isn't on this bench ({file}: No such file or directory): {RED}."
+            self.assertEqual((*bench.ended("left")[1:], self.blocks()), ("lost_key", told, before))
+            bench.end()
+            self.take("left", mac)
+
+    def blocks(self):
+        return list(SimulatedChip.at(self.folder / "places" / "left").blocks)
 
 
 class PrintedKeys(BenchCase):
