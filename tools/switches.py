@@ -15,7 +15,7 @@ import tempfile
 import time
 from collections import defaultdict
 from collections.abc import Iterable, Iterator
-from concurrent.futures import ThreadPoolExecutor
+from concurrent.futures import ThreadPoolExecutor, as_completed
 
 from edits import TOP, Edit
 
@@ -174,17 +174,17 @@ def tried(edits: list[Edit], room: pathlib.Path, jobs: int) -> Iterator[tuple[Ed
         program, fault = programs[program_of(test)]
         return fault or end_of(program, test, *variables)
 
+    def judged(test: str) -> list[tuple[Edit, str]]:
+        without, found = end(test), list[tuple[Edit, str]]()
+        for name, edit in ((name, edit) for name, edit in named.items() if edit.test == test):
+            how = end(test, name) if without == "passes" else ""
+            said = {"fails": "refused by ", "passes": "NOT REFUSED by "}.get(how, f"NOT TRIED, {how}: ")
+            found.append((edit, said + test if how else f"NOT TRIED: {test} without it: {without}"))
+        return found
+
     with ThreadPoolExecutor(jobs) as pool:
-        without = dict(zip(tests, pool.map(end, tests), strict=True))
-
-        def judged(name: str) -> str:
-            test = named[name].test
-            if without[test] != "passes":
-                return f"NOT TRIED: {test} without it: {without[test]}"
-            how = end(test, name)
-            return {"fails": "refused by ", "passes": "NOT REFUSED by "}.get(how, f"NOT TRIED, {how}: ") + test
-
-        yield from zip(named.values(), pool.map(judged, named), strict=True)
+        for done in as_completed([pool.submit(judged, it) for it in tests]):
+            yield from done.result()
 
 
 def try_by_tests(edits: Iterable[Edit], jobs: int) -> int:
