@@ -1,28 +1,18 @@
 -- A query over one table.
-use Rattle.std.specs.Prelude.{ℕ, pos, negsuc, Bool, false, List, [], ◌∷◌, filter, None}
+use Rattle.std.specs.Prelude.{ℕ, Bool, List, [], ◌∷◌, filter}
 use Rattle.std.specs.List.{list_all}
-use Rattle.sqlite.specs.declared.types.Value.TheVariants.{Int}
 use Rattle.sqlite_value.specs.declared.keys.Key.{Key}
 use Rattle.sqlite.specs.Collation.TheVariants.{Binary}
 use Rattle.sqlite.specs.Order.{Row}
 use Rattle.sqlite_sql.specs.declared.ops.CompareOp.TheVariants.{Eq, Gt}
 use Rattle.sqlite_sql.specs.declared.ops.BinaryOp.TheVariants.{Compare}
-use Rattle.sqlite.specs.Term.{Term, Env, lit, col, op2, holds}
+use Rattle.sqlite.specs.Term.{Term, Env, col, op2, holds}
 use Rattle.sqlite.specs.Query.{Query, inner, end}
+use Rattle.office_sql.specs.Joins.{over}
 
 -- the rows of a tree that pass each test, in an order
 abbrev pub scan : ℕ → List Term → List Term → List (Term × Key) → Query
-scan tree tests shown keys = record {
-  from = inner tree end;
-  filter = tests;
-  group = None;
-  project = shown;
-  distinct = false;
-  collations = [];
-  order = keys;
-  limit = lit (Int (negsuc 0));
-  offset = lit (Int (pos 0));
-}
+scan tree = over (inner tree end)
 
 -- the column is the parameter
 abbrev pub is_parameter : ℕ → ℕ → Term
